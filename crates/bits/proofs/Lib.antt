@@ -1,0 +1,10 @@
+pub mod Numbers
+pub mod Tabulate
+pub mod Xor
+pub mod Bitwise
+pub mod Little
+pub mod Packing
+pub mod Tests
+pub mod Equal
+pub mod Rows
+pub mod Ops

@@ -1,0 +1,4 @@
+pub mod Bitstrings
+pub mod Permutation
+pub mod Sponge
+pub mod Steps

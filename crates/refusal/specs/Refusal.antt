@@ -1,0 +1,26 @@
+-- The numbers of the refusals, as document 01 gives them under "Each operation's refusals, in order".
+-- Assumes nothing.
+use Prim.Native.Nat.{ℕ}
+use Rattle.refusal.specs.declared.Refusal.{Refusal}
+use Rattle.refusal.specs.declared.Refusal.the-variants.{Length, Limits, Record, Chain, Wire, BufferLength, UnusedBits, Parameter, Index, Output, Header, ProofLength, Digest, Shelf, Count, Empty, Full, Exhausted}
+
+-- the number of a refusal
+abbrev pub numberOf : Refusal → ℕ
+numberOf Length = 1
+numberOf Limits = 2
+numberOf Record = 3
+numberOf Chain = 4
+numberOf Wire = 5
+numberOf BufferLength = 6
+numberOf UnusedBits = 7
+numberOf Parameter = 8
+numberOf Index = 9
+numberOf Output = 10
+numberOf Header = 11
+numberOf ProofLength = 12
+numberOf Digest = 13
+numberOf Shelf = 14
+numberOf Count = 15
+numberOf Empty = 16
+numberOf Full = 17
+numberOf Exhausted = 18

@@ -1,0 +1,69 @@
+// The refusals of document 01, "Each operation's refusals, in order", and their numbers.
+ghost use mathlib.Core.Path.{_≡_};
+ghost use Rattle.refusal.specs.Refusal.{numberOf};
+
+// Why an operation refuses. The sentences are the document's.
+pub enum Refusal {
+    // 1: under 8 bytes; total not 8 + 2O + 8G (the circuit file).
+    Length,
+    // 2: I, O or G beyond limits.
+    Limits,
+    // 3: a record with another kind, a nonzero second byte, or INV with b not 0.
+    Record,
+    // 4: the chain.
+    Chain,
+    // 5: a wire not written by then, or an output wire at or above I + G.
+    Wire,
+    // 6: a lent length not as stated.
+    BufferLength,
+    // 7: a nonzero unused bit; a nonzero hidden row, or nonzero corrections with p = n − 1.
+    UnusedBits,
+    // 8: n; M, τ, n (a number beyond its limits).
+    Parameter,
+    // 9: p at or above n or a cut above G.
+    Index,
+    // 10: the output differs from y; the witness does not give y.
+    Output,
+    // 11: a header under 38 bytes, out of limits or with its zero byte not 0 (the proof file).
+    Header,
+    // 12: a length other than h* implies.
+    ProofLength,
+    // 13: the recomputed h* differs.
+    Digest,
+    // 14: an unsound shelf.
+    Shelf,
+    // 15: the host's count is not draws.
+    Count,
+    // 16: the ready chain is empty.
+    Empty,
+    // 17: the spare chain is empty.
+    Full,
+    // 18: draws is 4,294,967,295.
+    Exhausted,
+}
+
+// The number that document 01 gives a refusal.
+pub fn number(r: Refusal) -> u32
+    ensures { λ k. ⌜ k ≡ numberOf r ⌝ }
+{
+    match r {
+        Refusal::Length => 1,
+        Refusal::Limits => 2,
+        Refusal::Record => 3,
+        Refusal::Chain => 4,
+        Refusal::Wire => 5,
+        Refusal::BufferLength => 6,
+        Refusal::UnusedBits => 7,
+        Refusal::Parameter => 8,
+        Refusal::Index => 9,
+        Refusal::Output => 10,
+        Refusal::Header => 11,
+        Refusal::ProofLength => 12,
+        Refusal::Digest => 13,
+        Refusal::Shelf => 14,
+        Refusal::Count => 15,
+        Refusal::Empty => 16,
+        Refusal::Full => 17,
+        Refusal::Exhausted => 18,
+    }
+}

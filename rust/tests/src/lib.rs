@@ -1,0 +1,5 @@
+//! What the tests share: random bytes, known answers, and guarded buffers.
+
+pub mod guarded;
+pub mod random;
+pub mod vectors;
