@@ -1,17 +1,18 @@
--- The bits of the results of the machine's operations: XOR, AND, OR, NOT, shifts and rotations, at any width.
+-- The bits of the results of the machine's operations: XOR, AND, OR, NOT, shifts and rotations, at any width; laws of XOR.
 -- Those of a shift to the right and of a remainder are `testBit-shr` and `testBit-mod` of Numbers.
 -- Assumes nothing.
 use mathlib.Core.Path.{_≡_, refl, sym, ap, ap₂, _∙_}
 use mathlib.Core.Bool.{Bool, true, false, not, _||_}
 use mathlib.Core.Logic.{⊎-elim}
-use Prim.Native.Nat.{ℕ, suc, _+_, _-_, _*_, _/_, _%_, _^_, _≤_, _<_}
-use native.Mathlib.Nat.{add-mod-right, mod-eq-of-lt, mod-lt, mul-assoc, mul-mod-left, pow-suc}
+use Prim.Native.Nat.{ℕ, zero, suc, _+_, _-_, _*_, _/_, _%_, _^_, _≤_, _<_}
+use native.Mathlib.Nat.{add-mod-right, lt-of-lt-of-le, mod-eq-of-lt, mod-lt, mul-assoc, mul-mod-left, pow-suc}
 use native.Mathlib.Omega.{arith}
-use lib.Bits.{bitOr}
+use lib.Bits.{bitOr, bitXor, xor-block, xor-lt}
 use lib.Dec.{eqb}
-use lib.Pow.{high, le-ones, ones-split, ones-sub-lt, pow-add, pow-pos, shl-shr, shr-lt, shr-shr, split}
+use lib.Pow.{high, le-ones, ones-split, ones-sub-lt, pow-add, pow-mono, pow-pos, shl-shr, shr-lt, shr-shr, split}
 use Rattle.bits.specs.Bits.{odd, testBit}
-use Rattle.bits.proofs.Numbers.{lt-or-le, testBit-high, testBit-mod, testBit-shr}
+use Rattle.bits.proofs.Numbers.{ext-bits, lt-or-le, testBit-high, testBit-mod, testBit-shr}
+use Rattle.bits.proofs.Xor.{xor-assoc}
 pub use Rattle.bits.proofs.Bitwise.{testBit-and, testBit-or, testBit-xor}
 
 -- a double is even
@@ -97,3 +98,25 @@ testBit-not w x z hx hz =
     let hq : x / 2 ^ z < 2 ^ d * 2 = rw (pow-suc 2 d) at (shr-lt (suc d) z hx') in
     ap (λ (y : ℕ). odd (((2 ^ y - 1) - x) / 2 ^ z)) e ∙ ap odd (not-shr (suc d) z x hx')
     ∙ ap (λ (y : ℕ). odd ((y - 1) - x / 2 ^ z)) (pow-suc 2 d) ∙ odd-less (2 ^ d) (x / 2 ^ z) hq
+
+-- every number is below its own power of two
+below-pow : (n : ℕ) → n < 2 ^ n
+below-pow zero = omega arith
+below-pow (suc n) = omega (arith, below-pow n, pow-suc 2 n)
+
+-- XOR of numbers is associative
+pub bitXor-assoc : (a b c : ℕ) → bitXor (bitXor a b) c ≡ bitXor a (bitXor b c)
+bitXor-assoc a b c =
+    let w : ℕ = a + (b + c) in
+    let big : (x : ℕ) → x ≤ w → x < 2 ^ w = λ x h. lt-of-lt-of-le (below-pow x) (pow-mono h) in
+    let ha = big a (omega arith) in
+    let hb = big b (omega arith) in
+    let hc = big c (omega arith) in
+    ext-bits w (bitXor (bitXor a b) c) (bitXor a (bitXor b c)) (xor-lt w _ _ (xor-lt w a b ha hb) hc) (xor-lt w _ _ ha (xor-lt w b c hb hc))
+    (λ z h. rw (testBit-xor (bitXor a b) c z, testBit-xor a b z, testBit-xor a (bitXor b c) z, testBit-xor b c z) (xor-assoc (testBit a z) (testBit b z) (testBit c z)))
+
+-- XOR of shifted numbers
+pub shifted-xor : (a b k : ℕ) → bitXor (a * 2 ^ k) (b * 2 ^ k) ≡ bitXor a b * 2 ^ k
+shifted-xor a b k =
+    let z : (x : ℕ) → x * 2 ^ k + 0 ≡ x * 2 ^ k = λ x. omega arith in
+    ap₂ bitXor (sym (z a)) (sym (z b)) ∙ xor-block k a b 0 0 (pow-pos k) (pow-pos k) ∙ z (bitXor a b)

@@ -1,28 +1,28 @@
 -- Absorbing byte by byte and padding make the standard's absorbing phase.
 -- Assumes nothing.
 use mathlib.Core.Path.{_≡_, refl, sym, ap, ap₂, _∙_}
-use mathlib.Core.List.{List, [], _∷_, _++_, append-assoc, append-nil}
+use mathlib.Core.List.{List, [], _∷_, _++_, append-assoc}
 use mathlib.Core.Logic.{⊎-elim, _≢_}
 use Prim.Native.Nat.{ℕ, zero, suc, _+_, _-_, _*_, _/_, _%_, _^_, _≤_, _<_}
-use native.Mathlib.Nat.{eq-or-lt-of-le, mod-eq-of-lt, pow-suc, mul-assoc, mod-lt, lt-of-lt-of-le, mul-lt-mul-of-pos-right, div-eq-of-lt, suc-mul, add-comm, add-mod-right, add-mul-mod-self-right, mul-div-cancel}
+use native.Mathlib.Nat.{mod-eq-of-lt, mul-assoc, lt-of-lt-of-le, div-eq-of-lt, suc-mul, add-comm, add-mod-right, add-mul-mod-self-right, mul-div-cancel}
 use native.Mathlib.Omega.{arith}
 use lib.Bits.{bitXor, xor-comm, xor-lt, xor-shifted, xor-shr, xor-mod, xor-zero-r}
-use lib.ListN.{length, getD, set, take, drop, length-append, length-set, length-take, length-drop, take-append-drop, replicate, length-replicate, List·getD-eq-default}
+use lib.ListN.{length, getD, set, take, drop, length-append, length-set, length-drop, take-append-drop, replicate, length-replicate}
 use native.Mathlib.Numerals.{add-one}
-use lib.Pow.{pow-add, pow-pos, pow-mono, shl-shr, shl-lt}
+use lib.Pow.{pow-add, pow-mono, shl-shr, shl-lt}
 use lib.Seq.{ext-getD, length-take-le, take-all, take-append-le, drop-append-le, getD-set-same, getD-set-other, set-getD, set-set, drop-cons, take-suc-set, drop-set-lt}
 use borrow.Author.Tests.{eq-eqb, ne-eqb}
 use Rattle.bits.proofs.Little.{pow-bytes}
 use Rattle.bits.proofs.Numbers.{eq-or-ne, lt-or-le}
 use Rattle.keccak.specs.declared.sponge.Sponge.{Sponge}
-use Rattle.keccak.specs.Permutation.{lanes, laneBytes, keccakF}
+use Rattle.permutation.specs.Permutation.{lanes, laneBytes, keccakF}
 use Rattle.keccak.specs.Sponge.{xorInto, absorbBlocks, padding}
 use Rattle.keccak.specs.Steps.{permuted, byteAt, xorByte, turned, absorbByte, absorbs, padded}
-use Rattle.keccak.proofs.Agree.{length-lanes, lanes-lt}
-use Rattle.keccak.proofs.Lanes.{Lanes64}
+use Rattle.permutation.proofs.Agree.{length-lanes, lanes-lt}
+use Rattle.permutation.proofs.Lanes.{Lanes64}
 use Rattle.keccak.proofs.Steps.{turned-full, turned-part, absorbs-append}
-use Rattle.keccak.proofs.WholeLanes.{bitXor-assoc, shifted-xor}
-use Rattle.keccak.proofs.Strings.{length-laneBytes, getD-laneBytes, keccakF-lanes}
+use Rattle.bits.proofs.Ops.{bitXor-assoc, shifted-xor}
+use Rattle.permutation.proofs.Strings.{length-laneBytes, getD-laneBytes, keccakF-lanes}
 
 -- 25 lanes of 64 bits
 pub record State (l : List ℕ) : Type 0 where

@@ -23,8 +23,8 @@ use Rattle.bits.proofs.Numbers.{lt-or-le, fromBits-lt, testBit-bitVal, testBit-
 use Rattle.bits.proofs.Packing.{all-unused, bitAt-end, getD-unpack, length-unpack, pack-unpack}
 use Rattle.bits.proofs.Tabulate.{length-tabulate, tabulate-cong}
 use Rattle.bits.proofs.Xor.{xor-false}
-use Rattle.keccak.proofs.Agree.{length-lanes}
-use Rattle.keccak.specs.Permutation.{StateArray, rounds, fromString, lane, lanes, laneBytes, toString, keccakF}
+use Rattle.permutation.proofs.Agree.{length-lanes}
+use Rattle.permutation.specs.Permutation.{StateArray, rounds, fromString, lane, lanes, laneBytes, toString, keccakF}
 use Rattle.keccak.specs.Sponge.{xorInto, absorbBlocks, squeezeBlocks, padding, sponge, sha3-256, shake128, shake256}
 use Rattle.keccak.specs.Bitstrings.{zeros, xorBits, fromBitString, Lane, Plane, toBitString, KECCAK-p, pad10*1, blockOf, absorb, squeeze, SPONGE, KECCAK, SHA3-256, SHAKE128, SHAKE256, h2b, b2h}
 

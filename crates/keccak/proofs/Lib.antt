@@ -1,11 +1,5 @@
 pub mod Absorbing
-pub mod Agree
 pub mod ByteForm
-pub mod Constants
-pub mod Lanes
-pub mod Offsets
-pub mod Rounds
 pub mod Squeezing
 pub mod Steps
-pub mod Strings
 pub mod WholeLanes

@@ -1,24 +1,23 @@
 -- Squeezing byte by byte makes the standard's squeezing phase; and so the steps make the three functions.
 -- Assumes nothing.
 use mathlib.Core.Path.{_≡_, refl, sym, ap, ap₂, _∙_}
-use mathlib.Core.List.{List, [], _∷_, _++_}
+use mathlib.Core.List.{List, _∷_, _++_}
 use mathlib.Core.Logic.{⊎-elim}
-use Prim.Native.Nat.{ℕ, zero, suc, _+_, _-_, _*_, _/_, _%_, _^_, _≤_, _<_}
-use native.Mathlib.Nat.{eq-or-lt-of-le, suc-mul, div-add-mod', mod-lt, add-mul-div-right, add-comm, mul-comm, mul-div-cancel}
+use Prim.Native.Nat.{ℕ, zero, suc, _+_, _*_, _/_, _%_, _≤_, _<_}
+use native.Mathlib.Nat.{eq-or-lt-of-le, suc-mul, div-add-mod', mod-lt}
 use native.Mathlib.Numerals.{add-one}
 use native.Mathlib.Omega.{arith}
-use lib.ListN.{length, getD, take, drop, length-append, length-take, length-drop, replicate, getD-replicate, List·getD-eq-default}
+use lib.ListN.{length, getD, take, drop, replicate, getD-replicate, List·getD-eq-default}
 use lib.Seq.{drop-cons, drop-length, getD-take, length-take-le}
 use Rattle.bits.specs.Bytes.{leBytes}
 use Rattle.bits.proofs.Numbers.{lt-or-le}
 use Rattle.keccak.specs.declared.sponge.Sponge.{Sponge}
-use Rattle.keccak.specs.declared.sponge.Squeezed.{Squeezed}
-use Rattle.keccak.specs.Permutation.{laneBytes, keccakF}
+use Rattle.permutation.specs.Permutation.{laneBytes, keccakF}
 use Rattle.keccak.specs.Sponge.{absorbBlocks, squeezeBlocks, padding, sponge, sha3-256, shake128, shake256}
-use Rattle.keccak.specs.Steps.{permuted, byteAt, empty, turned, absorbs, padded, squeezeByte, squeezes}
+use Rattle.keccak.specs.Steps.{permuted, byteAt, empty, absorbs, padded, squeezeByte, squeezes}
 use Rattle.keccak.proofs.Absorbing.{State, Bytes, byte-is, permuted-state, absorbed, padded-length}
 use Rattle.keccak.proofs.Steps.{turned-full, turned-part}
-use Rattle.keccak.proofs.Strings.{length-laneBytes, keccakF-lanes}
+use Rattle.permutation.proofs.Strings.{length-laneBytes, keccakF-lanes}
 
 module _ (r : ℕ) (some : 0 < r) (below : r < 200) where
   -- the rest of the block from byte j on, and n blocks more

@@ -1,47 +1,21 @@
 -- Whole lanes: eight byte steps at a lane's start are one step on the lane.
 -- Assumes nothing.
-use mathlib.Core.Path.{_≡_, refl, sym, ap, ap₂, _∙_}
-use mathlib.Core.List.{List, [], _∷_, _++_, append-assoc}
-use Prim.Native.Nat.{ℕ, zero, suc, _+_, _-_, _*_, _/_, _%_, _^_, _≤_, _<_}
-use native.Mathlib.Nat.{mod-eq-of-lt, mul-assoc, mul-comm, pow-suc, add-mul, div-add-mod', mod-lt, mul-lt-mul-of-pos-right, div-lt-iff-lt-mul, lt-of-lt-of-le}
+use mathlib.Core.Path.{_≡_, refl, sym, ap, _∙_}
+use mathlib.Core.List.{List, _∷_, _++_}
+use Prim.Native.Nat.{ℕ, zero, suc, _+_, _*_, _/_, _%_, _^_, _≤_, _<_}
+use native.Mathlib.Nat.{mul-assoc, pow-suc, add-mul, div-add-mod', mul-lt-mul-of-pos-right}
 use native.Mathlib.Omega.{arith}
-use lib.Bits.{bitXor, xor-block, xor-comm, xor-lt, xor-shifted}
+use lib.Bits.{bitXor, xor-comm, xor-shifted}
 use lib.ListN.{length, getD, set, take, drop, length-append, length-set, length-take, take-append-drop}
-use lib.Pow.{pow-add, pow-pos, pow-lt, shr-shr}
+use lib.Pow.{pow-add, pow-pos, shr-shr}
 use lib.Seq.{getD-set-same, set-set, drop-drop, sets, sets-eq, take-at}
-use Rattle.bits.specs.Bits.{testBit}
 use Rattle.bits.specs.Bytes.{leAt, leBytes}
-use Rattle.bits.specs.Xor.{_⊕_}
-use Rattle.bits.proofs.Numbers.{ext-bits}
 use Rattle.bits.proofs.Little.{leBytes-leAt, length-leBytes}
-use Rattle.bits.proofs.Ops.{testBit-xor}
-use Rattle.bits.proofs.Xor.{xor-assoc}
+use Rattle.bits.proofs.Ops.{bitXor-assoc}
 use Rattle.keccak.specs.declared.sponge.Sponge.{Sponge}
 use Rattle.keccak.specs.declared.sponge.Squeezed.{Squeezed}
 use Rattle.keccak.specs.Steps.{byteAt, xorByte, turned, absorbByte, absorbs, squeezeByte, squeezes, squeezed}
 use Rattle.keccak.proofs.Steps.{turned-part, turned-room, turned-aligned}
-
--- every number is below its own power of two
-below-pow : (n : ℕ) → n < 2 ^ n
-below-pow zero = omega arith
-below-pow (suc n) = omega (arith, below-pow n, pow-suc 2 n)
-
--- XOR of numbers is associative
-pub bitXor-assoc : (a b c : ℕ) → bitXor (bitXor a b) c ≡ bitXor a (bitXor b c)
-bitXor-assoc a b c =
-    let w : ℕ = a + (b + c) in
-    let big : (x : ℕ) → x ≤ w → x < 2 ^ w = λ x h. lt-of-lt-of-le (below-pow x) (lib.Pow.pow-mono h) in
-    let ha = big a (omega arith) in
-    let hb = big b (omega arith) in
-    let hc = big c (omega arith) in
-    ext-bits w (bitXor (bitXor a b) c) (bitXor a (bitXor b c)) (xor-lt w _ _ (xor-lt w a b ha hb) hc) (xor-lt w _ _ ha (xor-lt w b c hb hc))
-    (λ z h. rw (testBit-xor (bitXor a b) c z, testBit-xor a b z, testBit-xor a (bitXor b c) z, testBit-xor b c z) (xor-assoc (testBit a z) (testBit b z) (testBit c z)))
-
--- XOR of shifted numbers
-pub shifted-xor : (a b k : ℕ) → bitXor (a * 2 ^ k) (b * 2 ^ k) ≡ bitXor a b * 2 ^ k
-shifted-xor a b k =
-    let z : (x : ℕ) → x * 2 ^ k + 0 ≡ x * 2 ^ k = λ x. omega arith in
-    ap₂ bitXor (sym (z a)) (sym (z b)) ∙ xor-block k a b 0 0 (pow-pos k) (pow-pos k) ∙ z (bitXor a b)
 
 -- the lowest byte of y and the rest, j bytes up, do not overlap
 split-bytes : (y j : ℕ) → bitXor (y % 256 * 2 ^ (8 * j)) (y / 256 * 2 ^ (8 * (j + 1))) ≡ y * 2 ^ (8 * j)

@@ -10,7 +10,7 @@ use lib.Dec.{leb}
 use lib.ListN.{length, getD, take, drop, replicate}
 use Rattle.bits.specs.Bits.{tabulate, pack, unpack}
 use Rattle.bits.specs.Xor.{_⊕_}
-use Rattle.keccak.specs.Permutation.{StateArray, rounds}
+use Rattle.permutation.specs.Permutation.{StateArray, rounds}
 
 -- 2.3: 0^s, the string of s zeros
 abbrev pub zeros : ℕ → List Bool

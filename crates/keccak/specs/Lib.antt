@@ -1,4 +1,3 @@
 pub mod Bitstrings
-pub mod Permutation
 pub mod Sponge
 pub mod Steps

@@ -7,7 +7,7 @@ use Prim.Native.Nat.{ℕ, zero, suc, _+_, _-_, _/_, _%_}
 use lib.Bits.{bitXor}
 use lib.Dec.{eqb}
 use lib.ListN.{length, take, drop, replicate}
-use Rattle.keccak.specs.Permutation.{keccakF}
+use Rattle.permutation.specs.Permutation.{keccakF}
 
 -- S ⊕ (P || 0^c): the bytes of P XORed into the first bytes of S
 unfoldable pub xorInto : List ℕ → List ℕ → List ℕ

@@ -10,7 +10,7 @@ use lib.Dec.{eqb}
 use lib.ListN.{length, getD, set, replicate}
 use Rattle.keccak.specs.declared.sponge.Sponge.{Sponge}
 use Rattle.keccak.specs.declared.sponge.Squeezed.{Squeezed}
-use Rattle.keccak.specs.Permutation.{lanes, laneArray, rounds}
+use Rattle.permutation.specs.Permutation.{lanes, laneArray, rounds}
 
 -- Keccak-f[1600] on lanes
 abbrev pub permuted : List ℕ → List ℕ

@@ -4,7 +4,6 @@ ghost use Prim.Native.Nat.{_%_, _<_};
 ghost use lib.ListN.{length};
 ghost use Rattle.keccak.specs.Sponge.{sponge as construction, «sha3-256», shake128 as «shake128-of», shake256 as «shake256-of»};
 
-mod permutation;
 pub mod sponge;
 mod state;
 

@@ -5,9 +5,9 @@ ghost use Prim.Native.Nat.{_+_, _≤_, _<_, _%_};
 ghost use lib.ListN.{length};
 ghost use Rattle.keccak.specs.Steps.{empty, turned, absorbByte, absorbs, padded, squeezeByte, Given};
 ghost use Rattle.bits.specs.Bytes.{leBytes};
-use crate::permutation::permute;
 use crate::state::byte_at;
 use crate::state::xor_byte;
+use permutation::permute;
 
 // The state of 25 lanes, and the bytes taken of the present block.
 pub struct Sponge {

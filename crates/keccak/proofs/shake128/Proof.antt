@@ -1,14 +1,9 @@
+-- `keccak::shake128` meets its contract.
+-- Assumes nothing.
 use Rattle.keccak.specs.Sponge.{shake128}
-use native.Mathlib.Omega.{arith}
-use mathlib.Core.Path.{_≡_, refl, sym, ap, _∙_}
-use Prim.Native.Nat.{ℕ, zero, suc, _+_, _-_, _*_, _≤_, _<_}
-use lib.ListN.{length, getD, set, length-set}
 use borrow.Author.Needs.{needs}
 use Rattle.keccak.proofs.shake128.Statement.{statement}
 use Rattle.keccak.proofs.shake128.Tie as tie
-use Rattle.keccak.proofs.shake128.Reads as reads
-use Rattle.keccak.proofs.shake128.Lts as lts
-use Rattle.keccak.proofs.hash.Reads as hash-reads
 
 hash-requires : tie.Need-hash-requires
 hash-requires c κs = search needs

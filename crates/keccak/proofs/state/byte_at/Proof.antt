@@ -1,13 +1,10 @@
+-- `keccak::state::byte_at` meets its contract: byte k is a shift and a remainder of its lane.
+-- Assumes nothing.
 use Rattle.keccak.specs.Steps.{byteAt}
-use native.Mathlib.Omega.{arith}
-use mathlib.Core.Path.{_≡_, refl, sym, ap, _∙_}
-use Prim.Native.Nat.{ℕ, zero, suc, _+_, _-_, _*_, _≤_, _<_}
-use lib.ListN.{length, getD, set, length-set}
+use mathlib.Core.Path.{refl}
 use borrow.Author.Needs.{needs}
 use Rattle.keccak.proofs.state.byte_at.Statement.{statement}
 use Rattle.keccak.proofs.state.byte_at.Tie as tie
-use Rattle.keccak.proofs.state.byte_at.Reads as reads
-use Rattle.keccak.proofs.state.byte_at.Lts as lts
 
 mul-result : tie.Need-mul-result
 mul-result c = search needs

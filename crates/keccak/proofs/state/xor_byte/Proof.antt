@@ -1,15 +1,12 @@
-use Prim.Native.Nat.{_%_}
+-- `keccak::state::xor_byte` meets its contract: a byte shifted up within its lane loses no bit.
+-- Assumes nothing.
+use Prim.Native.Nat.{_%_, _*_}
 use lib.Pow.{shl-exact}
 use Rattle.keccak.specs.Steps.{xorByte}
 use native.Mathlib.Omega.{arith}
-use mathlib.Core.Path.{_≡_, refl, sym, ap, _∙_}
-use Prim.Native.Nat.{ℕ, zero, suc, _+_, _-_, _*_, _≤_, _<_}
-use lib.ListN.{length, getD, set, length-set}
 use borrow.Author.Needs.{needs}
 use Rattle.keccak.proofs.state.xor_byte.Statement.{statement}
 use Rattle.keccak.proofs.state.xor_byte.Tie as tie
-use Rattle.keccak.proofs.state.xor_byte.Reads as reads
-use Rattle.keccak.proofs.state.xor_byte.Lts as lts
 
 mul-l : tie.Need-mul-l
 mul-l c = search needs

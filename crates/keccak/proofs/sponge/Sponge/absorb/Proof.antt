@@ -1,18 +1,14 @@
-use Prim.Native.Nat.{_%_}
+-- `keccak::sponge::Sponge::absorb` meets its contract: the three parts of the slice, one after the other.
+-- Assumes nothing.
+use Prim.Native.Nat.{_%_, ℕ, _-_, _<_}
 use lib.Seq.{length-take-le}
-use lib.ListN.{take, drop, length-take, length-drop}
+use lib.ListN.{take, length-take, length-drop, length}
 use Rattle.keccak.proofs.Steps.{absorbs-room, absorbs-aligned, absorbs-parts}
 use native.Mathlib.Omega.{arith}
-use mathlib.Core.Path.{_≡_, refl, sym, ap, _∙_}
-use Prim.Native.Nat.{ℕ, zero, suc, _+_, _-_, _*_, _≤_, _<_}
-use lib.ListN.{length, getD, set, length-set}
+use mathlib.Core.Path.{_≡_, sym}
 use borrow.Author.Needs.{needs}
 use Rattle.keccak.proofs.sponge.Sponge.absorb.Statement.{statement}
 use Rattle.keccak.proofs.sponge.Sponge.absorb.Tie as tie
-use Rattle.keccak.proofs.sponge.Sponge.absorb.Reads as reads
-use Rattle.keccak.proofs.sponge.Sponge.absorb.Lts as lts
-use Rattle.keccak.proofs.sponge.Sponge.absorb_bytes.Reads as absorb-bytes-reads
-use Rattle.keccak.proofs.sponge.Sponge.absorb_lanes.Reads as absorb-lanes-reads
 
 sub-head : tie.Need-sub-head
 sub-head c = search needs

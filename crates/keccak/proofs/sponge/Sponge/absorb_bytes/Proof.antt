@@ -1,26 +1,18 @@
+-- `keccak::sponge::Sponge::absorb_bytes` meets its contract: the loop's invariant: what is left, taken in from here, gives what all gives from the start.
+-- Assumes nothing.
 use mathlib.Core.List.{List}
 use native.Mathlib.Numerals.{add-one}
 use lib.Seq.{drop-cons}
-use lib.ListN.{drop-of-length-le}
-use Rattle.keccak.proofs.Steps.{absorbByte-room}
-use Rattle.keccak.specs.Steps.{absorbByte}
+use lib.ListN.{drop-of-length-le, drop, length, getD}
+use Rattle.keccak.proofs.Steps.{absorbByte-room, joined-full, joined-part}
+use Rattle.keccak.specs.Steps.{absorbByte, turned, absorbs}
 use Rattle.keccak.specs.declared.sponge.Sponge.{Sponge}
 use mathlib.Core.Logic.{⊎-elim}
-use Rattle.keccak.proofs.Steps.{joined-full, joined-part}
-use Rattle.keccak.specs.Steps.{turned}
-use lib.ListN.{drop}
-use Rattle.keccak.specs.Steps.{absorbs}
-use borrow.Author.Needs.{needs}
 use native.Mathlib.Omega.{arith}
 use mathlib.Core.Path.{_≡_, refl, sym, ap, _∙_}
-use Prim.Native.Nat.{ℕ, zero, suc, _+_, _-_, _*_, _≤_, _<_}
-use lib.ListN.{length, getD, set, length-set}
+use Prim.Native.Nat.{ℕ, _+_, _-_, _≤_, _<_}
 use Rattle.keccak.proofs.sponge.Sponge.absorb_bytes.Statement.{statement}
 use Rattle.keccak.proofs.sponge.Sponge.absorb_bytes.Tie as tie
-use Rattle.keccak.proofs.sponge.Sponge.absorb_bytes.Reads as reads
-use Rattle.keccak.proofs.sponge.Sponge.absorb_bytes.Lts as lts
-use Rattle.keccak.proofs.permutation.permute.Reads as permute-reads
-use Rattle.keccak.proofs.state.xor_byte.Reads as xor-byte-reads
 
 abbrev Inv-loop : tie.InvT-loop
 Inv-loop rate «data» l₀ at₀ i₀ l at i =

@@ -1,30 +1,21 @@
-use Rattle.keccak.proofs.Agree.{length-lanes}
+-- `keccak::sponge::Sponge::absorb_lanes` meets its contract: the loop's invariant is that of the bytes, at a lane's start.
+-- Assumes nothing.
+use Rattle.permutation.proofs.Agree.{length-lanes}
 use Rattle.bits.proofs.Little.{leAt-lt, length-leBytes}
 use Rattle.bits.specs.Bytes.{leAt, leBytes}
-use Prim.Native.Nat.{_/_, _^_}
+use Prim.Native.Nat.{_/_, _^_, _%_, ℕ, _+_, _-_, _≤_, _<_}
 use lib.Bits.{bitXor}
-use mathlib.Core.List.{List}
-use lib.ListN.{drop-of-length-le}
+use lib.ListN.{drop-of-length-le, drop, length, getD, set, length-set}
 use Rattle.keccak.proofs.WholeLanes.{absorb-lane, next-lane}
-use Rattle.keccak.proofs.Steps.{absorbs-room, absorbs-aligned, absorbs-append}
+use Rattle.keccak.proofs.Steps.{absorbs-room, absorbs-aligned, absorbs-append, joined-full, joined-part}
 use Rattle.keccak.specs.declared.sponge.Sponge.{Sponge}
 use mathlib.Core.Logic.{⊎-elim}
-use Rattle.keccak.proofs.Steps.{joined-full, joined-part}
-use Rattle.keccak.specs.Steps.{turned}
-use Prim.Native.Nat.{_%_}
-use lib.ListN.{drop}
-use Rattle.keccak.specs.Steps.{absorbs}
+use Rattle.keccak.specs.Steps.{turned, absorbs}
 use borrow.Author.Needs.{needs}
 use native.Mathlib.Omega.{arith}
 use mathlib.Core.Path.{_≡_, refl, sym, ap, _∙_}
-use Prim.Native.Nat.{ℕ, zero, suc, _+_, _-_, _*_, _≤_, _<_}
-use lib.ListN.{length, getD, set, length-set}
 use Rattle.keccak.proofs.sponge.Sponge.absorb_lanes.Statement.{statement}
 use Rattle.keccak.proofs.sponge.Sponge.absorb_lanes.Tie as tie
-use Rattle.keccak.proofs.sponge.Sponge.absorb_lanes.Reads as reads
-use Rattle.keccak.proofs.sponge.Sponge.absorb_lanes.Lts as lts
-use Rattle.bits.proofs.read_u64.Reads as read-u64-reads
-use Rattle.keccak.proofs.permutation.permute.Reads as permute-reads
 
 abbrev Inv-loop : tie.InvT-loop
 Inv-loop rate «data» l₀ at₀ i₀ l at i =

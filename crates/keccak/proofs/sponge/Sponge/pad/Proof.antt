@@ -1,15 +1,9 @@
+-- `keccak::sponge::Sponge::pad` meets its contract.
+-- Assumes nothing.
 use Rattle.keccak.specs.Steps.{padded}
-use native.Mathlib.Omega.{arith}
-use mathlib.Core.Path.{_≡_, refl, sym, ap, _∙_}
-use Prim.Native.Nat.{ℕ, zero, suc, _+_, _-_, _*_, _≤_, _<_}
-use lib.ListN.{length, getD, set, length-set}
 use borrow.Author.Needs.{needs}
 use Rattle.keccak.proofs.sponge.Sponge.pad.Statement.{statement}
 use Rattle.keccak.proofs.sponge.Sponge.pad.Tie as tie
-use Rattle.keccak.proofs.sponge.Sponge.pad.Reads as reads
-use Rattle.keccak.proofs.sponge.Sponge.pad.Lts as lts
-use Rattle.keccak.proofs.permutation.permute.Reads as permute-reads
-use Rattle.keccak.proofs.state.xor_byte.Reads as xor-byte-reads
 
 xor-byte-requires : tie.Need-xor-byte-requires
 xor-byte-requires c κs = search needs

@@ -1,19 +1,15 @@
-use Prim.Native.Nat.{_%_}
+-- `keccak::sponge::Sponge::squeeze` meets its contract: the three parts of the slice, one after the other.
+-- Assumes nothing.
+use Prim.Native.Nat.{_%_, ℕ, _-_}
 use lib.Seq.{length-take-le}
-use lib.ListN.{take, drop, length-take, length-drop, length-append}
+use lib.ListN.{take, length-take, length-drop, length-append, length}
 use Rattle.keccak.proofs.Steps.{squeezed-room, squeezed-aligned, given-parts}
 use Rattle.keccak.specs.Steps.{squeezed}
 use native.Mathlib.Omega.{arith}
-use mathlib.Core.Path.{_≡_, refl, sym, ap, _∙_}
-use Prim.Native.Nat.{ℕ, zero, suc, _+_, _-_, _*_, _≤_, _<_}
-use lib.ListN.{length, getD, set, length-set}
+use mathlib.Core.Path.{_≡_, sym, ap, _∙_}
 use borrow.Author.Needs.{needs}
 use Rattle.keccak.proofs.sponge.Sponge.squeeze.Statement.{statement}
 use Rattle.keccak.proofs.sponge.Sponge.squeeze.Tie as tie
-use Rattle.keccak.proofs.sponge.Sponge.squeeze.Reads as reads
-use Rattle.keccak.proofs.sponge.Sponge.squeeze.Lts as lts
-use Rattle.keccak.proofs.sponge.Sponge.squeeze_bytes.Reads as squeeze-bytes-reads
-use Rattle.keccak.proofs.sponge.Sponge.squeeze_lanes.Reads as squeeze-lanes-reads
 
 sub-head : tie.Need-sub-head
 sub-head c = search needs

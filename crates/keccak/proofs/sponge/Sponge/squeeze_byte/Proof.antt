@@ -1,16 +1,11 @@
+-- `keccak::sponge::Sponge::squeeze_byte` meets its contract: after the turn there is room for a byte.
+-- Assumes nothing.
 use Rattle.keccak.proofs.Steps.{turned-room}
 use Rattle.keccak.specs.Steps.{squeezeByte}
 use native.Mathlib.Omega.{arith}
-use mathlib.Core.Path.{_≡_, refl, sym, ap, _∙_}
-use Prim.Native.Nat.{ℕ, zero, suc, _+_, _-_, _*_, _≤_, _<_}
-use lib.ListN.{length, getD, set, length-set}
 use borrow.Author.Needs.{needs}
 use Rattle.keccak.proofs.sponge.Sponge.squeeze_byte.Statement.{statement}
 use Rattle.keccak.proofs.sponge.Sponge.squeeze_byte.Tie as tie
-use Rattle.keccak.proofs.sponge.Sponge.squeeze_byte.Reads as reads
-use Rattle.keccak.proofs.sponge.Sponge.squeeze_byte.Lts as lts
-use Rattle.keccak.proofs.sponge.Sponge.turn.Reads as turn-reads
-use Rattle.keccak.proofs.state.byte_at.Reads as byte-at-reads
 
 turn-requires : tie.Need-turn-requires
 turn-requires c κs = search needs

@@ -1,26 +1,18 @@
-use mathlib.Core.List.{List, [], _∷_, _++_}
+-- `keccak::sponge::Sponge::squeeze_bytes` meets its contract: the loop's invariant: halfway through giving out.
+-- Assumes nothing.
+use mathlib.Core.List.{[], _∷_, _++_}
 use native.Mathlib.Numerals.{add-one}
 use lib.Seq.{take-suc-set}
-use lib.ListN.{take}
-use Rattle.keccak.proofs.Steps.{halfway-start, halfway-more, halfway-end, turned-room}
-use Rattle.keccak.specs.Steps.{byteAt, squeezes, squeezed, squeezeByte}
+use lib.ListN.{take, length, length-set}
+use Rattle.keccak.proofs.Steps.{halfway-start, halfway-more, halfway-end, turned-room, joined-full, joined-part, Halfway}
+use Rattle.keccak.specs.Steps.{byteAt, squeezes, squeezed, squeezeByte, turned}
 use Rattle.keccak.specs.declared.sponge.Sponge.{Sponge}
 use mathlib.Core.Logic.{⊎-elim}
-use Rattle.keccak.proofs.Steps.{joined-full, joined-part}
-use Rattle.keccak.specs.Steps.{turned}
-use Prim.Native.Nat.{_%_}
-use Rattle.keccak.proofs.Steps.{Halfway}
-use borrow.Author.Needs.{needs}
+use Prim.Native.Nat.{_+_, _-_, _<_}
 use native.Mathlib.Omega.{arith}
-use mathlib.Core.Path.{_≡_, refl, sym, ap, _∙_}
-use Prim.Native.Nat.{ℕ, zero, suc, _+_, _-_, _*_, _≤_, _<_}
-use lib.ListN.{length, getD, set, length-set}
+use mathlib.Core.Path.{_≡_, ap, _∙_}
 use Rattle.keccak.proofs.sponge.Sponge.squeeze_bytes.Statement.{statement}
 use Rattle.keccak.proofs.sponge.Sponge.squeeze_bytes.Tie as tie
-use Rattle.keccak.proofs.sponge.Sponge.squeeze_bytes.Reads as reads
-use Rattle.keccak.proofs.sponge.Sponge.squeeze_bytes.Lts as lts
-use Rattle.keccak.proofs.permutation.permute.Reads as permute-reads
-use Rattle.keccak.proofs.state.byte_at.Reads as byte-at-reads
 
 abbrev Inv-loop : tie.InvT-loop
 Inv-loop rate out₀ l₀ at₀ i₀ out l at i =

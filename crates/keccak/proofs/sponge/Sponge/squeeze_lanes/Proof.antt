@@ -1,26 +1,18 @@
+-- `keccak::sponge::Sponge::squeeze_lanes` meets its contract: the loop's invariant: halfway through giving out, at a lane's start.
+-- Assumes nothing.
 use Rattle.bits.specs.Bytes.{leBytes}
-use Prim.Native.Nat.{_/_}
+use Prim.Native.Nat.{_/_, _%_, ℕ, _+_, _-_, _<_}
 use mathlib.Core.List.{List, _++_}
-use lib.ListN.{take}
+use lib.ListN.{take, length, getD}
 use Rattle.keccak.proofs.WholeLanes.{squeeze-next-lane, take-lane}
-use Rattle.keccak.proofs.Steps.{halfway-start, halfway-more, halfway-end, turned-room, turned-aligned}
+use Rattle.keccak.proofs.Steps.{halfway-start, halfway-more, halfway-end, turned-room, turned-aligned, joined-full, joined-part, Halfway}
 use Rattle.keccak.specs.declared.sponge.Sponge.{Sponge}
 use mathlib.Core.Logic.{⊎-elim}
-use Rattle.keccak.proofs.Steps.{joined-full, joined-part}
 use Rattle.keccak.specs.Steps.{turned}
-use Prim.Native.Nat.{_%_}
-use Rattle.keccak.proofs.Steps.{Halfway}
-use borrow.Author.Needs.{needs}
 use native.Mathlib.Omega.{arith}
-use mathlib.Core.Path.{_≡_, refl, sym, ap, _∙_}
-use Prim.Native.Nat.{ℕ, zero, suc, _+_, _-_, _*_, _≤_, _<_}
-use lib.ListN.{length, getD, set, length-set}
+use mathlib.Core.Path.{_≡_, sym, ap, _∙_}
 use Rattle.keccak.proofs.sponge.Sponge.squeeze_lanes.Statement.{statement}
 use Rattle.keccak.proofs.sponge.Sponge.squeeze_lanes.Tie as tie
-use Rattle.keccak.proofs.sponge.Sponge.squeeze_lanes.Reads as reads
-use Rattle.keccak.proofs.sponge.Sponge.squeeze_lanes.Lts as lts
-use Rattle.bits.proofs.write_u64.Reads as write-u64-reads
-use Rattle.keccak.proofs.permutation.permute.Reads as permute-reads
 
 abbrev Inv-loop : tie.InvT-loop
 Inv-loop rate out₀ l₀ from₀ i₀ out l from i =

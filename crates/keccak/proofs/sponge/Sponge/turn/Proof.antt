@@ -1,15 +1,10 @@
+-- `keccak::sponge::Sponge::turn` meets its contract: a full block is permuted, any other stays.
+-- Assumes nothing.
 use borrow.Author.Tests.{eq-eqb, ne-eqb}
 use Rattle.keccak.specs.Steps.{turned}
-use native.Mathlib.Omega.{arith}
-use mathlib.Core.Path.{_≡_, refl, sym, ap, _∙_}
-use Prim.Native.Nat.{ℕ, zero, suc, _+_, _-_, _*_, _≤_, _<_}
-use lib.ListN.{length, getD, set, length-set}
 use borrow.Author.Needs.{needs}
 use Rattle.keccak.proofs.sponge.Sponge.turn.Statement.{statement}
 use Rattle.keccak.proofs.sponge.Sponge.turn.Tie as tie
-use Rattle.keccak.proofs.sponge.Sponge.turn.Reads as reads
-use Rattle.keccak.proofs.sponge.Sponge.turn.Lts as lts
-use Rattle.keccak.proofs.permutation.permute.Reads as permute-reads
 
 permute-requires : tie.Need-permute-requires
 permute-requires c κs = search needs

@@ -1,0 +1,6 @@
+pub mod Agree
+pub mod Constants
+pub mod Lanes
+pub mod Offsets
+pub mod Rounds
+pub mod Strings
