@@ -17,10 +17,10 @@ use Rattle.bits.proofs.Numbers.{eq-or-ne, lt-or-le}
 use Rattle.keccak.specs.declared.sponge.Sponge.{Sponge}
 use Rattle.permutation.specs.Permutation.{lanes, laneBytes, keccakF}
 use Rattle.keccak.specs.Sponge.{xorInto, absorbBlocks, padding}
-use Rattle.keccak.specs.Steps.{permuted, byteAt, xorByte, turned, absorbByte, absorbs, padded}
+use Rattle.keccak.specs.Steps.{permuted, xorBytes, byteAt, xorByte, absorbs, padded}
 use Rattle.permutation.proofs.Agree.{length-lanes, lanes-lt}
 use Rattle.permutation.proofs.Lanes.{Lanes64}
-use Rattle.keccak.proofs.Steps.{turned-full, turned-part, absorbs-append}
+use Rattle.keccak.proofs.Steps.{xorBytes-append, absorbs-block, turned-full, turned-part, absorbs-append}
 use Rattle.bits.proofs.Ops.{bitXor-assoc, shifted-xor}
 use Rattle.permutation.proofs.Strings.{length-laneBytes, getD-laneBytes, keccakF-lanes}
 
@@ -123,18 +123,7 @@ tail-bytes b M h i = h (suc i)
 pub permuted-state : (l : List ℕ) → State (permuted l)
 permuted-state l = record { long = length-lanes _; small = λ k. lanes-lt _ k }
 
--- the lanes with bytes XORed in from place j on
-unfoldable pub xorBytes : List ℕ → ℕ → List ℕ → List ℕ
-xorBytes l j [] = l
-xorBytes l j (b ∷ M) = xorBytes (xorByte l j b) (j + 1) M
-
-pub xorBytes-append : (M N l : List ℕ) (j : ℕ) → xorBytes l j (M ++ N) ≡ xorBytes (xorBytes l j M) (j + length M) N
-unfolding xorBytes
-xorBytes-append [] N l j = let e : j + 0 ≡ j = omega arith in rw e
-xorBytes-append (b ∷ M) N l j =
-    let e : j + 1 + length M ≡ j + suc (length M) = omega arith in
-    xorBytes-append M N (xorByte l j b) (j + 1) ∙ rw e
-
+-- bytes XORed in leave 25 lanes of 64 bits
 pub xorBytes-state : (M l : List ℕ) (j : ℕ) → State l → Bytes M → j + length M ≤ 200 → State (xorBytes l j M)
 unfolding xorBytes
 xorBytes-state [] l j st h k = st
@@ -160,17 +149,6 @@ xorBytes-bytes (b ∷ M) l j st h k =
     xorBytes-bytes M (xorByte l j b) (j + 1) (xorByte-state l st j (omega arith) b (h 0)) (tail-bytes b M h) (omega arith)
     ∙ ap (λ (S : List ℕ). take (j + 1) S ++ xorInto (drop (j + 1) S) M) (xorByte-bytes l st j (omega arith) b (h 0))
     ∙ set-from (laneBytes l) j b M (omega arith)
-
--- bytes within one block
-pub absorbs-block : (rate : ℕ) (M l : List ℕ) (j : ℕ) → j < rate → j + length M ≤ rate
-    → absorbs rate (record { lanes = l; fill = j }) M ≡ turned rate (record { lanes = xorBytes l j M; fill = j + length M })
-unfolding xorBytes absorbs absorbByte
-absorbs-block rate [] l j h k = let e : j + 0 ≡ j = omega arith in rw e (sym (turned-part rate (record { lanes = l; fill = j }) h))
-absorbs-block rate (b ∷ []) l j h k = refl
-absorbs-block rate (b ∷ b′ ∷ M) l j h k =
-    let e : j + 1 + suc (length M) ≡ j + suc (suc (length M)) = omega arith in
-    ap (λ (s : Sponge). absorbs rate s (b′ ∷ M)) (turned-part rate (record { lanes = xorByte l j b; fill = j + 1 }) (omega arith))
-    ∙ absorbs-block rate (b′ ∷ M) (xorByte l j b) (j + 1) (omega arith) (omega arith) ∙ rw e
 
 -- zero bytes change nothing
 xorByte-zero : (l : List ℕ) (k : ℕ) → xorByte l k 0 ≡ l

@@ -7,11 +7,11 @@ use Prim.Native.Nat.{ℕ, zero, suc, _+_, _-_, _%_, _≤_, _<_}
 use native.Mathlib.Nat.{zero-add, suc-add, eq-or-lt-of-le}
 use native.Mathlib.Omega.{arith}
 use lib.ListN.{length, take, drop, length-append, length-take, length-drop, take-append-drop}
-use lib.Seq.{length-take-le, take-add, take-all, take-at}
+use lib.Seq.{drop-drop, length-take-le, take-add, take-all, take-at}
 use borrow.Rule.Slice.PartMut.{putMid, same-len-mid}
 use borrow.Author.Tests.{eq-eqb, ne-eqb}
 use Rattle.keccak.specs.declared.sponge.Sponge.{Sponge}
-use Rattle.keccak.specs.Steps.{permuted, turned, absorbByte, absorbs, squeezeByte, squeezes, squeezed, Given}
+use Rattle.keccak.specs.Steps.{xorByte, xorBytes, permuted, turned, absorbByte, absorbs, squeezeByte, squeezes, squeezed, Given}
 
 -- a full block is permuted
 pub turned-full : (rate : ℕ) (s : Sponge) → s .fill ≡ rate → turned rate s ≡ record { lanes = permuted (s .lanes); fill = 0 }
@@ -205,3 +205,38 @@ module _ (rate : ℕ) (l : List ℕ) (at : ℕ) (l′ : List ℕ) (at′ : ℕ) 
       → _≡_ {A = Sponge} (record { lanes = l′; fill = at′ }) (turned rate (record { lanes = l; fill = at }))
   unfolding turned
   joined-part n p z = rw (p, z, ne-eqb _ _ n)
+
+-- bytes XORed in, in two parts
+pub xorBytes-append : (M N l : List ℕ) (j : ℕ) → xorBytes l j (M ++ N) ≡ xorBytes (xorBytes l j M) (j + length M) N
+unfolding xorBytes
+xorBytes-append [] N l j = let e : j + 0 ≡ j = omega arith in rw e
+xorBytes-append (b ∷ M) N l j =
+    let e : j + 1 + length M ≡ j + suc (length M) = omega arith in
+    xorBytes-append M N (xorByte l j b) (j + 1) ∙ rw e
+
+-- bytes within one block
+pub absorbs-block : (rate : ℕ) (M l : List ℕ) (j : ℕ) → j < rate → j + length M ≤ rate
+    → absorbs rate (record { lanes = l; fill = j }) M ≡ turned rate (record { lanes = xorBytes l j M; fill = j + length M })
+unfolding xorBytes absorbs absorbByte
+absorbs-block rate [] l j h k = let e : j + 0 ≡ j = omega arith in rw e (sym (turned-part rate (record { lanes = l; fill = j }) h))
+absorbs-block rate (b ∷ []) l j h k = refl
+absorbs-block rate (b ∷ b′ ∷ M) l j h k =
+    let e : j + 1 + suc (length M) ≡ j + suc (suc (length M)) = omega arith in
+    ap (λ (s : Sponge). absorbs rate s (b′ ∷ M)) (turned-part rate (record { lanes = xorByte l j b; fill = j + 1 }) (omega arith))
+    ∙ absorbs-block rate (b′ ∷ M) (xorByte l j b) (j + 1) (omega arith) (omega arith) ∙ rw e
+
+-- m bytes of a block, from place i of the message on
+pub absorbs-segment : (rate : ℕ) (D : List ℕ) (i m : ℕ) (l l′ : List ℕ) (at : ℕ) (t : Sponge) → at < rate → at + m ≤ rate → i + m ≤ length D
+    → l′ ≡ xorBytes l at (take (i + m - i) (drop i D)) → t ≡ turned rate (record { lanes = l′; fill = at + m })
+    → absorbs rate t (drop (i + m) D) ≡ absorbs rate (record { lanes = l; fill = at }) (drop i D)
+absorbs-segment rate D i m l l′ at t lt fits within e f =
+    let M : List ℕ = take m (drop i D) in
+    let s : Sponge = record { lanes = l; fill = at } in
+    let z : i + m - i ≡ m = omega arith in
+    let n : length M ≡ m = simp (length-take, length-drop) (omega arith) in
+    let b : t ≡ absorbs rate s M =
+    f ∙ ap₂ (λ (x : List ℕ) (k : ℕ). turned rate (record { lanes = x; fill = at + k })) (e ∙ ap (λ (k : ℕ). xorBytes l at (take k (drop i D))) z) (sym n)
+    ∙ sym (absorbs-block rate M l at lt (omega arith)) in
+    ap₂ (λ (u : Sponge) (X : List ℕ). absorbs rate u X) b (sym (drop-drop m i D))
+    ∙ sym (absorbs-append rate M (drop m (drop i D)) s)
+    ∙ ap (absorbs rate s) (take-append-drop m (drop i D))

@@ -1,21 +1,23 @@
 -- Whole lanes: eight byte steps at a lane's start are one step on the lane.
 -- Assumes nothing.
-use mathlib.Core.Path.{_≡_, refl, sym, ap, _∙_}
-use mathlib.Core.List.{List, _∷_, _++_}
+use mathlib.Core.Path.{ap₂, _≡_, refl, sym, ap, _∙_}
+use mathlib.Core.Logic.{⊎-elim}
+use mathlib.Core.List.{[], List, _∷_, _++_}
 use Prim.Native.Nat.{ℕ, zero, suc, _+_, _*_, _/_, _%_, _^_, _≤_, _<_}
 use native.Mathlib.Nat.{mul-assoc, pow-suc, add-mul, div-add-mod', mul-lt-mul-of-pos-right}
 use native.Mathlib.Omega.{arith}
-use lib.Bits.{bitXor, xor-comm, xor-shifted}
+use lib.Bits.{xor-zero-r, bitXor, xor-comm, xor-shifted}
 use lib.ListN.{length, getD, set, take, drop, length-append, length-set, length-take, take-append-drop}
 use lib.Pow.{pow-add, pow-pos, shr-shr}
-use lib.Seq.{getD-set-same, set-set, drop-drop, sets, sets-eq, take-at}
+use lib.Seq.{set-getD, set-out, getD-set-same, set-set, drop-drop, sets, sets-eq, take-at}
 use Rattle.bits.specs.Bytes.{leAt, leBytes}
-use Rattle.bits.proofs.Little.{leBytes-leAt, length-leBytes}
+use Rattle.bits.proofs.Numbers.{lt-or-le}
+use Rattle.bits.proofs.Little.{leAt-lt, leBytes-leAt, length-leBytes}
 use Rattle.bits.proofs.Ops.{bitXor-assoc}
 use Rattle.keccak.specs.declared.sponge.Sponge.{Sponge}
 use Rattle.keccak.specs.declared.sponge.Squeezed.{Squeezed}
-use Rattle.keccak.specs.Steps.{byteAt, xorByte, turned, absorbByte, absorbs, squeezeByte, squeezes, squeezed}
-use Rattle.keccak.proofs.Steps.{turned-part, turned-room, turned-aligned}
+use Rattle.keccak.specs.Steps.{byteAt, xorByte, xorBytes, turned, squeezeByte, squeezes, squeezed}
+use Rattle.keccak.proofs.Steps.{xorBytes-append, turned-part, turned-room, turned-aligned}
 
 -- the lowest byte of y and the rest, j bytes up, do not overlap
 split-bytes : (y j : ℕ) → bitXor (y % 256 * 2 ^ (8 * j)) (y / 256 * 2 ^ (8 * (j + 1))) ≡ y * 2 ^ (8 * j)
@@ -35,7 +37,7 @@ split-bytes y j =
 merge : (L y j : ℕ) → bitXor (bitXor L (y % 256 * 2 ^ (8 * j))) (y / 256 * 2 ^ (8 * (j + 1))) ≡ bitXor L (y * 2 ^ (8 * j))
 merge L y j = bitXor-assoc L _ _ ∙ ap (bitXor L) (split-bytes y j)
 
-module _ (rate f : ℕ) (start : f % 8 ≡ 0) (fits : f + 8 ≤ rate) where
+module _ (f : ℕ) (start : f % 8 ≡ 0) where
   -- byte j of the lane at f
   xor-in-lane : (l : List ℕ) (j b : ℕ) → j < 8 → xorByte l (f + j) b ≡ set l (f / 8) (bitXor (getD l (f / 8) 0) (b * 2 ^ (8 * j)))
   unfolding xorByte
@@ -44,42 +46,45 @@ module _ (rate f : ℕ) (start : f % 8 ≡ 0) (fits : f + 8 ≤ rate) where
       let r : (f + j) % 8 ≡ j = omega arith in
       rw (q, r)
 
-  -- a byte before the lane's last
-  absorb-step : (l : List ℕ) (j b : ℕ) → j < 7
-      → absorbByte rate (record { lanes = l; fill = f + j }) b
-      ≡ record { lanes = set l (f / 8) (bitXor (getD l (f / 8) 0) (b * 2 ^ (8 * j))); fill = f + (j + 1) }
-  unfolding absorbByte
-  absorb-step l j b h =
-      let a : f + j + 1 ≡ f + (j + 1) = omega arith in
-      turned-part rate _ (omega arith) ∙ rw (a, xor-in-lane l j b (omega arith))
-
-  -- the last suc m bytes of a lane
-  absorb-rest : (m j : ℕ) (l : List ℕ) (y : ℕ) → j + suc m ≡ 8 → y < 256 ^ suc m → f / 8 < length l
-      → absorbs rate (record { lanes = l; fill = f + j }) (leBytes (suc m) y)
-      ≡ turned rate (record { lanes = set l (f / 8) (bitXor (getD l (f / 8) 0) (y * 2 ^ (8 * j))); fill = f + 8 })
-  unfolding absorbs absorbByte leBytes
-  absorb-rest zero j l y e h k =
-      let a : y % 256 ≡ y = omega arith in
-      let b : f + j + 1 ≡ f + 8 = omega arith in
-      rw (a, b, xor-in-lane l j y (omega arith))
-  absorb-rest (suc m) j l y e h k =
+  -- the last m bytes of a lane XORed in
+  xorBytes-rest : (m j : ℕ) (l : List ℕ) (y : ℕ) → j + m ≡ 8 → y < 256 ^ m → f / 8 < length l
+      → xorBytes l (f + j) (leBytes m y) ≡ set l (f / 8) (bitXor (getD l (f / 8) 0) (y * 2 ^ (8 * j)))
+  unfolding xorBytes leBytes
+  xorBytes-rest zero j l y e h k =
+      let a : y * 2 ^ (8 * j) ≡ 0 = ap (λ (x : ℕ). x * 2 ^ (8 * j)) (let z : y ≡ 0 = omega arith in z) ∙ (let z : 0 * 2 ^ (8 * j) ≡ 0 = omega arith in z) in
+      sym (rw (a, xor-zero-r) (set-getD l (f / 8) 0))
+  xorBytes-rest (suc m) j l y e h k =
       let L : ℕ = getD l (f / 8) 0 in
       let v : ℕ = bitXor L (y % 256 * 2 ^ (8 * j)) in
-      let y′ : y / 256 < 256 ^ suc m = omega (arith, pow-suc 256 (suc m)) in
-      ap (λ (t : Sponge). absorbs rate t (leBytes (suc m) (y / 256))) (absorb-step l j (y % 256) (omega arith))
-      ∙ absorb-rest m (j + 1) (set l (f / 8) v) (y / 256) (omega arith) y′ (simp length-set k)
+      let y′ : y / 256 < 256 ^ m = omega (arith, pow-suc 256 m) in
+      let a : f + j + 1 ≡ f + (j + 1) = omega arith in
+      ap₂ (λ (t : List ℕ) (n : ℕ). xorBytes t n (leBytes m (y / 256))) (xor-in-lane l j (y % 256) (omega arith)) a
+      ∙ xorBytes-rest m (j + 1) (set l (f / 8) v) (y / 256) (omega arith) y′ (simp length-set k)
       ∙ rw (set-set, getD-set-same l (f / 8) v 0 k, merge L y j)
 
-  -- a lane taken in byte by byte
-  pub absorb-lane : (l : List ℕ) (x : ℕ) → x < 2 ^ 64 → f / 8 < length l
-      → absorbs rate (record { lanes = l; fill = f }) (leBytes 8 x)
-      ≡ turned rate (record { lanes = set l (f / 8) (bitXor (getD l (f / 8) 0) x); fill = f + 8 })
-  absorb-lane l x h k =
+  -- a lane that is not there takes nothing in
+  xorBytes-outside : (l : List ℕ) → length l ≤ f / 8 → (M : List ℕ) (j : ℕ) → j + length M ≤ 8 → xorBytes l (f + j) M ≡ l
+  unfolding xorBytes
+  xorBytes-outside l k [] j h = refl
+  xorBytes-outside l k (b ∷ M) j h =
+      let a : f + j + 1 ≡ f + (j + 1) = omega arith in
+      ap₂ (λ (t : List ℕ) (n : ℕ). xorBytes t n M) (xor-in-lane l j b (omega arith) ∙ set-out l (f / 8) _ k) a
+      ∙ xorBytes-outside l k M (j + 1) (omega arith)
+
+  -- a lane XORed in byte by byte
+  pub xorBytes-lane : (l : List ℕ) (x : ℕ) → x < 2 ^ 64 → xorBytes l f (leBytes 8 x) ≡ set l (f / 8) (bitXor (getD l (f / 8) 0) x)
+  xorBytes-lane l x h =
       let a : f + 0 ≡ f = omega arith in
       let b : x * 2 ^ (8 * 0) ≡ x = omega arith in
-      let r = absorb-rest 7 0 l x (omega arith) h k in
-      rw (a, b) at r
+      ⊎-elim
+      (λ k. let r = xorBytes-rest 8 0 l x (omega arith) h k in rw (a, b) at r)
+      (λ k.
+      let n : length (leBytes 8 x) ≡ 8 = length-leBytes 8 x in
+      let r = xorBytes-outside l k (leBytes 8 x) 0 (omega arith) in
+      (rw a at r) ∙ sym (set-out l (f / 8) _ k))
+      (lt-or-le (f / 8) (length l))
 
+module _ (rate f : ℕ) (start : f % 8 ≡ 0) (fits : f + 8 ≤ rate) where
   -- the last m bytes of a lane
   squeeze-rest : (m j : ℕ) (l : List ℕ) → j + m ≤ 8
       → (squeezes rate m (record { lanes = l; fill = f + j }) ≡ leBytes m (getD l (f / 8) 0 / 2 ^ (8 * j)))
@@ -142,3 +147,15 @@ take-lane out i x h =
     let n : length v ≡ 8 = length-leBytes 8 x in
     let k : length (take i out ++ v) ≡ i + 8 = simp (length-append, length-take) (omega arith) in
     ap (take (i + 8)) (sets-eq v out i (omega arith)) ∙ take-at (take i out ++ v) (drop (i + length v) out) (i + 8) k
+
+-- one lane more of the bytes XORed in
+pub xorBytes-turn : (P : List ℕ) (k i : ℕ) (l : List ℕ) (x : ℕ) → ((n : ℕ) → getD P n 0 < 256) → i + 8 ≤ length P → (k + i) % 8 ≡ 0 → x ≡ leAt 8 P i
+    → xorBytes (set l ((k + i) / 8) (bitXor (getD l ((k + i) / 8) 0) x)) (k + (i + 8)) (drop (i + 8) P) ≡ xorBytes l (k + i) (drop i P)
+xorBytes-turn P k i l x small w start e =
+    let M : List ℕ = leBytes 8 (leAt 8 P i) in
+    let n : length M ≡ 8 = length-leBytes 8 (leAt 8 P i) in
+    let lane : set l ((k + i) / 8) (bitXor (getD l ((k + i) / 8) 0) x) ≡ xorBytes l (k + i) M =
+    ap (λ (y : ℕ). set l ((k + i) / 8) (bitXor (getD l ((k + i) / 8) 0) y)) e ∙ sym (xorBytes-lane (k + i) start l (leAt 8 P i) (leAt-lt 8 P i small)) in
+    ap₂ (λ (t : List ℕ) (m : ℕ). xorBytes t m (drop (i + 8) P)) lane (let z : k + (i + 8) ≡ k + i + length M = omega arith in z)
+    ∙ sym (xorBytes-append M (drop (i + 8) P) l (k + i))
+    ∙ ap (xorBytes l (k + i)) (next-lane P i small w)

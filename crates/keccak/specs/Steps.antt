@@ -24,6 +24,11 @@ byteAt l k = getD l (k / 8) 0 / 2 ^ (8 * (k % 8)) % 256
 unfoldable pub xorByte : List ℕ → ℕ → ℕ → List ℕ
 xorByte l k b = set l (k / 8) (bitXor (getD l (k / 8) 0) (b * 2 ^ (8 * (k % 8))))
 
+-- the lanes with bytes XORed in, from byte k of the state on
+unfoldable pub xorBytes : List ℕ → ℕ → List ℕ → List ℕ
+xorBytes l k [] = l
+xorBytes l k (b ∷ M) = xorBytes (xorByte l k b) (k + 1) M
+
 -- the sponge before the first byte
 unfoldable pub empty : Sponge
 empty = record { lanes = replicate 25 0; fill = 0 }

@@ -1,12 +1,12 @@
 // The sponge: bytes are taken in, padded, and given out, with the permutation between blocks.
 // A rate is in bytes. Each step hands the sponge back.
 ghost use mathlib.Core.Path.{_≡_};
-ghost use Prim.Native.Nat.{_+_, _≤_, _<_, _%_};
+ghost use Prim.Native.Nat.{_+_, _≤_, _<_, _%_, min};
 ghost use lib.ListN.{length};
 ghost use Rattle.keccak.specs.Steps.{empty, turned, absorbByte, absorbs, padded, squeezeByte, Given};
-ghost use Rattle.bits.specs.Bytes.{leBytes};
 use crate::state::byte_at;
 use crate::state::xor_byte;
+use crate::state::xor_lanes;
 use permutation::permute;
 
 // The state of 25 lanes, and the bytes taken of the present block.
@@ -19,6 +19,13 @@ pub struct Sponge {
 pub struct Squeezed {
     pub sponge: Sponge,
     pub byte: u8,
+}
+
+// The lesser of two numbers.
+fn least(a: usize, b: usize) -> usize
+    ensures { λ r. ⌜ r ≡ min a b ⌝ }
+{
+    if a < b { a } else { b }
 }
 
 impl Sponge {
@@ -75,7 +82,7 @@ impl Sponge {
         Sponge { lanes: l, fill: at }
     }
 
-    // Takes in whole lanes.
+    // Takes in whole lanes, a block or what is left of one at a time.
     fn absorb_lanes(self, rate: usize, data: &[u8]) -> Sponge
         requires { ⌜ (rate < 200) × ((rate % 8 ≡ 0) × ((self .fill % 8 ≡ 0) × ((self .fill < rate) × (length (now «data») % 8 ≡ 0)))) ⌝ }
         ensures { λ r. ⌜ r ≡ absorbs rate self (now («data» .entry)) ⌝ }
@@ -84,14 +91,15 @@ impl Sponge {
         let mut at = self.fill;
         let mut i = 0;
         while i < data.len() {
-            let k = at / 8;
-            l[k] = l[k] ^ bits::read_u64(data, i);
-            at += 8;
+            let m = least(rate - at, data.len() - i);
+            let e = i + m;
+            xor_lanes(&mut l, at, &data[i..e]);
+            at += m;
             if at == rate {
                 permute(&mut l);
                 at = 0;
             }
-            i += 8;
+            i = e;
         }
         Sponge { lanes: l, fill: at }
     }
