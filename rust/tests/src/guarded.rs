@@ -24,6 +24,15 @@ impl Guarded {
         }
     }
 
+    /// A lent part that holds `bytes`, with a shift of its own.
+    pub fn holding(random: &mut Random, bytes: &[u8]) -> Self {
+        let shift = random.below(8);
+        let mut buffer = Guarded::new(random, shift, bytes.len());
+        buffer.lent().copy_from_slice(bytes);
+        buffer.before = buffer.whole.clone();
+        buffer
+    }
+
     pub fn lent(&mut self) -> &mut [u8] {
         &mut self.whole[self.middle.clone()]
     }
@@ -56,6 +65,15 @@ mod tests {
         buffer.lent()[9] ^= 1;
         assert!(buffer.outside_unchanged());
         assert!(!buffer.unchanged());
+    }
+
+    #[test]
+    fn a_buffer_holds_what_it_is_given() {
+        let mut buffer = Guarded::holding(&mut Random::new(1), &[1, 2, 3]);
+        assert_eq!(buffer.get(), [1, 2, 3]);
+        assert!(buffer.unchanged());
+        buffer.lent()[0] = 0;
+        assert!(buffer.outside_unchanged() && !buffer.unchanged());
     }
 
     #[test]

@@ -5,6 +5,8 @@
 
 mod ffi;
 
+pub mod circuit;
+
 /// The number of a refused call. Every lent byte is as it was.
 #[derive(Clone, Copy, Debug, PartialEq, Eq)]
 pub struct Refusal(pub u32);

@@ -1,0 +1,8 @@
+pub mod Answered
+pub mod Chain
+pub mod Counting
+pub mod Outcomes
+pub mod Run
+pub mod Visits
+pub mod Wires
+pub mod Small

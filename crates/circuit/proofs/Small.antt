@@ -1,0 +1,43 @@
+-- The numbers that reading answers are small.
+-- Assumes nothing.
+use mathlib.Core.Path.{_≡_, refl, ap, _∙_}
+use mathlib.Core.List.{List, [], _∷_}
+use Prim.Native.Nat.{ℕ, _≤_, _<_, _^_}
+use native.Mathlib.Omega.{arith}
+use lib.ListN.{length, getD}
+use Rattle.circuit.specs.Circuit.{Gate, xor, and, inv, ands}
+use Rattle.circuit.specs.File.{inputsOf, outputsOf, gatesOf, gatesInOrder}
+use Rattle.circuit.specs.Operations.{Answer, refusal, success, readOp}
+use Rattle.circuit.specs.Records.{limits}
+use Rattle.circuit.specs.Answers.{readPaper}
+use Rattle.circuit.specs.declared.Sizes.{Sizes}
+use Rattle.circuit.specs.declared.ReadAnswer.the-variants as readAnswer
+use Rattle.circuit.proofs.Answered.{gates-count, read-success, success-passed, header, limits-few}
+
+-- the AND gates are some of the gates
+ands-le : (gs : List Gate) → ands gs ≤ length gs
+unfolding ands
+ands-le [] = omega arith
+ands-le (xor a b c ∷ gs) = omega (arith, ands-le gs)
+ands-le (and a b c ∷ gs) = omega (arith, ands-le gs)
+ands-le (inv a c ∷ gs) = omega (arith, ands-le gs)
+
+-- value k of a success
+abbrev valueAt : ℕ → Answer → ℕ
+valueAt k (refusal n) = 0
+valueAt k (success vs) = getD vs k 0
+
+-- what reading answers fits 32 bits
+pub read-small : (s : List ℕ) (z : Sizes) → readPaper (readAnswer.Legal z) ≡ readOp s
+    → (z .inputs < 2 ^ 32) × ((z .outputs < 2 ^ 32) × ((z .gates < 2 ^ 32) × (z .ands < 2 ^ 32)))
+read-small s z e =
+    let p = success-passed s _ e in
+    let f = e ∙ read-success s p in
+    let l = limits-few (inputsOf s) (outputsOf s) (gatesOf s) (header s _ _ _ (limits (inputsOf s) (outputsOf s) (gatesOf s)) refl refl refl refl ∙ p .front .limited) in
+    let i : z .inputs ≡ inputsOf s = ap (valueAt 0) f in
+    let o : z .outputs ≡ outputsOf s = ap (valueAt 1) f in
+    let g : z .gates ≡ gatesOf s = ap (valueAt 2) f in
+    let a : z .ands ≡ ands (gatesInOrder s) = ap (valueAt 3) f in
+    let b = ands-le (gatesInOrder s) in
+    let n = gates-count s in
+    (omega arith, (omega arith, (omega arith, omega arith)))

@@ -1,0 +1,125 @@
+-- The circuit file (document 01, "Circuit file"), and what reading it gives.
+-- Assumes nothing.
+use mathlib.Core.Bool.{Bool, true, false, not, cond, _&&_, _||_}
+use mathlib.Core.List.{List, [], _∷_, map}
+use Prim.Native.Nat.{ℕ, zero, suc, _+_, _-_, _*_}
+use lib.Dec.{eqb, leb, ltb}
+use lib.ListN.{length, getD}
+use Rattle.bits.specs.Bits.{tabulate}
+use Rattle.bits.specs.Bytes.{leAt}
+use Rattle.circuit.specs.Circuit.{Gate, xor, and, inv, Circuit, put}
+
+-- "Header: I, O, G, head (u16 each)"
+abbrev pub inputsOf : List ℕ → ℕ
+inputsOf s = leAt 2 s 0
+
+abbrev pub outputsOf : List ℕ → ℕ
+outputsOf s = leAt 2 s 2
+
+abbrev pub gatesOf : List ℕ → ℕ
+gatesOf s = leAt 2 s 4
+
+abbrev pub headOf : List ℕ → ℕ
+headOf s = leAt 2 s 6
+
+-- "then O output wire numbers (u16)": the number of output wire j
+abbrev pub outputWire : List ℕ → ℕ → ℕ
+outputWire s j = leAt 2 s (8 + 2 * j)
+
+-- "then G records in slots 1..G of 8 bytes": where the record of slot k starts
+abbrev pub recordAt : List ℕ → ℕ → ℕ
+recordAt s k = 8 + 2 * outputsOf s + 8 * (k - 1)
+
+-- "kind u8 (1 XOR, 2 AND, 3 INV), zero u8, wires a and b (u16), next (u16, ..)"
+abbrev pub kindOf : List ℕ → ℕ → ℕ
+kindOf s k = getD s (recordAt s k) 0
+
+abbrev pub zeroOf : List ℕ → ℕ → ℕ
+zeroOf s k = getD s (recordAt s k + 1) 0
+
+abbrev pub wireA : List ℕ → ℕ → ℕ
+wireA s k = leAt 2 s (recordAt s k + 2)
+
+abbrev pub wireB : List ℕ → ℕ → ℕ
+wireB s k = leAt 2 s (recordAt s k + 4)
+
+abbrev pub nextOf : List ℕ → ℕ → ℕ
+nextOf s k = leAt 2 s (recordAt s k + 6)
+
+-- refusal 2: "I is 1..512, O 1..256, G 0..4,096"
+unfoldable pub withinLimits : List ℕ → Bool
+withinLimits s = leb 1 (inputsOf s) && leb (inputsOf s) 512 && leb 1 (outputsOf s) && leb (outputsOf s) 256 && leb (gatesOf s) 4096
+
+-- the second refusal 1: "total not 8 + 2O + 8G"
+unfoldable pub rightLength : List ℕ → Bool
+rightLength s = eqb (length s) (8 + 2 * outputsOf s + 8 * gatesOf s)
+
+-- refusal 3: "a record with another kind, a nonzero second byte, or INV with b not 0"
+unfoldable pub goodRecord : List ℕ → ℕ → Bool
+goodRecord s k =
+    (eqb (kindOf s k) 1 || eqb (kindOf s k) 2 || (eqb (kindOf s k) 3 && eqb (wireB s k) 0)) && eqb (zeroOf s k) 0
+
+-- the first n slots have good records
+unfoldable pub goodRecords : List ℕ → ℕ → Bool
+goodRecords s zero = true
+goodRecords s (suc n) = goodRecords s n && goodRecord s (suc n)
+
+-- refusal 4: from slot k, n links that each lead to a slot, and then the end
+unfoldable pub walks : List ℕ → ℕ → ℕ → Bool
+walks s zero k = eqb k 0
+walks s (suc n) k = leb 1 k && leb k (gatesOf s) && walks s n (nextOf s k)
+
+-- "Evaluation follows the chain from head. It must visit each slot exactly once and end" (what this means: Meaning.antt)
+unfoldable pub goodChain : List ℕ → Bool
+goodChain s = walks s (gatesOf s) (headOf s)
+
+-- the slots on the way of n links from slot k
+unfoldable pub chainFrom : List ℕ → ℕ → ℕ → List ℕ
+chainFrom s zero k = []
+chainFrom s (suc n) k = k ∷ chainFrom s n (nextOf s k)
+
+-- the gate of slot k: "Slot k writes wire I + k − 1"
+unfoldable pub gateAt : List ℕ → ℕ → Gate
+gateAt s k =
+    let c : ℕ = inputsOf s + k - 1 in
+    cond (eqb (kindOf s k) 1) (xor (wireA s k) (wireB s k) c) (cond (eqb (kindOf s k) 2) (and (wireA s k) (wireB s k) c) (inv (wireA s k) c))
+
+-- the gates in chain order
+unfoldable pub gatesInOrder : List ℕ → List Gate
+gatesInOrder s = map (gateAt s) (chainFrom s (gatesOf s) (headOf s))
+
+-- refusal 5: "A gate reads only inputs or wires written earlier on the chain", where the wires in `written` are written
+unfoldable pub readsWritten : (ℕ → Bool) → List Gate → Bool
+readsWritten written [] = true
+readsWritten written (xor a b c ∷ gs) = written a && written b && readsWritten (put written c true) gs
+readsWritten written (and a b c ∷ gs) = written a && written b && readsWritten (put written c true) gs
+readsWritten written (inv a c ∷ gs) = written a && readsWritten (put written c true) gs
+
+-- refusal 5: "or an output wire at or above I + G", for the first n output wires
+unfoldable pub goodOutputs : List ℕ → ℕ → Bool
+goodOutputs s zero = true
+goodOutputs s (suc n) = goodOutputs s n && ltb (outputWire s n) (inputsOf s + gatesOf s)
+
+-- refusal 5
+unfoldable pub goodWires : List ℕ → Bool
+goodWires s = readsWritten (λ w. ltb w (inputsOf s)) (gatesInOrder s) && goodOutputs s (outputsOf s)
+
+-- the circuit that a legal file is
+unfoldable pub circuitOf : List ℕ → Circuit
+circuitOf s = record { inputs = inputsOf s; outputs = tabulate (outputsOf s) (outputWire s); gates = gatesInOrder s }
+
+-- what reading gives: a refusal's number, or the circuit
+pub data Reading : Type 0 where
+  refused : ℕ → Reading
+  legal : Circuit → Reading
+
+-- "Read a circuit: 1 under 8 bytes; 2 I, O or G beyond limits; 1 total not 8 + 2O + 8G; 3 ..; 4 ..; 5 .."
+unfoldable pub readCircuit : List ℕ → Reading
+readCircuit s =
+    cond (ltb (length s) 8) (refused 1)
+    (cond (not (withinLimits s)) (refused 2)
+    (cond (not (rightLength s)) (refused 1)
+    (cond (not (goodRecords s (gatesOf s))) (refused 3)
+    (cond (not (goodChain s)) (refused 4)
+    (cond (not (goodWires s)) (refused 5)
+    (legal (circuitOf s)))))))

@@ -1,0 +1,7 @@
+pub mod Answers
+pub mod Circuit
+pub mod File
+pub mod Meaning
+pub mod Operations
+pub mod Records
+pub mod Values

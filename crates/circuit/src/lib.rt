@@ -1,0 +1,40 @@
+// The circuit file: reading it, and evaluating the circuit it holds.
+pub mod evaluation;
+pub mod reading;
+pub mod records;
+mod tests;
+
+use refusal::Refusal;
+
+// A gate and the wires it reads.
+pub enum Gate {
+    Xor(usize, usize),
+    And(usize, usize),
+    Inv(usize),
+}
+
+// A gate record: the next slot, and the gate.
+pub struct Record {
+    pub next: usize,
+    pub gate: Gate,
+}
+
+// The numbers I, O, G and A of a circuit.
+pub struct Sizes {
+    pub inputs: usize,
+    pub outputs: usize,
+    pub gates: usize,
+    pub ands: usize,
+}
+
+// What reading a circuit answers.
+pub enum ReadAnswer {
+    Legal(Sizes),
+    Refused(Refusal),
+}
+
+// What evaluating a circuit answers.
+pub enum EvaluateAnswer {
+    Done,
+    Refused(Refusal),
+}

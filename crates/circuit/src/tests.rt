@@ -1,0 +1,162 @@
+// The tests of reading a circuit, each on its own, and the count of its AND gates.
+ghost use mathlib.Core.Path.{_≡_};
+ghost use mathlib.Core.Bool.{_&&_, _||_};
+ghost use lib.ListN.{length};
+ghost use Rattle.circuit.specs.Circuit.{ands};
+ghost use Rattle.circuit.specs.File.{goodRecord, goodRecords, goodOutputs, walks};
+ghost use Rattle.circuit.specs.Records.{Inside, Laid, Chained, limits, readable, seen, gatesFrom, inputsFirst};
+use crate::Gate;
+use crate::records::and_one;
+use crate::records::record;
+
+// Both of two tests.
+fn both(a: bool, b: bool) -> bool
+    ensures { λ r. ⌜ r ≡ a && b ⌝ }
+{
+    if a { b } else { false }
+}
+
+// Refusal 2: I, O and G within limits.
+pub(crate) fn within_limits(inputs: usize, outputs: usize, gates: usize) -> bool
+    ensures { λ r. ⌜ r ≡ limits inputs outputs gates ⌝ }
+{
+    let i = both(1 <= inputs, inputs <= 512);
+    let o = both(both(i, 1 <= outputs), outputs <= 256);
+    both(o, gates <= 4096)
+}
+
+// Refusal 3, one slot: a known kind, INV with b zero, and a zero second byte.
+fn good_record(s: &[u8], outputs: usize, slot: usize) -> bool
+    requires { ⌜ Inside (now s) outputs slot ⌝ }
+    ensures { λ r. ⌜ r ≡ goodRecord (now (s .entry)) slot ⌝ }
+{
+    let at = 8 + 2 * outputs + 8 * (slot - 1);
+    let kind = s[at];
+    let zero = s[at + 1];
+    let b = bits::read_u16(s, at + 4);
+    let inv = both(kind == 3, b == 0);
+    both(either(either(kind == 1, kind == 2), inv), zero == 0)
+}
+
+// One of two tests.
+fn either(a: bool, b: bool) -> bool
+    ensures { λ r. ⌜ r ≡ a || b ⌝ }
+{
+    if a { true } else { b }
+}
+
+// Refusal 3: every slot.
+pub(crate) fn good_records(s: &[u8], inputs: usize, outputs: usize, gates: usize) -> bool
+    requires { ⌜ Laid (now s) inputs outputs gates ⌝ }
+    ensures { λ r. ⌜ r ≡ goodRecords (now (s .entry)) gates ⌝ }
+{
+    let mut good = true;
+    let mut k = 0;
+    while k < gates {
+        good = both(good, good_record(s, outputs, k + 1));
+        k += 1;
+    }
+    good
+}
+
+// Refusal 4: from the head, G links that each lead to a slot, and then the end.
+pub(crate) fn good_chain(s: &[u8], inputs: usize, outputs: usize, gates: usize, head: usize) -> bool
+    requires { ⌜ Laid (now s) inputs outputs gates ⌝ }
+    ensures { λ r. ⌜ r ≡ walks (now (s .entry)) gates head ⌝ }
+{
+    let mut left = gates;
+    let mut slot = head;
+    while 0 < left {
+        if slot == 0 {
+            return false;
+        }
+        if gates < slot {
+            return false;
+        }
+        let r = record(s, outputs, slot);
+        slot = r.next;
+        left -= 1;
+    }
+    slot == 0
+}
+
+// Refusal 5, the outputs: each wire below I + G.
+pub(crate) fn good_outputs(s: &[u8], inputs: usize, outputs: usize, gates: usize) -> bool
+    requires { ⌜ Laid (now s) inputs outputs gates ⌝ }
+    ensures { λ r. ⌜ r ≡ goodOutputs (now (s .entry)) outputs ⌝ }
+{
+    let wires = inputs + gates;
+    let mut good = true;
+    let mut j = 0;
+    while j < outputs {
+        let wire = bits::read_u16(s, 8 + 2 * j) as usize;
+        good = both(good, wire < wires);
+        j += 1;
+    }
+    good
+}
+
+// Whether a wire is an input, or its flag is set.
+fn is_written(flags: &[u8; 4608], inputs: usize, wire: usize) -> bool
+    requires { ⌜ length (now flags) ≡ 4608 ⌝ }
+    ensures { λ r. ⌜ r ≡ seen inputs (now (flags .entry)) wire ⌝ }
+{
+    if wire < inputs {
+        return true;
+    }
+    if wire < 4608 {
+        return flags[wire] == 1;
+    }
+    false
+}
+
+// Whether a gate reads only written wires.
+fn reads_written(flags: &[u8; 4608], inputs: usize, gate: Gate) -> bool
+    requires { ⌜ length (now flags) ≡ 4608 ⌝ }
+    ensures { λ r. ⌜ r ≡ readable (seen inputs (now (flags .entry))) gate ⌝ }
+{
+    match gate {
+        Gate::Xor(a, b) => both(is_written(flags, inputs, a), is_written(flags, inputs, b)),
+        Gate::And(a, b) => both(is_written(flags, inputs, a), is_written(flags, inputs, b)),
+        Gate::Inv(a) => is_written(flags, inputs, a),
+    }
+}
+
+// Refusal 5, the gates: each reads only inputs or wires written earlier on the chain.
+pub(crate) fn good_reads(s: &[u8], inputs: usize, outputs: usize, gates: usize, head: usize) -> bool
+    requires { ⌜ Chained (now s) inputs outputs gates head ⌝ }
+    ensures { λ r. ⌜ r ≡ inputsFirst (now (s .entry)) gates head ⌝ }
+{
+    let mut flags = [0u8; 4608];
+    let mut left = gates;
+    let mut slot = head;
+    while 0 < left {
+        let r = record(s, outputs, slot);
+        let gate = r.gate;
+        if !reads_written(&flags, inputs, gate) {
+            return false;
+        }
+        flags[inputs + (slot - 1)] = 1;
+        slot = r.next;
+        left -= 1;
+    }
+    true
+}
+
+// A, the number of AND gates.
+pub(crate) fn and_count(s: &[u8], inputs: usize, outputs: usize, gates: usize, head: usize) -> usize
+    requires { ⌜ Chained (now s) inputs outputs gates head ⌝ }
+    ensures { λ r. ⌜ r ≡ ands (gatesFrom (now (s .entry)) gates head) ⌝ }
+{
+    let mut count = 0;
+    let mut left = gates;
+    let mut slot = head;
+    while 0 < left {
+        let r = record(s, outputs, slot);
+        let gate = r.gate;
+        count += and_one(gate);
+        slot = r.next;
+        left -= 1;
+    }
+    count
+}

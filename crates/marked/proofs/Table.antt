@@ -1,0 +1,53 @@
+-- Every marked case is right: one test that antt computes over the whole table, and the lemma that turns it into each row.
+-- Assumes nothing.
+use mathlib.Core.Path.{_≡_, refl, ap, _∙_}
+use mathlib.Core.Bool.{Bool, true, _&&_}
+use mathlib.Core.List.{List, [], _∷_, List·Memᴰ, List·Memᴰ·not-nil, List·Memᴰ·cases-cons}
+use mathlib.Core.Logic.{⊎-elim}
+use Prim.Native.Nat.{ℕ}
+use native.Mathlib.Omega.{arith}
+use borrow.Author.Tests.{eqb-true}
+use Rattle.bits.specs.Bytes.{leAt, sameBytes}
+use Rattle.bits.proofs.Equal.{same-eq}
+use Rattle.bits.proofs.Tests.{and-true-left, and-true-right}
+use Rattle.circuit.specs.Circuit.{put, ands}
+use Rattle.circuit.specs.File.{withinLimits, rightLength, goodRecord, goodRecords, walks, goodChain, chainFrom, gateAt, gatesInOrder, readsWritten, goodOutputs, goodWires, circuitOf, readCircuit}
+use Rattle.circuit.specs.Operations.{Answer, refusal, success, readAnswer, readOp}
+use Rattle.marked.specs.Marked.{Case, reading, Right, sameAnswer, holds, cases}
+
+-- answers that pass the test are equal
+same-answer : (a b : Answer) → sameAnswer a b ≡ true → a ≡ b
+unfolding sameAnswer
+same-answer (refusal j) (refusal k) t = ap refusal (eqb-true j k t)
+same-answer (refusal j) (success ys) t = let z : _≡_ {A = ℕ} 0 1 = cc in absurd (omega arith)
+same-answer (success xs) (refusal k) t = let z : _≡_ {A = ℕ} 0 1 = cc in absurd (omega arith)
+same-answer (success xs) (success ys) t = ap success (same-eq xs ys t)
+
+-- a row that passes its test is right
+row-right : (c : Case) → holds c ≡ true → Right c
+unfolding holds Right
+row-right (reading file answer) t = same-answer (readOp file) answer t
+
+-- all rows of a table pass
+every : List Case → Bool
+every [] = true
+every (c ∷ cs) = holds c && every cs
+
+-- of such a table each row passes
+every-row : (cs : List Case) → every cs ≡ true → (c : Case) → List·Memᴰ c cs → holds c ≡ true
+unfolding every
+every-row [] t c m = absurd (List·Memᴰ·not-nil m)
+every-row (d ∷ cs) t c m =
+    ⊎-elim
+    (λ e. ap holds e ∙ and-true-left (holds d) (every cs) t)
+    (λ r. every-row cs (and-true-right (holds d) (every cs) t) c r)
+    (List·Memᴰ·cases-cons m)
+
+-- the marked cases pass
+table-passes : every cases ≡ true
+unfolding every holds sameAnswer sameBytes leAt put ands withinLimits rightLength goodRecord goodRecords walks goodChain chainFrom gateAt gatesInOrder readsWritten goodOutputs goodWires circuitOf readCircuit readAnswer readOp
+table-passes = refl
+
+-- every marked case is right
+pub marked-cases : (c : Case) → List·Memᴰ c cases → Right c
+marked-cases c m = row-right c (every-row cases table-passes c m)

@@ -1,0 +1,53 @@
+-- The status and the lent numbers of an answer, case by case.
+-- Assumes nothing.
+use mathlib.Core.Path.{_≡_, sym, ap, _∙_}
+use mathlib.Core.List.{List, [], _∷_}
+use Prim.Native.Nat.{ℕ, _<_, _^_}
+use Rattle.refusal.specs.Refusal.{numberOf}
+use Rattle.refusal.specs.declared.Refusal.{Refusal}
+use Rattle.circuit.specs.Operations.{Answer, Outcome, readOp}
+use Rattle.circuit.specs.Answers.{readPaper, outcome}
+use Rattle.circuit.specs.declared.Sizes.{Sizes}
+use Rattle.circuit.specs.declared.ReadAnswer.{ReadAnswer}
+use Rattle.circuit.specs.declared.ReadAnswer.the-variants as readAnswer
+use Rattle.circuit.specs.declared.EvaluateAnswer.{EvaluateAnswer}
+use Rattle.circuit.specs.declared.EvaluateAnswer.the-variants as evaluateAnswer
+use Rattle.circuit.proofs.Small.{read-small}
+use Rattle.wivulameno.specs.Interface.{status, values}
+
+-- the numbers of a legal circuit fit 32 bits
+pub legal-small : (s : List ℕ) (r : ReadAnswer) (z : Sizes) → r ≡ readAnswer.Legal z → readPaper r ≡ readOp s
+    → (z .inputs < 2 ^ 32) × ((z .outputs < 2 ^ 32) × ((z .gates < 2 ^ 32) × (z .ands < 2 ^ 32)))
+legal-small s r z e f = read-small s z (ap readPaper (sym e) ∙ f)
+
+-- a success: 0, and the values
+pub read-done : (a : Answer) (r : ReadAnswer) (z : Sizes) (lent : List ℕ) → r ≡ readAnswer.Legal z → readPaper r ≡ a
+    → (_≡_ {A = ℕ} 0 (status a)) × ((z .inputs ∷ z .outputs ∷ z .gates ∷ z .ands ∷ []) ≡ values a lent)
+unfolding status values
+read-done a r z lent e f =
+    let g : readPaper (readAnswer.Legal z) ≡ a = ap readPaper (sym e) ∙ f in
+    (ap status g, ap (λ (x : Answer). values x lent) g)
+
+-- a refusal: its number, and the lent numbers as they were
+pub read-refused : (a : Answer) (r : ReadAnswer) (k : Refusal) (n : ℕ) (lent : List ℕ) → r ≡ readAnswer.Refused k → readPaper r ≡ a → n ≡ numberOf k
+    → (n ≡ status a) × (lent ≡ values a lent)
+unfolding status values
+read-refused a r k n lent e f h =
+    let g : readPaper (readAnswer.Refused k) ≡ a = ap readPaper (sym e) ∙ f in
+    (h ∙ ap status g, ap (λ (x : Answer). values x lent) g)
+
+-- evaluate's success
+pub evaluate-done : (o : Outcome) (r : EvaluateAnswer) (y : List ℕ) → r ≡ evaluateAnswer.Done → outcome r y ≡ o
+    → (_≡_ {A = ℕ} 0 (status (o .answer))) × (y ≡ o .left)
+unfolding status
+evaluate-done o r y e f =
+    let g : outcome evaluateAnswer.Done y ≡ o = ap (λ (x : EvaluateAnswer). outcome x y) (sym e) ∙ f in
+    (ap (λ (x : Outcome). status (x .answer)) g, ap (λ (x : Outcome). x .left) g)
+
+-- evaluate's refusal
+pub evaluate-refused : (o : Outcome) (r : EvaluateAnswer) (k : Refusal) (n : ℕ) (y : List ℕ) → r ≡ evaluateAnswer.Refused k → outcome r y ≡ o → n ≡ numberOf k
+    → (n ≡ status (o .answer)) × (y ≡ o .left)
+unfolding status
+evaluate-refused o r k n y e f h =
+    let g : outcome (evaluateAnswer.Refused k) y ≡ o = ap (λ (x : EvaluateAnswer). outcome x y) (sym e) ∙ f in
+    (h ∙ ap (λ (x : Outcome). status (x .answer)) g, ap (λ (x : Outcome). x .left) g)

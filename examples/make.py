@@ -1,0 +1,108 @@
+"""Writes the example circuits, and for each a row (witness) that it accepts. Each is evaluated from its bytes first."""
+import sys
+from pathlib import Path
+
+XOR, AND, INV = 1, 2, 3
+
+
+def u16(*numbers):
+    return b"".join(n.to_bytes(2, "little") for n in numbers)
+
+
+def circuit(inputs, outputs, gates, slot_of):
+    """The file: gates are (kind, a, b) in chain order, where a wire is ("in", number) or ("gate", place in the chain);
+    slot_of says in which slot, from 1, the gate of a place is."""
+    count = len(gates)
+    wire = {"in": lambda j: j, "gate": lambda i: inputs + slot_of(i) - 1}
+    number = lambda w: wire[w[0]](w[1]) if w else 0
+    records = [b""] * count
+    for i, (kind, a, b) in enumerate(gates):
+        following = slot_of(i + 1) if i + 1 < count else 0
+        records[slot_of(i) - 1] = bytes([kind, 0]) + u16(number(a), number(b), following)
+    head = slot_of(0) if gates else 0
+    return u16(inputs, len(outputs), count, head, *map(number, outputs)) + b"".join(records)
+
+
+def evaluate(file, row):
+    """The output bits, with the rules of reading asserted on the way."""
+    get = lambda at: int.from_bytes(file[at : at + 2], "little")
+    inputs, outs, count, slot = get(0), get(2), get(4), get(6)
+    assert 1 <= inputs <= 512 and 1 <= outs <= 256 and count <= 4096
+    assert len(file) == 8 + 2 * outs + 8 * count and len(row) == (inputs + 7) // 8
+    value = {j: row[j // 8] >> j % 8 & 1 for j in range(inputs)}
+    for _ in range(count):
+        assert 1 <= slot <= count
+        at = 8 + 2 * outs + 8 * (slot - 1)
+        kind, zero, a, b = file[at], file[at + 1], get(at + 2), get(at + 4)
+        assert kind in (XOR, AND, INV) and zero == 0 and (kind != INV or b == 0)
+        x = value[a]
+        result = {XOR: lambda: x ^ value[b], AND: lambda: x & value[b], INV: lambda: 1 - x}[kind]()
+        assert inputs + slot - 1 not in value
+        value[inputs + slot - 1] = result
+        slot = get(at + 6)
+    assert slot == 0
+    return [value[get(8 + 2 * j)] for j in range(outs)]
+
+
+def at_least(width, a, b):
+    """Is number a at least number b? a and b are the first wires of the two.
+    The borrow of a - b goes from bit to bit: where the bits differ it becomes that of b, else it stays. So
+    borrow' = (NOT a AND b) OR (borrow AND NOT (a XOR b)) = borrow XOR ((a XOR b) AND (b XOR borrow)): one AND for each bit."""
+    gates = []
+
+    def gate(kind, x, y=None):
+        gates.append((kind, x, y))
+        return ("gate", len(gates) - 1)
+
+    borrow = None
+    for j in range(width):
+        x, y = ("in", a + j), ("in", b + j)
+        differ = gate(XOR, x, y)
+        if borrow is None:
+            borrow = gate(AND, differ, y)
+        else:
+            borrow = gate(XOR, borrow, gate(AND, differ, gate(XOR, y, borrow)))
+    answer = gate(INV, borrow)
+    return circuit(2 * width, [answer], gates, lambda i: i + 1)
+
+
+def worst():
+    """All limits at once: 512 inputs, one AND after the other through 4,096 slots in a mixed order."""
+    gates = [(AND, ("in", 0), ("in", 1))]
+    gates += [(AND, ("gate", i - 1), ("in", (i + 1) % 512)) for i in range(1, 4096)]
+    return circuit(512, [("gate", 4095)], gates, lambda i: 2731 * i % 4096 + 1)
+
+
+def pair(width, low, high):
+    """The row of two numbers, the first in the low bits."""
+    return (low | high << width).to_bytes(width // 4, "little")
+
+
+def numbers(width):
+    top = 2**width - 1
+    return [0, 1, 2, 3, 7, 8, 255, 256, 1000, top // 2, top // 2 + 1, top - 1, top]
+
+
+def main(folder):
+    ones = bytes([255] * 64)
+    table = {
+        # name: the circuit, a row that it accepts, a row that it does not
+        "stock16": (at_least(16, 0, 16), pair(16, 1000, 250), pair(16, 250, 1000)),
+        "stock32": (at_least(32, 0, 32), pair(32, 3_000_000_000, 2_999_999_999), pair(32, 2_999_999_999, 3_000_000_000)),
+        "date": (at_least(16, 16, 0), pair(16, 20_000, 20_045), pair(16, 20_045, 20_000)),
+        "worst": (worst(), ones, ones[:-1] + b"\x7f"),
+    }
+    for width, name in (16, "stock16"), (32, "stock32"):
+        for a in numbers(width):
+            for b in numbers(width):
+                assert evaluate(table[name][0], pair(width, a, b)) == [int(a >= b)]
+    for today in numbers(16):
+        for day in numbers(16):
+            assert evaluate(table["date"][0], pair(16, today, day)) == [int(day >= today)]
+    for name, (file, row, failing) in table.items():
+        assert evaluate(file, row) == [1] and evaluate(file, failing) == [0]
+        (folder / f"{name}.circuit").write_bytes(file)
+        (folder / f"{name}.row").write_bytes(row)
+
+
+main(Path(sys.argv[1]) if len(sys.argv) > 1 else Path(__file__).resolve().parent)

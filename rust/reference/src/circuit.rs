@@ -1,0 +1,270 @@
+//! The circuit file: reading and evaluating.
+
+use crate::bits::{get, oct, put, rest_is_zero};
+use crate::{u16_at, Refusal};
+
+const XOR: u8 = 1;
+const AND: u8 = 2;
+const INV: u8 = 3;
+
+/// I, O, G and A.
+#[derive(Clone, Copy, Debug, PartialEq, Eq)]
+pub struct Sizes {
+    pub inputs: usize,
+    pub outputs: usize,
+    pub gates: usize,
+    pub ands: usize,
+}
+
+/// One record of 8 bytes, as it stands.
+struct Record {
+    kind: u8,
+    zero: u8,
+    a: usize,
+    b: usize,
+    next: usize,
+}
+
+/// A circuit that was read: gates in chain order, each with the wire it writes.
+struct Circuit {
+    inputs: usize,
+    outputs: Vec<usize>,
+    gates: Vec<(Record, usize)>,
+}
+
+/// Reads a circuit file: refusals 1 to 5.
+pub fn read(file: &[u8]) -> Result<Sizes, Refusal> {
+    let circuit = legal(file)?;
+    let ands = circuit.gates.iter().filter(|(gate, _)| gate.kind == AND);
+    Ok(Sizes {
+        inputs: circuit.inputs,
+        outputs: circuit.outputs.len(),
+        gates: circuit.gates.len(),
+        ands: ands.count(),
+    })
+}
+
+/// Fills `y` with the outputs for `witness`: refusals 1 to 5, 6 and 7.
+pub fn evaluate(file: &[u8], witness: &[u8], y: &mut [u8]) -> Result<(), Refusal> {
+    let circuit = legal(file)?;
+    if witness.len() != oct(circuit.inputs) || y.len() != oct(circuit.outputs.len()) {
+        return Err(6);
+    }
+    if !rest_is_zero(witness, circuit.inputs) {
+        return Err(7);
+    }
+    let values = circuit.values(witness);
+    y.fill(0);
+    for (place, &wire) in circuit.outputs.iter().enumerate() {
+        put(y, place, values[wire]);
+    }
+    Ok(())
+}
+
+/// The circuit of a file. Each test is made over the whole file before the next.
+fn legal(file: &[u8]) -> Result<Circuit, Refusal> {
+    if file.len() < 8 {
+        return Err(1);
+    }
+    let [inputs, outputs, gates, head] = [0, 2, 4, 6].map(|place| u16_at(file, place));
+    if !(1..=512).contains(&inputs) || !(1..=256).contains(&outputs) || gates > 4096 {
+        return Err(2);
+    }
+    if file.len() != 8 + 2 * outputs + 8 * gates {
+        return Err(1);
+    }
+    let (outputs, records) = file[8..].split_at(2 * outputs);
+    let outputs: Vec<usize> = outputs.chunks(2).map(|wire| u16_at(wire, 0)).collect();
+    let records: Vec<Record> = records.chunks(8).map(Record::of).collect();
+    if !records.iter().all(Record::is_in_form) {
+        return Err(3);
+    }
+    let slots = chain(head, &records).ok_or(4_u32)?;
+    let circuit = Circuit {
+        inputs,
+        outputs,
+        gates: in_order(&slots, records, inputs),
+    };
+    if !circuit.wires_are_written() {
+        return Err(5);
+    }
+    Ok(circuit)
+}
+
+impl Record {
+    fn of(bytes: &[u8]) -> Record {
+        Record {
+            kind: bytes[0],
+            zero: bytes[1],
+            a: u16_at(bytes, 2),
+            b: u16_at(bytes, 4),
+            next: u16_at(bytes, 6),
+        }
+    }
+
+    fn is_in_form(&self) -> bool {
+        let kind_is_known = matches!(self.kind, XOR | AND) || (self.kind == INV && self.b == 0);
+        kind_is_known && self.zero == 0
+    }
+
+    /// The wires that the gate reads.
+    fn reads(&self) -> Vec<usize> {
+        match self.kind {
+            INV => vec![self.a],
+            _ => vec![self.a, self.b],
+        }
+    }
+}
+
+/// The slots from `head` on, if each is met exactly once and the chain ends.
+fn chain(head: usize, records: &[Record]) -> Option<Vec<usize>> {
+    let mut slots = vec![];
+    let mut met = vec![false; records.len() + 1];
+    let mut slot = head;
+    while slot != 0 {
+        if slot > records.len() || met[slot] {
+            return None;
+        }
+        met[slot] = true;
+        slots.push(slot);
+        slot = records[slot - 1].next;
+    }
+    (slots.len() == records.len()).then_some(slots)
+}
+
+/// The records in the order of `slots`; slot k writes wire I + k - 1.
+fn in_order(slots: &[usize], records: Vec<Record>, inputs: usize) -> Vec<(Record, usize)> {
+    let mut records: Vec<Option<Record>> = records.into_iter().map(Some).collect();
+    let gates = slots.iter().map(|slot| {
+        let record = records[slot - 1].take().expect("each slot once");
+        (record, inputs + slot - 1)
+    });
+    gates.collect()
+}
+
+impl Circuit {
+    fn wires(&self) -> usize {
+        self.inputs + self.gates.len()
+    }
+
+    /// Does each gate read only wires written by then, and is each output a wire?
+    fn wires_are_written(&self) -> bool {
+        let mut written = vec![false; self.wires()];
+        written[..self.inputs].fill(true);
+        for (gate, wire) in &self.gates {
+            let is_written = |wire: usize| written.get(wire) == Some(&true);
+            if !gate.reads().into_iter().all(is_written) {
+                return false;
+            }
+            written[*wire] = true;
+        }
+        self.outputs.iter().all(|&wire| wire < self.wires())
+    }
+
+    /// The value of every wire.
+    fn values(&self, witness: &[u8]) -> Vec<bool> {
+        let mut values = vec![false; self.wires()];
+        for (wire, value) in values[..self.inputs].iter_mut().enumerate() {
+            *value = get(witness, wire);
+        }
+        for (gate, wire) in &self.gates {
+            values[*wire] = match gate.kind {
+                XOR => values[gate.a] ^ values[gate.b],
+                AND => values[gate.a] & values[gate.b],
+                _ => !values[gate.a],
+            };
+        }
+        values
+    }
+}
+
+#[cfg(test)]
+mod tests {
+    use super::*;
+
+    /// The circuit K of the scope paper: one AND of two inputs.
+    const K: [u8; 18] = [2, 0, 1, 0, 1, 0, 1, 0, 2, 0, 2, 0, 0, 0, 1, 0, 0, 0];
+
+    /// K with another byte at `place`.
+    fn k_with(place: usize, byte: u8) -> [u8; 18] {
+        let mut file = K;
+        file[place] = byte;
+        file
+    }
+
+    fn sizes(inputs: usize, outputs: usize, gates: usize, ands: usize) -> Sizes {
+        Sizes {
+            inputs,
+            outputs,
+            gates,
+            ands,
+        }
+    }
+
+    #[test]
+    fn m1_k_is_read() {
+        assert_eq!(read(&K), Ok(sizes(2, 1, 1, 1)));
+    }
+
+    #[test]
+    fn m2_a_record_that_follows_itself() {
+        assert_eq!(read(&k_with(16, 1)), Err(4));
+    }
+
+    #[test]
+    fn m3_a_gate_that_reads_itself() {
+        assert_eq!(read(&k_with(14, 2)), Err(5));
+    }
+
+    #[test]
+    fn m4_the_empty_input() {
+        assert_eq!(read(&[]), Err(1));
+    }
+
+    #[test]
+    fn m5_no_gates() {
+        let file = [1, 0, 1, 0, 0, 0, 0, 0, 0, 0];
+        assert_eq!(read(&file), Ok(sizes(1, 1, 0, 0)));
+    }
+
+    /// Truth tables; INV reads its first wire.
+    #[test]
+    fn the_three_kinds() {
+        let table = |kind, b| {
+            let mut file = k_with(10, kind);
+            file[14] = b;
+            [0, 1, 2, 3].map(|witness| {
+                let mut y = [0xff];
+                evaluate(&file, &[witness], &mut y).map(|()| y[0])
+            })
+        };
+        assert_eq!(table(XOR, 1), [Ok(0), Ok(1), Ok(1), Ok(0)]);
+        assert_eq!(table(AND, 1), [Ok(0), Ok(0), Ok(0), Ok(1)]);
+        assert_eq!(table(INV, 0), [Ok(1), Ok(0), Ok(1), Ok(0)]);
+    }
+
+    /// Three gates in the order 2, 3, 1: wire 3 is !x, wire 4 is !!x, wire 2 is
+    /// their XOR with y.
+    #[test]
+    fn a_chain_out_of_slot_order() {
+        let mut file = vec![2, 0, 3, 0, 3, 0, 2, 0, 2, 0, 3, 0, 3, 0];
+        file.extend([1, 0, 4, 0, 1, 0, 0, 0]);
+        file.extend([3, 0, 0, 0, 0, 0, 3, 0]);
+        file.extend([3, 0, 3, 0, 0, 0, 1, 0]);
+        assert_eq!(read(&file), Ok(sizes(2, 3, 3, 0)));
+        let mut y = [0xff];
+        for (witness, expected) in [(0, 6), (1, 1), (2, 7), (3, 0)] {
+            assert_eq!(evaluate(&file, &[witness], &mut y), Ok(()));
+            assert_eq!(y, [expected]);
+        }
+    }
+
+    #[test]
+    fn lengths_before_unused_bits() {
+        let mut y = [0x55];
+        assert_eq!(evaluate(&K, &[4, 0], &mut y), Err(6));
+        assert_eq!(evaluate(&K, &[4], &mut []), Err(6));
+        assert_eq!(evaluate(&K, &[4], &mut y), Err(7));
+        assert_eq!(y, [0x55]);
+    }
+}

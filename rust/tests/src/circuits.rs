@@ -1,0 +1,391 @@
+//! Circuit files, legal and damaged.
+
+use crate::random::Random;
+
+pub const XOR: u8 = 1;
+pub const AND: u8 = 2;
+pub const INV: u8 = 3;
+
+/// A record; the fields are as wide as in the file.
+#[derive(Clone, Copy, Debug)]
+pub struct Gate {
+    pub kind: u8,
+    pub zero: u8,
+    pub a: u16,
+    pub b: u16,
+    pub next: u16,
+}
+
+/// A circuit file, field by field. `counts` is I, O and G as the head says.
+#[derive(Clone, Debug)]
+pub struct File {
+    pub counts: [u16; 3],
+    pub head: u16,
+    pub outputs: Vec<u16>,
+    pub gates: Vec<Gate>,
+}
+
+impl File {
+    pub fn bytes(&self) -> Vec<u8> {
+        let [i, o, g] = self.counts;
+        let mut words = vec![i, o, g, self.head];
+        words.extend(&self.outputs);
+        for gate in &self.gates {
+            words.push(u16::from_le_bytes([gate.kind, gate.zero]));
+            words.extend([gate.a, gate.b, gate.next]);
+        }
+        words.iter().flat_map(|word| word.to_le_bytes()).collect()
+    }
+
+    /// Sets head and links so that the chain visits `slots`.
+    pub fn link(&mut self, slots: &[usize]) {
+        let mut next = 0;
+        for &slot in slots.iter().rev() {
+            self.gates[slot - 1].next = next;
+            next = slot as u16;
+        }
+        self.head = next;
+    }
+}
+
+/// A legal file with the least I, O and G that have this number of gates, all
+/// INV of input 0, in slot order.
+pub fn row_of_gates(gates: usize) -> File {
+    let gate = Gate {
+        kind: INV,
+        zero: 0,
+        a: 0,
+        b: 0,
+        next: 0,
+    };
+    let mut file = File {
+        counts: [1, 1, gates as u16],
+        head: 0,
+        outputs: vec![0],
+        gates: vec![gate; gates],
+    };
+    file.link(&(1..=gates).collect::<Vec<_>>());
+    file
+}
+
+/// A legal file of sizes [I, O, G] whose chain visits `slots` in this order.
+pub fn legal(random: &mut Random, sizes: [usize; 3], slots: &[usize]) -> File {
+    let [inputs, outputs, gates] = sizes;
+    let mut file = row_of_gates(gates);
+    file.counts = sizes.map(|size| size as u16);
+    file.link(slots);
+    let mut written: Vec<u16> = (0..inputs as u16).collect();
+    for slot in slots {
+        let gate = &mut file.gates[slot - 1];
+        gate.kind = random.pick(&[XOR, AND, INV]);
+        gate.a = a_wire(random, &written);
+        gate.b = match gate.kind {
+            INV => 0,
+            _ => a_wire(random, &written),
+        };
+        written.push((inputs + slot - 1) as u16);
+    }
+    let wires = random.from_to(1, written.len());
+    let outputs = (0..outputs).map(|_| random.below(wires) as u16);
+    file.outputs = outputs.collect();
+    file
+}
+
+/// One of the written wires, often a late one.
+fn a_wire(random: &mut Random, written: &[u16]) -> u16 {
+    let late = written.len().min(8);
+    match random.below(2) {
+        0 => random.pick(written),
+        _ => random.pick(&written[written.len() - late..]),
+    }
+}
+
+/// Sizes within the limits, mostly small ones; sometimes no gates.
+pub fn any_sizes(random: &mut Random) -> [usize; 3] {
+    let most = match random.below(400) {
+        0 => [512, 256, 4096],
+        1..=30 => [512, 256, 300],
+        31..=200 => [40, 20, 40],
+        _ => [4, 4, 5],
+    };
+    let gates = match random.below(20) {
+        0 => 0,
+        _ => random.from_to(0, most[2]),
+    };
+    [
+        random.from_to(1, most[0]),
+        random.from_to(1, most[1]),
+        gates,
+    ]
+}
+
+/// Slots in order, in the other order, or in any order.
+pub fn any_slots(random: &mut Random, gates: usize) -> Vec<usize> {
+    match random.below(6) {
+        0 => (1..=gates).collect(),
+        1 => (1..=gates).rev().collect(),
+        _ => random.order(gates),
+    }
+}
+
+/// The bytes of `file`, whose chain visits `slots`, with one damage or two.
+pub fn damaged(random: &mut Random, file: &File, slots: &[usize]) -> Vec<u8> {
+    let kinds = [(1, 0), (1, 0), (1, 0), (0, 1), (2, 0), (1, 1)];
+    let (in_fields, in_bytes) = random.pick(&kinds);
+    let mut file = file.clone();
+    for _ in 0..in_fields {
+        random.pick(&FIELD_DAMAGES)(&mut file, slots, random);
+    }
+    let mut bytes = file.bytes();
+    for _ in 0..in_bytes {
+        bytes = random.pick(&BYTE_DAMAGES)(bytes, random);
+    }
+    bytes
+}
+
+type FieldDamage = fn(&mut File, &[usize], &mut Random);
+type ByteDamage = fn(Vec<u8>, &mut Random) -> Vec<u8>;
+
+const FIELD_DAMAGES: [FieldDamage; 16] = [
+    count_out_of_limits,
+    another_count,
+    another_kind,
+    second_byte,
+    inv_with_b,
+    cycle,
+    two_chains,
+    early_end,
+    left_out,
+    past_the_end,
+    another_head,
+    reads_itself,
+    reads_later,
+    reads_no_wire,
+    reads_any_wire,
+    output_no_wire,
+];
+
+const BYTE_DAMAGES: [ByteDamage; 3] = [flip, cut, longer];
+
+fn flip(mut bytes: Vec<u8>, random: &mut Random) -> Vec<u8> {
+    let place = random.below(bytes.len());
+    bytes[place] ^= 1 << random.below(8);
+    bytes
+}
+
+/// Often one byte less.
+fn cut(mut bytes: Vec<u8>, random: &mut Random) -> Vec<u8> {
+    let len = random.below(bytes.len());
+    bytes.truncate(random.pick(&[len, bytes.len() - 1]));
+    bytes
+}
+
+fn longer(bytes: Vec<u8>, random: &mut Random) -> Vec<u8> {
+    let more = random.pick(&[1, 1, 2, 8, 65_536]);
+    [bytes, random.bytes(more)].concat()
+}
+
+fn count_out_of_limits(file: &mut File, _: &[usize], random: &mut Random) {
+    let which = random.below(3);
+    file.counts[which] = match which {
+        0 => random.pick(&[0, 513, 514, 1024, 65_535]),
+        1 => random.pick(&[0, 257, 258, 512, 65_535]),
+        _ => random.pick(&[4097, 4098, 8192, 65_535]),
+    };
+}
+
+/// One more or less; more inputs move the wires that the gates write.
+fn another_count(file: &mut File, _: &[usize], random: &mut Random) {
+    let count = &mut file.counts[random.below(3)];
+    *count = match random.below(2) {
+        0 => count.wrapping_sub(1),
+        _ => count.wrapping_add(1),
+    };
+}
+
+/// Any gate. A file without gates gets none.
+fn any_gate<'a>(file: &'a mut File, random: &mut Random) -> Option<&'a mut Gate> {
+    let count = file.gates.len();
+    (count > 0).then(|| &mut file.gates[random.below(count)])
+}
+
+fn another_kind(file: &mut File, _: &[usize], random: &mut Random) {
+    if let Some(gate) = any_gate(file, random) {
+        gate.kind = random.pick(&[0, 4, 5, 0x81, 0x82, 0xff]);
+    }
+}
+
+fn second_byte(file: &mut File, _: &[usize], random: &mut Random) {
+    if let Some(gate) = any_gate(file, random) {
+        gate.zero = random.from_to(1, 255) as u8;
+    }
+}
+
+fn inv_with_b(file: &mut File, _: &[usize], random: &mut Random) {
+    if let Some(gate) = any_gate(file, random) {
+        gate.kind = INV;
+        gate.b = random.pick(&[1, 2, 256, 65_535]);
+    }
+}
+
+/// A place on the chain that has a place after it.
+fn inner(slots: &[usize], random: &mut Random) -> Option<usize> {
+    (slots.len() > 1).then(|| random.below(slots.len() - 1))
+}
+
+/// The chain visits each slot once, but does not end.
+fn cycle(file: &mut File, slots: &[usize], random: &mut Random) {
+    if let Some(last) = slots.last() {
+        file.gates[last - 1].next = random.pick(slots) as u16;
+    }
+}
+
+/// The first part of the chain ends; the rest is a ring of its own.
+fn two_chains(file: &mut File, slots: &[usize], random: &mut Random) {
+    if let Some(place) = inner(slots, random) {
+        file.gates[slots[place] - 1].next = 0;
+        let last = slots[slots.len() - 1];
+        file.gates[last - 1].next = slots[place + 1] as u16;
+    }
+}
+
+fn early_end(file: &mut File, slots: &[usize], random: &mut Random) {
+    if let Some(place) = inner(slots, random) {
+        file.gates[slots[place] - 1].next = 0;
+    }
+}
+
+/// One slot is passed over.
+fn left_out(file: &mut File, slots: &[usize], random: &mut Random) {
+    if let Some(place) = inner(slots, random) {
+        let passed = slots[place + 1];
+        file.gates[slots[place] - 1].next = file.gates[passed - 1].next;
+    }
+}
+
+fn past_the_end(file: &mut File, _: &[usize], random: &mut Random) {
+    let first = file.gates.len() + 1;
+    let link = random.pick(&[first, first + 1, 0x8001, 65_535]) as u16;
+    if random.once_in(4) {
+        file.head = link;
+    } else if let Some(gate) = any_gate(file, random) {
+        gate.next = link;
+    }
+}
+
+fn another_head(file: &mut File, _: &[usize], random: &mut Random) {
+    let count = file.gates.len().max(1);
+    file.head = random.from_to(0, count) as u16;
+}
+
+/// Sets a wire that the gate in `slot` reads.
+fn set_wire(file: &mut File, slot: usize, wire: usize, random: &mut Random) {
+    let gate = &mut file.gates[slot - 1];
+    if gate.kind == INV || random.once_in(2) {
+        gate.a = wire as u16;
+    } else {
+        gate.b = wire as u16;
+    }
+}
+
+fn reads_itself(file: &mut File, slots: &[usize], random: &mut Random) {
+    if !slots.is_empty() {
+        let slot = random.pick(slots);
+        let wire = usize::from(file.counts[0]) + slot - 1;
+        set_wire(file, slot, wire, random);
+    }
+}
+
+/// A gate reads what a later gate on the chain writes.
+fn reads_later(file: &mut File, slots: &[usize], random: &mut Random) {
+    if let Some(place) = inner(slots, random) {
+        let later = random.from_to(place + 1, slots.len() - 1);
+        let wire = usize::from(file.counts[0]) + slots[later] - 1;
+        set_wire(file, slots[place], wire, random);
+    }
+}
+
+fn reads_no_wire(file: &mut File, slots: &[usize], random: &mut Random) {
+    if !slots.is_empty() {
+        let wires = usize::from(file.counts[0]) + file.gates.len();
+        let wire = random.pick(&[wires, wires + 1, 65_535]);
+        set_wire(file, random.pick(slots), wire, random);
+    }
+}
+
+/// May be a legal file again.
+fn reads_any_wire(file: &mut File, slots: &[usize], random: &mut Random) {
+    if !slots.is_empty() {
+        let wires = usize::from(file.counts[0]) + file.gates.len();
+        let wire = random.below(wires + 1);
+        set_wire(file, random.pick(slots), wire, random);
+    }
+}
+
+fn output_no_wire(file: &mut File, _: &[usize], random: &mut Random) {
+    let wires = usize::from(file.counts[0]) + file.gates.len();
+    let place = random.below(file.outputs.len());
+    file.outputs[place] = random.pick(&[wires, wires, wires + 1, 65_535]) as u16;
+}
+
+#[cfg(test)]
+mod tests {
+    use super::*;
+
+    #[test]
+    fn bytes_of_a_file() {
+        let file = File {
+            counts: [2, 1, 1],
+            head: 1,
+            outputs: vec![2],
+            gates: vec![Gate {
+                kind: AND,
+                zero: 0,
+                a: 0,
+                b: 1,
+                next: 0,
+            }],
+        };
+        let k = [2, 0, 1, 0, 1, 0, 1, 0, 2, 0, 2, 0, 0, 0, 1, 0, 0, 0];
+        assert_eq!(file.bytes(), k);
+    }
+
+    #[test]
+    fn legal_files_are_read() {
+        let mut random = Random::new(1);
+        for _ in 0..300 {
+            let sizes = any_sizes(&mut random);
+            let slots = any_slots(&mut random, sizes[2]);
+            let file = legal(&mut random, sizes, &slots);
+            let read = reference::circuit::read(&file.bytes()).expect("a legal file");
+            assert_eq!([read.inputs, read.outputs, read.gates], sizes);
+        }
+    }
+
+    /// On a file with gates, each of these damages has its own refusal.
+    #[test]
+    fn each_damage_is_one() {
+        let known: [(FieldDamage, u32); 13] = [
+            (count_out_of_limits, 2),
+            (another_kind, 3),
+            (second_byte, 3),
+            (inv_with_b, 3),
+            (cycle, 4),
+            (two_chains, 4),
+            (early_end, 4),
+            (left_out, 4),
+            (past_the_end, 4),
+            (reads_itself, 5),
+            (reads_later, 5),
+            (reads_no_wire, 5),
+            (output_no_wire, 5),
+        ];
+        let mut random = Random::new(2);
+        for (damage, refusal) in known.iter().cycle().take(1300) {
+            let slots = random.order(7);
+            let mut file = legal(&mut random, [3, 3, 7], &slots);
+            damage(&mut file, &slots, &mut random);
+            assert_eq!(reference::circuit::read(&file.bytes()), Err(*refusal));
+        }
+    }
+}
