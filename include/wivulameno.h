@@ -78,6 +78,85 @@ uint32_t wv_evaluate(const uint8_t *circuit, size_t circuit_len,
                      const uint8_t *witness, size_t witness_len,
                      uint8_t *y, size_t y_len);
 
+/*
+ * A shelf is a page of S slots (1 to 255) that hold roots of 16 bytes, each to
+ * be drawn once. All numbers are little-endian. The page is 12 + 18 S bytes: S,
+ * the first ready slot, the first spare slot and a zero, 16 bits each; then
+ * draws, 32 bits; then slots 1 to S, each the number of the next slot of its
+ * chain (16 bits, 0 ends it) and a root. The ready chain and the spare chain
+ * together meet every slot exactly once; a spare slot holds a root of zeros. A
+ * page for which this does not hold is unsound, and is refused with 14.
+ *
+ * A new page: S, 0, 1, 0; draws as the log's count; slot k names slot k + 1,
+ * the last one 0; all roots zero.
+ *
+ * What the host must do. A copy of an old page still holds roots that have been
+ * drawn since. The page alone cannot tell, so the host keeps a log with the
+ * count of accepted draws, at a place that no restore, snapshot or backup of
+ * the page ever sets back, and passes that count to every draw. A draw with
+ * another count than the page's draws is refused with 15. This holds only if
+ * the log has counted every accepted draw, durably, before the next call, and
+ * if nothing but these functions changes a page. For each draw, in this order:
+ *
+ *   1. Call wv_draw on the page in memory, with the log's count.
+ *   2. Write the new page beside the old one, and wait until it is on disk.
+ *   3. Add 1 to the log's count, and wait until it is on disk.
+ *   4. Put the new page in the place of the old one, in one step (rename).
+ *   5. Only now use the root.
+ *
+ * After a crash, compare the log's count with the draws of the pages found:
+ *
+ *   - A page whose draws is the log's count is the present one. Put it in
+ *     place, and delete the other. Crashed before step 3, this is the old page,
+ *     and the root was not used; after it, this is the new page, and the root
+ *     is lost if it was not used.
+ *   - The page is behind the log: the new page is gone, or an old copy was put
+ *     back. It still holds roots that may have been used, and every draw on it
+ *     is refused with 15. Put the page of the present count there, from
+ *     wherever it was kept. If there is none, start a new page without roots,
+ *     its draws set to the log's count, and stock new roots.
+ *   - A host that puts the page in place before it writes the log can find the
+ *     page one draw ahead: 15 again. That draw was accepted, so it must be
+ *     counted: add 1 to the log's count, and take its root as lost. A page
+ *     further ahead than that means that the log itself was set back. Then no
+ *     page can be trusted: delete them all, and start a new page and a new log.
+ *
+ * Never change the draws of a page, and never count the log down, to make the
+ * two agree. Never put the counting off until the host's own work commits. This
+ * is how a root goes out twice.
+ *
+ * wv_stock takes no count and cannot see an old page: a root stocked on one is
+ * lost when the present page is put back. Save the page as in steps 2 and 4
+ * after a stocking too. Each stocking counts as its own, so the same root
+ * stocked twice can be drawn twice: stock each root once, keep no copy, and
+ * after a crash take a new root rather than one that may be on the page.
+ */
+
+/*
+ * Writes the root to the first spare slot of the page and moves that slot to
+ * the front of the ready chain. The page is changed in place. Refuses in this
+ * order:
+ *   14  the page is unsound
+ *    6  the root is not of 16 bytes
+ *   17  there is no spare slot
+ */
+uint32_t wv_stock(uint8_t *page, size_t page_len,
+                  const uint8_t *root, size_t root_len);
+
+/*
+ * Writes the first ready root of the page to root, sets it to zeros in the
+ * page, moves its slot to the front of the spare chain and adds 1 to draws. The
+ * page is changed in place. Count is the count of the host's log; see above for
+ * what the log must do before the next call. Refuses in this order:
+ *   14  the page is unsound
+ *   15  count is not the page's draws
+ *   16  there is no ready root
+ *   18  draws is 4294967295: this shelf is at its end. Delete its pages, and
+ *       start a new page with a new log
+ */
+uint32_t wv_draw(uint8_t *page, size_t page_len, uint64_t count,
+                 uint8_t root[16]);
+
 #ifdef __cplusplus
 }
 #endif

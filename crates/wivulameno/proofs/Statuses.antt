@@ -13,7 +13,10 @@ use Rattle.circuit.specs.declared.ReadAnswer.the-variants as readAnswer
 use Rattle.circuit.specs.declared.EvaluateAnswer.{EvaluateAnswer}
 use Rattle.circuit.specs.declared.EvaluateAnswer.the-variants as evaluateAnswer
 use Rattle.circuit.proofs.Small.{read-small}
-use Rattle.wivulameno.specs.Interface.{status, values}
+use Rattle.shelf.specs.Operations.{Said, accepted, refused, said}
+use Rattle.shelf.specs.declared.Answer.{Answer as ShelfAnswer}
+use Rattle.shelf.specs.declared.Answer.the-variants as shelfAnswer
+use Rattle.wivulameno.specs.Interface.{status, values, shelfStatus, rootLeft}
 
 -- the numbers of a legal circuit fit 32 bits
 pub legal-small : (s : List ℕ) (r : ReadAnswer) (z : Sizes) → r ≡ readAnswer.Legal z → readPaper r ≡ readOp s
@@ -51,3 +54,47 @@ unfolding status
 evaluate-refused o r k n y e f h =
     let g : outcome (evaluateAnswer.Refused k) y ≡ o = ap (λ (x : EvaluateAnswer). outcome x y) (sym e) ∙ f in
     (h ∙ ap (λ (x : Outcome). status (x .answer)) g, ap (λ (x : Outcome). x .left) g)
+
+-- a stocking that is accepted
+pub stock-done : (o : Said × List ℕ) (r : ShelfAnswer) (p : List ℕ) → r ≡ shelfAnswer.Accepted → _≡_ {A = Said × List ℕ} (said r, p) o
+    → (_≡_ {A = ℕ} 0 (shelfStatus (o .0))) × (p ≡ o .1)
+unfolding shelfStatus said
+stock-done o r p e f = (
+  ap (λ (x : ShelfAnswer). shelfStatus (said x)) (sym e) ∙ ap (λ (x : Said × List ℕ). shelfStatus (x .0)) f,
+  ap (λ (x : Said × List ℕ). x .1) f,
+)
+
+-- a stocking that is refused
+pub stock-refused : (o : Said × List ℕ) (r : ShelfAnswer) (k : Refusal) (n : ℕ) (p : List ℕ) → r ≡ shelfAnswer.Refused k → _≡_ {A = Said × List ℕ} (said r, p) o
+    → n ≡ numberOf k → (n ≡ shelfStatus (o .0)) × (p ≡ o .1)
+unfolding shelfStatus said
+stock-refused o r k n p e f h = (
+  h ∙ ap (λ (x : ShelfAnswer). shelfStatus (said x)) (sym e) ∙ ap (λ (x : Said × List ℕ). shelfStatus (x .0)) f,
+  ap (λ (x : Said × List ℕ). x .1) f,
+)
+
+-- a draw that is accepted
+pub draw-done : (o : Said × List ℕ × List ℕ) (r : ShelfAnswer) (root p lent : List ℕ) → r ≡ shelfAnswer.Accepted
+    → _≡_ {A = Said × List ℕ × List ℕ} (said r, root, p) o
+    → (_≡_ {A = ℕ} 0 (shelfStatus (o .0))) × ((p ≡ o .2) × (root ≡ rootLeft (o .0) (o .1) lent))
+unfolding shelfStatus said rootLeft
+draw-done o r root p lent e f = (
+  ap (λ (x : ShelfAnswer). shelfStatus (said x)) (sym e) ∙ ap (λ (x : Said × List ℕ × List ℕ). shelfStatus (x .0)) f,
+  (
+    ap (λ (x : Said × List ℕ × List ℕ). x .2) f,
+    ap (λ (x : ShelfAnswer). rootLeft (said x) root lent) (sym e) ∙ ap (λ (x : Said × List ℕ × List ℕ). rootLeft (x .0) (x .1) lent) f,
+  ),
+)
+
+-- a draw that is refused
+pub draw-refused : (o : Said × List ℕ × List ℕ) (r : ShelfAnswer) (k : Refusal) (n : ℕ) (root p lent : List ℕ) → r ≡ shelfAnswer.Refused k
+    → _≡_ {A = Said × List ℕ × List ℕ} (said r, root, p) o → n ≡ numberOf k
+    → (n ≡ shelfStatus (o .0)) × ((p ≡ o .2) × (lent ≡ rootLeft (o .0) (o .1) lent))
+unfolding shelfStatus said rootLeft
+draw-refused o r k n root p lent e f h = (
+  h ∙ ap (λ (x : ShelfAnswer). shelfStatus (said x)) (sym e) ∙ ap (λ (x : Said × List ℕ × List ℕ). shelfStatus (x .0)) f,
+  (
+    ap (λ (x : Said × List ℕ × List ℕ). x .2) f,
+    ap (λ (x : ShelfAnswer). rootLeft (said x) root lent) (sym e) ∙ ap (λ (x : Said × List ℕ × List ℕ). rootLeft (x .0) (x .1) lent) f,
+  ),
+)

@@ -2,7 +2,8 @@
 -- Assumes nothing.
 use mathlib.Core.List.{List, [], _∷_}
 use Prim.Native.Nat.{ℕ}
-use Rattle.circuit.specs.Operations.{Answer, refusal, success, Outcome}
+use Rattle.circuit.specs.Operations.{Answer, refusal, success}
+use Rattle.shelf.specs.Operations.{Said, accepted, refused}
 
 -- the status of an answer
 unfoldable pub status : Answer → ℕ
@@ -13,3 +14,13 @@ status (success vs) = 0
 unfoldable pub values : Answer → List ℕ → List ℕ
 values (refusal k) lent = lent
 values (success vs) lent = vs
+
+-- the status of a shelf's answer
+unfoldable pub shelfStatus : Said → ℕ
+shelfStatus accepted = 0
+shelfStatus (refused k) = k
+
+-- the root that an accepted draw gives, or what the lent root was
+unfoldable pub rootLeft : Said → List ℕ → List ℕ → List ℕ
+rootLeft accepted root lent = root
+rootLeft (refused k) root lent = lent

@@ -3,7 +3,8 @@
 ghost use mathlib.Core.Path.{_≡_};
 ghost use lib.ListN.{length};
 ghost use Rattle.circuit.specs.Operations.{readOp, evaluateOp};
-ghost use Rattle.wivulameno.specs.Interface.{status, values};
+ghost use Rattle.shelf.specs.Operations.{stockOp, drawOp};
+ghost use Rattle.wivulameno.specs.Interface.{status, values, shelfStatus, rootLeft};
 ghost use Rattle.keccak.specs.Sponge.{«sha3-256», «shake128», «shake256»};
 
 // SHA3-256 of the data, into 32 lent bytes.
@@ -62,5 +63,34 @@ pub extern "C" fn wv_evaluate(circuit: &[u8], witness: &[u8], y: &mut [u8]) -> u
     match a {
         circuit::EvaluateAnswer::Done => 0,
         circuit::EvaluateAnswer::Refused(k) => refusal::number(k),
+    }
+}
+
+// Stocks a root on the shelf's page.
+#[no_mangle]
+pub extern "C" fn wv_stock(page: &mut [u8], root: &[u8]) -> u32
+    ensures { λ r. ⌜ (r ≡ shelfStatus (stockOp (now (page .entry)) (now (root .entry)) .0)) × (now (page .exit) ≡ stockOp (now (page .entry)) (now (root .entry)) .1) ⌝ }
+{
+    let a = shelf::stock(page, root);
+    match a {
+        shelf::Answer::Accepted => 0,
+        shelf::Answer::Refused(k) => refusal::number(k),
+    }
+}
+
+// Draws a root from the shelf's page; count is that of the host's log. The lent root stays as it was on a refusal.
+#[no_mangle]
+pub extern "C" fn wv_draw(page: &mut [u8], count: u64, root: &mut [u8; 16]) -> u32
+    ensures { λ r. ⌜ (r ≡ shelfStatus (drawOp (now (page .entry)) count .0)) × ((now (page .exit) ≡ drawOp (now (page .entry)) count .2) × (now (root .exit) ≡ rootLeft (drawOp (now (page .entry)) count .0) (drawOp (now (page .entry)) count .1) (now (root .entry)))) ⌝ }
+{
+    let d = shelf::draw(page, count);
+    let a = d.answer;
+    match a {
+        shelf::Answer::Accepted => {
+            let drawn = d.root;
+            *root = drawn;
+            0
+        }
+        shelf::Answer::Refused(k) => refusal::number(k),
     }
 }

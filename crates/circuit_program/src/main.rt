@@ -1,0 +1,49 @@
+// Reads a circuit from standard input and prints `ok I O G A`, or `no K` with the refusal's number.
+use circuit::ReadAnswer;
+use circuit::Sizes;
+use circuit::reading::read;
+use libc::STDIN_FILENO;
+use libc::STDOUT_FILENO;
+
+// Prints a space and a number.
+fn print_number(n: u64) {
+    io::write_all(STDOUT_FILENO, &[b' ']);
+    io::print_decimal(STDOUT_FILENO, n);
+}
+
+// Prints the sizes of a legal circuit.
+fn print_sizes(z: Sizes) {
+    io::write_all(STDOUT_FILENO, &[b'o', b'k']);
+    print_number(z.inputs as u64);
+    print_number(z.outputs as u64);
+    print_number(z.gates as u64);
+    print_number(z.ands as u64);
+    io::write_all(STDOUT_FILENO, &[b'\n']);
+}
+
+// Prints the number of a refusal.
+fn print_refusal(k: u32) {
+    io::write_all(STDOUT_FILENO, &[b'n', b'o']);
+    print_number(k as u64);
+    io::write_all(STDOUT_FILENO, &[b'\n']);
+}
+
+// Reads the circuit s and prints the answer.
+fn print_answer(s: &[u8]) {
+    let answer = read(s);
+    match answer {
+        ReadAnswer::Legal(z) => print_sizes(z),
+        ReadAnswer::Refused(k) => print_refusal(refusal::number(k)),
+    }
+}
+
+// The longest circuit has 33,288 bytes; one byte more is a wrong length.
+fn main() {
+    let mut buffer = [0u8; 33289];
+    let n = io::read_full(STDIN_FILENO, &mut buffer);
+    if n == 33289 {
+        print_refusal(1);
+        return;
+    }
+    print_answer(&buffer[..n]);
+}

@@ -1,0 +1,59 @@
+-- Demand 3, second half: the claim about every history.
+-- Assumes nothing.
+use mathlib.Core.Path.{refl, sym, subst}
+use mathlib.Core.List.{List, []}
+use Prim.Native.Nat.{ℕ, _-_, _<_}
+use native.Mathlib.Omega.{arith}
+use lib.ListN.{length, getD}
+use lib.Seq.{drop-nil}
+use Rattle.bits.proofs.Little.{leAt-lt}
+use Rattle.shelf.specs.Page.{drawsOf}
+use Rattle.shelf.specs.Plain.{Plain}
+use Rattle.shelf.specs.History.{Event, Host, present, start, run, plainRun, Start, Same, Histories}
+use Rattle.shelf.proofs.Walks.{count-nil}
+use Rattle.shelf.proofs.Simulation.{Beside, Along, run-along}
+use Rattle.shelf.proofs.Names.{Clean, run-clean}
+
+-- draws of a byte string is a u32
+pub draws-u32 : (p : List ℕ) → ((i : ℕ) → getD p i 0 < 256) → drawsOf p < 4294967296
+unfolding drawsOf
+draws-u32 p b = leAt-lt 4 p 8 b
+
+-- the start, on both sides
+start-beside : (page : List ℕ) (log : ℕ) (plain : Plain) (events : List Event) → Start page log plain events → Beside page plain
+start-beside page log plain events s =
+    record {
+      same = record { isSound = s .isSound; size = sym (s .size); draws = sym (s .draws); ready = sym (s .ready) };
+      u32 = draws-u32 page (s .bytes);
+    }
+
+start-along : (page : List ℕ) (log : ℕ) (plain : Plain) (events : List Event) → Start page log plain events → Along (start page log) (start plain log)
+start-along page log plain events s = record { place = refl; log = refl; each = λ k l. start-beside page log plain events s }
+
+start-clean : (page : List ℕ) (log : ℕ) (plain : Plain) (events : List Event) → Start page log plain events → Clean (length events) (start plain log) []
+start-clean page log plain events s =
+    record {
+      few = λ x. omega (arith, count-nil x);
+      fresh = λ x a b. count-nil x;
+      each =
+          λ k l.
+          record {
+            behind = omega (arith, s .draws, s .isLog);
+            apart = λ x. rw (drop-nil (log - plain .draws)) (omega (arith, count-nil x, s .alike x));
+            fresh = λ x a b. s .noPlace x b;
+          };
+    }
+
+-- each answer is the plain shelf's; afterwards the page is sound, with the plain shelf's S, draws and ready roots; no stocked root is drawn twice
+pub histories : Histories
+histories page log plain events legal s =
+    let a = run-along events (start page log) (start plain log) (start-along page log plain events s) legal in
+    let n = run-clean (length events) events (start plain log) [] (omega arith) legal (start-clean page log plain events s) in
+    record {
+      answers = a .0;
+      after = final (run (start page log) events .1) (plainRun (start plain log) events .host) (a .1);
+      once = λ x. omega (arith, n x);
+    }
+  where
+    final : (g : Host (List ℕ)) (h : Host Plain) → Along g h → Same (present g) (present h)
+    final g h c = subst (λ (k : ℕ). Same (g .had (g .place)) (h .had k)) (c .place) (c .each (g .place) (omega arith) .same)

@@ -1,0 +1,11 @@
+pub mod Walks
+pub mod Bytes
+pub mod Soundness
+pub mod Operations
+pub mod Slots
+pub mod Fields
+pub mod Moves
+pub mod Simulation
+pub mod Names
+pub mod Histories
+pub mod Host

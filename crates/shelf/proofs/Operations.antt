@@ -1,0 +1,89 @@
+-- The operations, case by case.
+-- Assumes nothing.
+use mathlib.Core.Path.{_≡_, refl, ap, _∙_}
+use mathlib.Core.Bool.{true, false}
+use mathlib.Core.List.{List}
+use mathlib.Core.Logic.{_≢_}
+use Prim.Native.Nat.{ℕ, _+_, _-_}
+use borrow.Author.Tests.{eq-eqb, ne-eqb}
+use lib.ListN.{length, take, drop}
+use lib.Seq.{sets}
+use Rattle.bits.specs.Bytes.{leBytes}
+use Rattle.refusal.specs.Refusal.{numberOf}
+use Rattle.refusal.proofs.Laws.{numberOf-injective}
+use Rattle.shelf.specs.declared.Answer.{Answer}
+use Rattle.shelf.specs.declared.Answer.the-variants.{Accepted, Refused}
+use Rattle.shelf.specs.declared.Shelf.{Shelf}
+use Rattle.shelf.specs.Page.{slotAt, readyHead, spareHead, drawsOf, nextOf, rootOf, zeroRoot, sound}
+use Rattle.shelf.specs.Operations.{accepted, refused, said, putSlot, putHeads, stocked, drawn, stockOp, drawOp}
+use Rattle.shelf.proofs.Soundness.{shelfOf}
+
+-- answers that say the same are the same
+pub said-injective : (a b : Answer) → said a ≡ said b → a ≡ b
+unfolding said
+said-injective Accepted Accepted e = refl
+said-injective Accepted (Refused r) e = cc
+said-injective (Refused r) Accepted e = cc
+said-injective (Refused r) (Refused q) e =
+    let f : numberOf r ≡ numberOf q = cc in
+    ap Refused (numberOf-injective r q f)
+
+module _ (p root : List ℕ) where
+  pub stock-14 : sound p ≡ false → stockOp p root ≡ (refused 14, p)
+  unfolding stockOp
+  stock-14 e = rw e
+
+  module _ (t : sound p ≡ true) where
+    pub stock-6 : length root ≢ 16 → stockOp p root ≡ (refused 6, p)
+    unfolding stockOp
+    stock-6 h = rw (t, ne-eqb (length root) 16 h)
+
+    module _ (l : length root ≡ 16) where
+      pub stock-17 : spareHead p ≡ 0 → stockOp p root ≡ (refused 17, p)
+      unfolding stockOp
+      stock-17 h = rw (t, eq-eqb (length root) 16 l, eq-eqb (spareHead p) 0 h)
+
+      pub stock-accepted : spareHead p ≢ 0 → stockOp p root ≡ (accepted, stocked p root)
+      unfolding stockOp
+      stock-accepted h = rw (t, eq-eqb (length root) 16 l, ne-eqb (spareHead p) 0 h)
+
+module _ (p : List ℕ) (n : ℕ) where
+  pub draw-14 : sound p ≡ false → drawOp p n ≡ (refused 14, zeroRoot, p)
+  unfolding drawOp
+  draw-14 e = rw e
+
+  module _ (t : sound p ≡ true) where
+    pub draw-15 : n ≢ drawsOf p → drawOp p n ≡ (refused 15, zeroRoot, p)
+    unfolding drawOp
+    draw-15 h = rw (t, ne-eqb n (drawsOf p) h)
+
+    module _ (c : n ≡ drawsOf p) where
+      pub draw-16 : readyHead p ≡ 0 → drawOp p n ≡ (refused 16, zeroRoot, p)
+      unfolding drawOp
+      draw-16 h = rw (t, eq-eqb n (drawsOf p) c, eq-eqb (readyHead p) 0 h)
+
+      module _ (r : readyHead p ≢ 0) where
+        pub draw-18 : drawsOf p ≡ 4294967295 → drawOp p n ≡ (refused 18, zeroRoot, p)
+        unfolding drawOp
+        draw-18 h = rw (t, eq-eqb n (drawsOf p) c, ne-eqb (readyHead p) 0 r, eq-eqb (drawsOf p) 4294967295 h)
+
+        pub draw-accepted : drawsOf p ≢ 4294967295 → drawOp p n ≡ (accepted, rootOf p (readyHead p), drawn p)
+        unfolding drawOp
+        draw-accepted h = rw (t, eq-eqb n (drawsOf p) c, ne-eqb (readyHead p) 0 r, ne-eqb (drawsOf p) 4294967295 h)
+
+-- the writes of a stocking
+pub stock-done : (p root : List ℕ) (s : Shelf) (next : ℕ) (a b : List ℕ) → s ≡ shelfOf p → next ≡ nextOf p (s .spare)
+    → a ≡ putSlot (s .spare) (s .ready) root p → b ≡ putHeads (s .spare) next a → b ≡ stocked p root
+unfolding stocked
+stock-done p root s next a b e f g h = cc
+
+-- the writes of a draw
+pub draw-done : (p : List ℕ) (s : Shelf) (next : ℕ) (a b d : List ℕ) → s ≡ shelfOf p → next ≡ nextOf p (s .ready)
+    → a ≡ putSlot (s .ready) (s .spare) zeroRoot p → b ≡ putHeads next (s .ready) a → d ≡ sets b 8 (leBytes 4 (s .draws + 1)) → d ≡ drawn p
+unfolding drawn
+draw-done p s next a b d e f g h i = i ∙ rw (h, g, f, e)
+
+-- the root that is read is the first ready root
+pub root-read : (p : List ℕ) (s : Shelf) (at : ℕ) (r : List ℕ) → s ≡ shelfOf p → at ≡ slotAt (s .ready) → r ≡ take 16 (drop (at + 2) p) → r ≡ rootOf p (readyHead p)
+unfolding rootOf
+root-read p s at r e f g = g ∙ ap (λ (k : ℕ). take 16 (drop (k + 2) p)) (f ∙ ap (λ (t : Shelf). slotAt (t .ready)) e)

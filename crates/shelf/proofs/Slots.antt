@@ -1,0 +1,204 @@
+-- What a sound page means, in the paper's words: two chains, each ended by 0, that together visit every slot exactly once.
+-- Assumes nothing.
+use mathlib.Core.Path.{_≡_, refl, sym, ap, _∙_}
+use mathlib.Core.Bool.{true}
+use mathlib.Core.List.{List, [], _∷_, _++_}
+use mathlib.Core.Logic.{_≢_, _⊎_, ⊎-elim}
+use Prim.Native.Nat.{ℕ, zero, suc, _+_, _-_, _*_, _≤_, _<_}
+use native.Mathlib.Omega.{arith}
+use borrow.Author.Tests.{eq-eqb, ne-eqb, eqb-true}
+use lib.Dec.{eqb}
+use lib.ListN.{length, length-append}
+use Rattle.bits.proofs.Numbers.{eq-or-ne, lt-or-le}
+use Rattle.bits.proofs.Tests.{and-true-left, and-true-right}
+use Rattle.shelf.specs.Page.{sizeOf, readyHead, spareHead, zeroField, nextOf, chain, ended, readySlots, spareSlots, count, allOne, blank, sound, chainsFrom}
+use Rattle.shelf.proofs.Walks.{chain-end, chain-slot, ended-end, ended-slot, ended-room, count-nil, count-same, count-other, count-append}
+use Rattle.shelf.proofs.Soundness.{parts, whole, chains-parts, chains-whole, both}
+
+-- from slot k the links lead through the slots of the list, and then to 0
+abbrev pub Leads : (ℕ → ℕ) → ℕ → List ℕ → Type 0
+Leads next k [] = k ≡ 0
+Leads next k (x ∷ l) = (k ≡ x) × ((x ≢ 0) × Leads next (next x) l)
+
+module _ (next : ℕ → ℕ) where
+  -- a chain that is ended leads through its slots to 0
+  pub leads-chain : (S n k : ℕ) → ended next S n k ≡ true → Leads next k (chain next n k)
+  unfolding chain ended
+  leads-chain S zero k e = eqb-true k 0 e
+  leads-chain S (suc n) k e =
+      ⊎-elim
+      (λ (z : k ≡ 0). rw (eq-eqb k 0 z) z)
+      (λ (z : k ≢ 0).
+      let m : suc n - 1 ≡ n = omega arith in
+      let l : k ≤ S = ended-room next S (suc n) k z e .1 in
+      let f : ended next S n (next k) ≡ true =
+      ap (λ (i : ℕ). ended next S i (next k)) (sym m) ∙ sym (ended-slot next S (suc n) k z l (omega arith)) ∙ e in
+      rw (ne-eqb k 0 z) (refl, (z, leads-chain S n (next k) f)))
+      (eq-or-ne k 0)
+
+  -- and visits no slot above S
+  pub ended-count : (S n k x : ℕ) → ended next S n k ≡ true → S < x → count x (chain next n k) ≡ 0
+  unfolding chain ended
+  ended-count S zero k x e l = count-nil x
+  ended-count S (suc n) k x e l =
+      ⊎-elim
+      (λ (z : k ≡ 0). rw (eq-eqb k 0 z) (count-nil x))
+      (λ (z : k ≢ 0).
+      let m : suc n - 1 ≡ n = omega arith in
+      let h : k ≤ S = ended-room next S (suc n) k z e .1 in
+      let f : ended next S n (next k) ≡ true =
+      ap (λ (i : ℕ). ended next S i (next k)) (sym m) ∙ sym (ended-slot next S (suc n) k z h (omega arith)) ∙ e in
+      rw (ne-eqb k 0 z) (count-other x k (chain next n (next k)) (λ q. absurd (omega arith)) ∙ ended-count S n (next k) x f l))
+      (eq-or-ne k 0)
+
+  -- links that lead through a list to 0 are the chain of that list
+  pub chain-leads : (l : List ℕ) (n k : ℕ) → Leads next k l → length l ≤ n → chain next n k ≡ l
+  chain-leads [] n k e h = rw e (chain-end next n)
+  chain-leads (x ∷ l) n k (e, (z, r)) h =
+      rw e (chain-slot next n x z (omega arith) ∙ ap (λ (t : List ℕ). x ∷ t) (chain-leads l (n - 1) (next x) r (omega arith)))
+
+  -- which is ended
+  pub ended-leads : (S : ℕ) (l : List ℕ) (n k : ℕ) → Leads next k l → length l ≤ n → ((x : ℕ) → S < x → count x l ≡ 0) → ended next S n k ≡ true
+  ended-leads S [] n k e h f = rw e (ended-end next S n)
+  ended-leads S (x ∷ l) n k (e, (z, r)) h f =
+      let i : x ≤ S = ⊎-elim (λ (q : S < x). absurd (omega (arith, f x q, count-same x l))) (λ (q : x ≤ S). q) (lt-or-le S x) in
+      rw e (ended-slot next S n x z i (omega arith) ∙ ended-leads S l (n - 1) (next x) r (omega arith) (λ y q. tail y q))
+    where
+      tail : (y : ℕ) → S < y → count y l ≡ 0
+      tail y q = ⊎-elim (λ (w : y ≡ x). absurd (omega (arith, f x (omega arith), count-same x l))) (λ (w : y ≢ x). sym (count-other y x l w) ∙ f y q) (eq-or-ne y x)
+
+  -- no link leads to slot 0
+  pub leads-zero : (l : List ℕ) (k : ℕ) → Leads next k l → count 0 l ≡ 0
+  leads-zero [] k e = count-nil 0
+  leads-zero (x ∷ l) k (e, (z, r)) = count-other 0 x l (λ q. z (sym q)) ∙ leads-zero l (next x) r
+
+-- an element that does not stand in a list is none of it
+pub absent : (j x : ℕ) (l : List ℕ) → count j (x ∷ l) ≡ 0 → (x ≢ j) × (count j l ≡ 0)
+absent j x l e =
+    ⊎-elim
+    (λ (q : j ≡ x). absurd (let f : count j (x ∷ l) ≡ 1 + count j l = ap (λ (y : ℕ). count j (y ∷ l)) (sym q) ∙ count-same j l in omega arith))
+    (λ (q : j ≢ x). (λ w. q (sym w), sym (count-other j x l q) ∙ e))
+    (eq-or-ne j x)
+
+-- links that differ only at slot j, which the list has not
+pub leads-frame : (next other : ℕ → ℕ) (j : ℕ) → ((x : ℕ) → x ≢ 0 → x ≢ j → other x ≡ next x) → (l : List ℕ) (k : ℕ) → count j l ≡ 0 → Leads next k l → Leads other k l
+leads-frame next other j f [] k c e = e
+leads-frame next other j f (x ∷ l) k c (e, (z, r)) =
+    let a = absent j x l c in
+    (e, (z, rw (f x z (a .0)) (leads-frame next other j f l (next x) (a .1) r)))
+
+-- where f is 1 at each slot
+pub allOne-at : (f : ℕ → ℕ) (n k : ℕ) → allOne f n ≡ true → 1 ≤ k → k ≤ n → f k ≡ 1
+unfolding allOne
+allOne-at f zero k e l h = absurd (omega arith)
+allOne-at f (suc n) k e l h =
+    ⊎-elim
+    (λ (q : k ≡ suc n). rw q (eqb-true (f (suc n)) 1 (and-true-left (eqb (f (suc n)) 1) (allOne f n) e)))
+    (λ (q : k ≢ suc n). allOne-at f n k (and-true-right (eqb (f (suc n)) 1) (allOne f n) e) l (omega arith))
+    (eq-or-ne k (suc n))
+
+pub at-allOne : (f : ℕ → ℕ) (n : ℕ) → ((k : ℕ) → 1 ≤ k → k ≤ n → f k ≡ 1) → allOne f n ≡ true
+unfolding allOne
+at-allOne f zero h = refl
+at-allOne f (suc n) h = both (eq-eqb (f (suc n)) 1 (h (suc n) (omega arith) (omega arith))) (at-allOne f n (λ k l m. h k l (omega arith)))
+
+-- how often the slots 1..n stand in a list, all together
+total : ℕ → List ℕ → ℕ
+total zero l = 0
+total (suc n) l = count (suc n) l + total n l
+
+total-nil : (n : ℕ) → total n [] ≡ 0
+unfolding total
+total-nil zero = refl
+total-nil (suc n) = omega (arith, count-nil (suc n), total-nil n)
+
+total-above : (n x : ℕ) (l : List ℕ) → n < x → total n (x ∷ l) ≡ total n l
+unfolding total
+total-above zero x l h = refl
+total-above (suc n) x l h = omega (arith, count-other (suc n) x l (λ q. absurd (omega arith)), total-above n x l (omega arith))
+
+total-in : (n x : ℕ) (l : List ℕ) → x ≢ 0 → x ≤ n → total n (x ∷ l) ≡ 1 + total n l
+unfolding total
+total-in zero x l z h = absurd (omega arith)
+total-in (suc n) x l z h =
+    ⊎-elim
+    (λ (q : x ≡ suc n). rw q (omega (arith, count-same (suc n) l, total-above n (suc n) l (omega arith))))
+    (λ (q : x ≢ suc n). omega (arith, count-other (suc n) x l (λ w. q (sym w)), total-in n x l z (omega arith)))
+    (eq-or-ne x (suc n))
+
+-- a list of slots 1..n has as many elements
+total-length : (n : ℕ) (l : List ℕ) → count 0 l ≡ 0 → ((x : ℕ) → n < x → count x l ≡ 0) → total n l ≡ length l
+total-length n [] z f = total-nil n
+total-length n (x ∷ l) z f =
+    let a = absent 0 x l z in
+    let i : x ≤ n = ⊎-elim (λ (q : n < x). absurd (omega (arith, f x q, count-same x l))) (λ (q : x ≤ n). q) (lt-or-le n x) in
+    let r = total-length n l (a .1) (λ y q. absent y x l (f y q) .1) in
+    omega (arith, total-in n x l (a .0) i)
+
+-- each once
+total-once : (n : ℕ) (l : List ℕ) → ((k : ℕ) → 1 ≤ k → k ≤ n → count k l ≡ 1) → total n l ≡ n
+unfolding total
+total-once zero l f = refl
+total-once (suc n) l f = omega (arith, f (suc n) (omega arith) (omega arith), total-once n l (λ k h m. f k h (omega arith)))
+
+-- "The ready chain and the spare chain, each ended by 0, together visit every slot exactly once. Spare slots hold a zero root"
+pub record Told (p ready spare : List ℕ) : Type 0 where
+  pub long : length p ≡ 12 + 18 * sizeOf p
+  pub low : 1 ≤ sizeOf p
+  pub high : sizeOf p ≤ 255
+  pub zeroed : zeroField p ≡ 0
+  pub readyLeads : Leads (nextOf p) (readyHead p) ready
+  pub spareLeads : Leads (nextOf p) (spareHead p) spare
+  pub once : (k : ℕ) → 1 ≤ k → k ≤ sizeOf p → count k ready + count k spare ≡ 1
+  pub noOther : (k : ℕ) → sizeOf p < k → count k ready + count k spare ≡ 0
+  pub blanks : blank p spare ≡ true
+
+-- a sound page's chains
+pub told : (p : List ℕ) → sound p ≡ true → Told p (readySlots p) (spareSlots p)
+unfolding readySlots spareSlots
+told p t =
+    let a = parts p t in
+    let S = sizeOf p in
+    let b = chains-parts p S (readyHead p) (spareHead p) (a .chained) in
+    let r = chain (nextOf p) S (readyHead p) in
+    let s = chain (nextOf p) S (spareHead p) in
+    record {
+      long = a .long;
+      low = a .low;
+      high = a .high;
+      zeroed = a .zeroed;
+      readyLeads = leads-chain (nextOf p) S S (readyHead p) (b .readyEnds);
+      spareLeads = leads-chain (nextOf p) S S (spareHead p) (b .spareEnds);
+      once = λ k l m. sym (count-append k r s) ∙ allOne-at (λ (j : ℕ). count j (r ++ s)) S k (b .once) l m;
+      noOther = λ k l. omega (arith, ended-count (nextOf p) S S (readyHead p) k (b .readyEnds) l, ended-count (nextOf p) S S (spareHead p) k (b .spareEnds) l);
+      blanks = b .blanks;
+    }
+
+-- every slot is on one of the chains, so their lengths make S
+pub told-length : (p r s : List ℕ) → Told p r s → length r + length s ≡ sizeOf p
+told-length p r s c =
+    let S = sizeOf p in
+    let l = r ++ s in
+    let z : count 0 l ≡ 0 = omega (arith, count-append 0 r s, leads-zero (nextOf p) r (readyHead p) (c .readyLeads), leads-zero (nextOf p) s (spareHead p) (c .spareLeads)) in
+    omega (arith, length-append r s, total-length S l z (λ x q. count-append x r s ∙ c .noOther x q), total-once S l (λ k a b. count-append k r s ∙ c .once k a b))
+
+-- a page with two such chains is sound, and those are its chains
+pub untold : (p r s : List ℕ) → Told p r s → (sound p ≡ true) × ((readySlots p ≡ r) × (spareSlots p ≡ s))
+unfolding readySlots spareSlots
+untold p r s c =
+    let S = sizeOf p in
+    let n = told-length p r s c in
+    let er : chain (nextOf p) S (readyHead p) ≡ r = chain-leads (nextOf p) r S (readyHead p) (c .readyLeads) (omega arith) in
+    let es : chain (nextOf p) S (spareHead p) ≡ s = chain-leads (nextOf p) s S (spareHead p) (c .spareLeads) (omega arith) in
+    let o : allOne (λ k. count k (chain (nextOf p) S (readyHead p) ++ chain (nextOf p) S (spareHead p))) S ≡ true =
+    rw (er, es) (at-allOne (λ (k : ℕ). count k (r ++ s)) S (λ k a b. count-append k r s ∙ c .once k a b)) in
+    let b : blank p (chain (nextOf p) S (spareHead p)) ≡ true = rw es (c .blanks) in
+    let ch : chainsFrom p S (readyHead p) (spareHead p) ≡ true =
+    chains-whole p S (readyHead p) (spareHead p)
+    (record {
+      readyEnds = ended-leads (nextOf p) S r S (readyHead p) (c .readyLeads) (omega arith) (λ x q. omega (arith, c .noOther x q));
+      spareEnds = ended-leads (nextOf p) S s S (spareHead p) (c .spareLeads) (omega arith) (λ x q. omega (arith, c .noOther x q));
+      once = o;
+      blanks = b;
+    }) in
+    (whole p (record { long = c .long; low = c .low; high = c .high; zeroed = c .zeroed; chained = ch }), (er, es))

@@ -1,0 +1,4 @@
+pub mod Page
+pub mod Operations
+pub mod Plain
+pub mod History
