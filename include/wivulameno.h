@@ -157,6 +157,49 @@ uint32_t wv_stock(uint8_t *page, size_t page_len,
 uint32_t wv_draw(uint8_t *page, size_t page_len, uint64_t count,
                  uint8_t root[16]);
 
+/*
+ * A tree of seeds has n leaves, one for each party; n is 2, 4, 8 or 16. The
+ * number j of an instance is 0 to 65535. A wider number is refused, not cut
+ * down.
+ */
+
+/*
+ * Writes the n leaves of the tree of instance j over the master (16 bytes) to
+ * leaves: 16 n bytes, party 0 first. Refuses in this order:
+ *   8  j is above 65535, or n is not 2, 4, 8 or 16
+ *   6  the length of the master or of leaves is not that
+ */
+uint32_t wv_expand(uint32_t j, uint32_t n,
+                   const uint8_t *master, size_t master_len,
+                   uint8_t *leaves, size_t leaves_len);
+
+/*
+ * Opens all leaves but that of party p: writes the siblings of the nodes on the
+ * way from the top to leaf p to siblings, top first. These are 16 bytes for
+ * each level: 16, 32, 48 or 64 bytes for n = 2, 4, 8 or 16. Refuses in this
+ * order:
+ *   8  j is above 65535, or n is not 2, 4, 8 or 16
+ *   9  p is not below n
+ *   6  the length of the master (16) or of siblings is not that
+ */
+uint32_t wv_open(uint32_t j, uint32_t n, uint32_t p,
+                 const uint8_t *master, size_t master_len,
+                 uint8_t *siblings, size_t siblings_len);
+
+/*
+ * Derives the challenge of hstar (32 bytes) and a message (0 to 4096 bytes):
+ * tau of m instances, each with its hidden party. Writes 3 bytes to out for
+ * each chosen instance, in ascending order: its number (16 bits, little-endian)
+ * and its hidden party (one byte). Refuses in this order:
+ *   8  m is not 2 to 512, tau is not 1 to m - 1, or n is not 2, 4, 8 or 16
+ *   6  hstar is not of 32 bytes, the message is longer than 4096 bytes, or out
+ *      is not of 3 tau bytes
+ */
+uint32_t wv_challenge(uint32_t m, uint32_t tau, uint32_t n,
+                      const uint8_t *hstar, size_t hstar_len,
+                      const uint8_t *message, size_t message_len,
+                      uint8_t *out, size_t out_len);
+
 #ifdef __cplusplus
 }
 #endif

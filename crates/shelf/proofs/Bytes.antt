@@ -2,14 +2,14 @@
 -- Assumes nothing.
 use mathlib.Core.Path.{_≡_, sym, ap, _∙_}
 use mathlib.Core.List.{List, [], _∷_}
-use mathlib.Core.Logic.{_≢_, _⊎_, inl, inr, ⊎-elim}
+use mathlib.Core.Logic.{_≢_, _⊎_, ⊎-elim}
 use Prim.Native.Nat.{ℕ, _+_, _-_, _≤_, _<_}
 use native.Mathlib.Omega.{arith}
 use native.Mathlib.Numerals.{add-one}
 use lib.ListN.{length, getD, set, take, drop, length-drop}
 use lib.Seq.{sets, take-suc, length-take-le, length-sets, getD-set-same, getD-set-other, getD-take, getD-drop, ext-getD}
 use Rattle.bits.proofs.Numbers.{eq-or-ne}
-use Rattle.bits.proofs.Little.{sets-append, getD-sets, getD-sets-other}
+use Rattle.bits.proofs.Little.{sets-append, getD-sets}
 
 -- one store more
 pub sets-more : (l vs : List ℕ) (k i : ℕ) → i < length vs → sets l k (take (i + 1) vs) ≡ set (sets l k (take i vs)) (k + i) (getD vs i 0)
@@ -25,14 +25,6 @@ part-ext r l k n e h f =
     let z : length (take n (drop k l)) ≡ n = length-take-le n (drop k l) (rw length-drop (omega arith)) in
     ext-getD 0 r (take n (drop k l)) (e ∙ sym z)
     (λ i m. let q : i < n = omega arith in f i q ∙ sym (getD-take n (drop k l) i 0 q ∙ getD-drop k l i 0))
-
--- a part that a run of stores does not reach
-pub part-kept : (vs l : List ℕ) (j k n : ℕ) → k + n ≤ length l → (k + n ≤ j) ⊎ (j + length vs ≤ k) → take n (drop k (sets l j vs)) ≡ take n (drop k l)
-part-kept vs l j k n h o =
-    let z : length (take n (drop k (sets l j vs))) ≡ n = length-take-le n (drop k (sets l j vs)) (rw length-drop (omega (arith, length-sets l j vs))) in
-    part-ext (take n (drop k (sets l j vs))) l k n z h
-    (λ i m. getD-take n (drop k (sets l j vs)) i 0 m ∙ getD-drop k (sets l j vs) i 0
-    ∙ getD-sets-other 0 vs l j (k + i) (⊎-elim (λ q. inl (omega arith)) (λ q. inr (omega arith)) o))
 
 -- the part that a run of stores fills
 pub part-put : (vs l : List ℕ) (k n : ℕ) → length vs ≡ n → k + n ≤ length l → take n (drop k (sets l k vs)) ≡ vs

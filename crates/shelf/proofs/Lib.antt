@@ -9,3 +9,4 @@ pub mod Simulation
 pub mod Names
 pub mod Histories
 pub mod Host
+pub mod Examples

@@ -206,5 +206,6 @@ root-test p k at r b e f g =
     let m : slotAt k + 2 ≡ at + 2 = omega arith in
     ap₂ (λ (i j : ℕ). sameBytes (take i (drop j p)) zeroRoot) n m ∙ sym f ∙ g
 
+-- so each count is small
 pub zeros-small : (n k : ℕ) → getD (replicate n 0) k 0 ≤ 255
 zeros-small n k = omega (arith, getD-zeros n k)

@@ -16,6 +16,9 @@ use Rattle.circuit.proofs.Small.{read-small}
 use Rattle.shelf.specs.Operations.{Said, accepted, refused, said}
 use Rattle.shelf.specs.declared.Answer.{Answer as ShelfAnswer}
 use Rattle.shelf.specs.declared.Answer.the-variants as shelfAnswer
+use Rattle.seeds.specs.Operations.{Outcome as SeedsOutcome, paper, outcome as seedsOutcome}
+use Rattle.seeds.specs.declared.Answer.{Answer as SeedsAnswer}
+use Rattle.seeds.specs.declared.Answer.the-variants as seedsAnswer
 use Rattle.wivulameno.specs.Interface.{status, values, shelfStatus, rootLeft}
 
 -- the numbers of a legal circuit fit 32 bits
@@ -98,3 +101,14 @@ draw-refused o r k n root p lent e f h = (
     ap (λ (x : ShelfAnswer). rootLeft (said x) root lent) (sym e) ∙ ap (λ (x : Said × List ℕ × List ℕ). rootLeft (x .0) (x .1) lent) f,
   ),
 )
+
+-- an operation on seeds that is done
+pub seeds-done : (o : SeedsOutcome) (r : SeedsAnswer) (y : List ℕ) → r ≡ seedsAnswer.Done → seedsOutcome r y ≡ o
+    → (_≡_ {A = ℕ} 0 (o .number)) × (y ≡ o .buffer)
+seeds-done o r y e f = (ap paper (sym e) ∙ ap (λ (x : SeedsOutcome). x .number) f, ap (λ (x : SeedsOutcome). x .buffer) f)
+
+-- an operation on seeds that is refused
+pub seeds-refused : (o : SeedsOutcome) (r : SeedsAnswer) (k : Refusal) (n : ℕ) (y : List ℕ) → r ≡ seedsAnswer.Refused k → seedsOutcome r y ≡ o → n ≡ numberOf k
+    → (n ≡ o .number) × (y ≡ o .buffer)
+seeds-refused o r k n y e f h =
+    (h ∙ ap paper (sym e) ∙ ap (λ (x : SeedsOutcome). x .number) f, ap (λ (x : SeedsOutcome). x .buffer) f)

@@ -4,6 +4,7 @@ ghost use mathlib.Core.Path.{_≡_};
 ghost use lib.ListN.{length};
 ghost use Rattle.circuit.specs.Operations.{readOp, evaluateOp};
 ghost use Rattle.shelf.specs.Operations.{stockOp, drawOp};
+ghost use Rattle.seeds.specs.Operations.{expandOp, openOp, challengeOp};
 ghost use Rattle.wivulameno.specs.Interface.{status, values, shelfStatus, rootLeft};
 ghost use Rattle.keccak.specs.Sponge.{«sha3-256», «shake128», «shake256»};
 
@@ -92,5 +93,48 @@ pub extern "C" fn wv_draw(page: &mut [u8], count: u64, root: &mut [u8; 16]) -> u
             0
         }
         shelf::Answer::Refused(k) => refusal::number(k),
+    }
+}
+
+// Expands the tree of instance j from its master into its n leaves.
+#[no_mangle]
+pub extern "C" fn wv_expand(j: u32, n: u32, master: &[u8], leaves: &mut [u8]) -> u32
+    ensures { λ r. ⌜ (r ≡ expandOp j n (now (master .entry)) (now (leaves .entry)) .number) × (now (leaves .exit) ≡ expandOp j n (now (master .entry)) (now (leaves .entry)) .buffer) ⌝ }
+{
+    let a = seeds::expand(j, n, master, leaves);
+    match a {
+        seeds::Answer::Done => 0,
+        seeds::Answer::Refused(k) => refusal::number(k),
+    }
+}
+
+// Opens all leaves but p of the tree of instance j.
+#[no_mangle]
+pub extern "C" fn wv_open(j: u32, n: u32, p: u32, master: &[u8], siblings: &mut [u8]) -> u32
+    ensures { λ r. ⌜ (r ≡ openOp j n p (now (master .entry)) (now (siblings .entry)) .number) × (now (siblings .exit) ≡ openOp j n p (now (master .entry)) (now (siblings .entry)) .buffer) ⌝ }
+{
+    let a = seeds::open(j, n, p, master, siblings);
+    match a {
+        seeds::Answer::Done => 0,
+        seeds::Answer::Refused(k) => refusal::number(k),
+    }
+}
+
+// Derives the challenge from h* and the message.
+#[no_mangle]
+pub extern "C" fn wv_challenge(
+    m: u32,
+    tau: u32,
+    n: u32,
+    hstar: &[u8],
+    message: &[u8],
+    out: &mut [u8],
+) -> u32
+    ensures { λ r. ⌜ (r ≡ challengeOp m tau n (now (hstar .entry)) (now (message .entry)) (now (out .entry)) .number) × (now (out .exit) ≡ challengeOp m tau n (now (hstar .entry)) (now (message .entry)) (now (out .entry)) .buffer) ⌝ }
+{
+    let a = seeds::challenge(m, tau, n, hstar, message, out);
+    match a {
+        seeds::Answer::Done => 0,
+        seeds::Answer::Refused(k) => refusal::number(k),
     }
 }

@@ -6,6 +6,7 @@
 mod ffi;
 
 pub mod circuit;
+pub mod seeds;
 pub mod shelf;
 
 /// The number of a refused call. Every lent byte is as it was.

@@ -2,7 +2,7 @@
 -- Assumes nothing.
 use mathlib.Core.List.{List}
 use mathlib.Core.Logic.{_≢_}
-use mathlib.Core.Path.{ap₂, _≡_, refl, sym, ap, _∙_}
+use mathlib.Core.Path.{ap₂, _≡_, sym, ap, _∙_}
 use mathlib.Core.Bool.{true}
 use Prim.Native.Nat.{ℕ, _-_}
 use native.Mathlib.Omega.{arith}
@@ -126,7 +126,7 @@ put-slot-requires c κs =
     let o = taken-apart (c .before .before .before .before .before .before .before .before .before .before .before .before) in
     let m = ready-slot (x .page .now) s o (c .before .before .before .before .before .before .before .before .if2 .left) in
     let z : s .ready ≢ 0 = c .before .before .before .before .before .before .before .before .if2 .left in
-    ((omega arith, omega arith), (m .1, refl))
+    ((omega arith, omega arith), (m .1, search needs))
 
 put-heads-requires : tie.Need-put-heads-requires
 put-heads-requires c κs =

@@ -1,0 +1,10 @@
+pub mod Copies
+pub mod Hashes
+pub mod Nodes
+pub mod Lengths
+pub mod Opening
+pub mod Choosing
+pub mod PartyCounts
+pub mod Digests
+pub mod Challenges
+pub mod Clearing

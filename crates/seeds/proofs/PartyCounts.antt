@@ -1,0 +1,80 @@
+-- The party counts are powers of two, and what the tests of the counts say.
+-- Assumes nothing.
+use native.Mathlib.Omega.{arith}
+use mathlib.Core.Path.{_≡_, refl, sym, ap, _∙_}
+use mathlib.Core.Logic.{⊎-elim}
+use mathlib.Core.Bool.{Bool, true, false, cond, not, _&&_}
+use Prim.Native.Nat.{ℕ, _^_, _≤_, _<_}
+use borrow.Author.Tests.{eq-eqb, ne-eqb, leb-true, ltb-true}
+use lib.Dec.{leb, ltb}
+use Rattle.bits.proofs.Tests.{and-true-left, and-true-right}
+use Rattle.seeds.specs.Operations.{areCounts}
+use Rattle.bits.proofs.Numbers.{eq-or-ne}
+use Rattle.seeds.specs.Parties.{heightOf, isPartyCount}
+
+-- what holds of each party count, and of a number that is none
+height-cases : (P : ℕ → ℕ → Type 0) → P 2 1 → P 4 2 → P 8 3 → P 16 4 → ((n : ℕ) → P n 0) → (n : ℕ) → P n (heightOf n)
+unfolding heightOf
+height-cases P p2 p4 p8 p16 other n =
+    ⊎-elim (λ e. rw e p2)
+    (λ n2.
+    ⊎-elim (λ e. rw e p4)
+    (λ n4.
+    ⊎-elim (λ e. rw e p8)
+    (λ n8. ⊎-elim (λ e. rw e p16) (λ n16. rw (ne-eqb n 2 n2, ne-eqb n 4 n4, ne-eqb n 8 n8, ne-eqb n 16 n16) (other n)) (eq-or-ne n 16))
+    (eq-or-ne n 8))
+    (eq-or-ne n 4))
+    (eq-or-ne n 2)
+
+-- n leaves at the height of n parties
+pub height-pow : (n : ℕ) → (heightOf n ≡ 0 → ⊥) → 2 ^ heightOf n ≡ n
+height-pow = height-cases (λ n h. (h ≡ 0 → ⊥) → 2 ^ h ≡ n) (λ _. refl) (λ _. refl) (λ _. refl) (λ _. refl) (λ n f. absurd (f refl))
+
+pub height-small : (n : ℕ) → heightOf n ≤ 4
+height-small = height-cases (λ n h. h ≤ 4) (omega arith) (omega arith) (omega arith) (omega arith) (λ n. omega arith)
+
+pub count-yes : (n : ℕ) → (heightOf n ≡ 0 → ⊥) → isPartyCount n ≡ true
+unfolding isPartyCount
+count-yes n more = rw (ne-eqb (heightOf n) 0 more)
+
+pub count-no : (n : ℕ) → heightOf n ≡ 0 → isPartyCount n ≡ false
+unfolding isPartyCount
+count-no n e = rw (eq-eqb (heightOf n) 0 e)
+
+-- the sizes of the tree of a party count
+pub record Sizes (n : ℕ) : Type 0 where
+  pub leaves : 2 ^ heightOf n ≡ n
+  pub few : n ≤ 16
+  pub some : 2 ≤ n
+
+pub sizes : (n : ℕ) → (heightOf n ≡ 0 → ⊥) → Sizes n
+sizes n more = record { leaves = height-pow n more; few = count-few n more; some = count-some n more }
+  where
+    count-few : (n : ℕ) → (heightOf n ≡ 0 → ⊥) → n ≤ 16
+    count-few = height-cases (λ n h. (h ≡ 0 → ⊥) → n ≤ 16) (λ _. omega arith) (λ _. omega arith) (λ _. omega arith) (λ _. omega arith) (λ n f. absurd (f refl))
+
+    count-some : (n : ℕ) → (heightOf n ≡ 0 → ⊥) → 2 ≤ n
+    count-some = height-cases (λ n h. (h ≡ 0 → ⊥) → 2 ≤ n) (λ _. omega arith) (λ _. omega arith) (λ _. omega arith) (λ _. omega arith) (λ n f. absurd (f refl))
+
+-- what the test of M and τ says
+pub record Fit (M tau : ℕ) : Type 0 where
+  pub least : 2 ≤ M
+  pub most : M ≤ 512
+  pub some : 1 ≤ tau
+  pub below : tau < M
+
+pub counts-fit : (M tau : ℕ) → areCounts M tau ≡ true → Fit M tau
+unfolding areCounts
+counts-fit M tau e =
+    let a = leb 2 M in
+    let b = leb M 512 in
+    let c = leb 1 tau in
+    let d = ltb tau M in
+    let e1 = and-true-right a (b && (c && d)) e in
+    let e2 = and-true-right b (c && d) e1 in
+    record {
+      least = leb-true 2 M (and-true-left a (b && (c && d)) e);
+      most = leb-true M 512 (and-true-left b (c && d) e1);
+      some = leb-true 1 tau (and-true-left c d e2);
+      below = ltb-true tau M (and-true-right c d e2);
+    }

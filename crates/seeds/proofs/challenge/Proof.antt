@@ -1,0 +1,94 @@
+use mathlib.Core.List.{List}
+use borrow.Author.Tests.{lt-leb, le-leb, eq-eqb, ne-eqb, not-true, not-false}
+use Rattle.seeds.specs.Operations.{challengeOp, Outcome}
+use Rattle.seeds.proofs.PartyCounts.{Sizes, sizes, count-yes, count-no, Fit, counts-fit}
+use native.Mathlib.Omega.{arith}
+use mathlib.Core.Path.{_≡_, refl, sym, ap, _∙_}
+use Prim.Native.Nat.{ℕ, zero, suc, _+_, _-_, _*_, _≤_, _<_}
+use lib.ListN.{length, getD, set, length-set}
+use borrow.Author.Needs.{needs}
+use Rattle.seeds.proofs.challenge.Statement.{statement}
+use Rattle.seeds.proofs.challenge.Tie as tie
+use Rattle.seeds.proofs.challenge.Reads as reads
+use Rattle.seeds.proofs.challenge.Lts as lts
+use Rattle.seeds.proofs.choice.derive.Reads as derive-reads
+use Rattle.seeds.proofs.counts.Reads as counts-reads
+use Rattle.seeds.proofs.height.Reads as height-reads
+
+counts-requires : tie.Need-counts-requires
+counts-requires c κs = search needs
+
+returns : tie.Need-returns
+unfolding challengeOp
+returns c =
+    let x = c .before .before .before .before .before .args in
+    rw ((sym (c .before .counts .ensures) ∙ not-true _ (c .if1 .taken)))
+
+height-requires : tie.Need-height-requires
+height-requires c κs = search needs
+
+returns-2 : tie.Need-returns-2
+unfolding challengeOp
+returns-2 c =
+    let x = c .before .before .before .before .before .before .before .args in
+    rw ((sym (c .before .before .before .counts .ensures) ∙ not-false _ (c .before .before .if1 .left)), count-no (x .n) (sym (c .before .height .ensures) ∙ c .if2 .taken))
+
+returns-3 : tie.Need-returns-3
+unfolding challengeOp
+returns-3 c =
+    let x = c .before .before .before .before .before .before .before .before .args in
+    rw ((sym (c .before .before .before .before .counts .ensures) ∙ not-false _ (c .before .before .before .if1 .left)), count-yes (x .n) (λ e. c .before .if2 .left (c .before .before .height .ensures ∙ e)), ne-eqb (length (x .hstar .now)) 32 (c .if3 .taken))
+
+returns-4 : tie.Need-returns-4
+unfolding challengeOp
+returns-4 c =
+    let x = c .before .before .before .before .before .before .before .before .before .args in
+    rw ((sym (c .before .before .before .before .before .counts .ensures) ∙ not-false _ (c .before .before .before .before .if1 .left)), count-yes (x .n) (λ e. c .before .before .if2 .left (c .before .before .before .height .ensures ∙ e)), eq-eqb (length (x .hstar .now)) 32 (omega (arith, c .before .if3 .left)), lt-leb (length (x .message .now)) 4096 (c .if4 .taken))
+
+mul-if5 : tie.Need-mul-if5
+mul-if5 c = search needs
+
+returns-5 : tie.Need-returns-5
+unfolding challengeOp
+returns-5 c =
+    let x = c .before .before .before .before .before .before .before .before .before .before .args in
+    rw ((sym (c .before .before .before .before .before .before .counts .ensures) ∙ not-false _ (c .before .before .before .before .before .if1 .left)), count-yes (x .n) (λ e. c .before .before .before .if2 .left (c .before .before .before .before .height .ensures ∙ e)), eq-eqb (length (x .hstar .now)) 32 (omega (arith, c .before .before .if3 .left)), le-leb (length (x .message .now)) 4096 (omega (arith, c .before .if4 .left)), ne-eqb (length (x .out .now)) (3 * x .tau) (c .if5 .taken))
+
+cast-derive : tie.Need-cast-derive
+cast-derive c =
+    let z = sizes (c .before .before .before .before .before .before .before .before .before .before .args .n) (λ e. c .before .before .before .if2 .left (c .before .before .before .before .height .ensures ∙ e)) in
+    record { fits = omega arith }
+
+derive-requires : tie.Need-derive-requires
+derive-requires c κs =
+    let x = c .before .before .before .before .before .before .before .before .before .before .before .args in
+    let z = sizes (x .n) (λ e. c .before .before .before .before .if2 .left (c .before .before .before .before .before .height .ensures ∙ e)) in
+    let f = counts-fit (x .m) (x .tau) (sym (c .before .before .before .before .before .before .before .counts .ensures) ∙ not-false _ (c .before .before .before .before .before .before .if1 .left)) in
+    (f .most, (f .below, (omega arith, omega (arith, c .before .if5 .left))))
+
+same-length : tie.Need-same-length
+same-length c = search needs
+
+returns-6 : tie.Need-returns-6
+unfolding challengeOp
+returns-6 c =
+    let x = c .before .before .before .before .before .before .before .before .before .before .before .before .before .before .args in
+    rw ((sym (c .before .before .before .before .before .before .before .before .before .before .counts .ensures) ∙ not-false _ (c .before .before .before .before .before .before .before .before .before .if1 .left)), count-yes (x .n) (λ e. c .before .before .before .before .before .before .before .if2 .left (c .before .before .before .before .before .before .before .before .height .ensures ∙ e)), eq-eqb (length (x .hstar .now)) 32 (omega (arith, c .before .before .before .before .before .before .if3 .left)), le-leb (length (x .message .now)) 4096 (omega (arith, c .before .before .before .before .before .if4 .left)), eq-eqb (length (x .out .now)) (3 * x .tau) (omega (arith, c .before .before .before .before .if5 .left)))
+    (ap (λ (o : List ℕ). record { number = 0; buffer = o }) (c .before .before .derive .ensures))
+
+pub challenge-spec : {M : Type 1} → statement M
+challenge-spec =
+    tie.close
+    (tie.spec
+    counts-requires
+    returns
+    height-requires
+    returns-2
+    returns-3
+    returns-4
+    mul-if5
+    returns-5
+    cast-derive
+    derive-requires
+    same-length
+    returns-6)

@@ -1,0 +1,35 @@
+use mathlib.Core.List.{List}
+use Rattle.seeds.proofs.Choosing.{write-pair}
+use native.Mathlib.Omega.{arith}
+use mathlib.Core.Path.{_≡_, refl, sym, ap, _∙_}
+use Prim.Native.Nat.{ℕ, zero, suc, _+_, _-_, _*_, _≤_, _<_}
+use lib.ListN.{length, getD, set, length-set}
+use borrow.Author.Needs.{needs}
+use Rattle.seeds.proofs.choice.write_choice.Statement.{statement}
+use Rattle.seeds.proofs.choice.write_choice.Tie as tie
+use Rattle.seeds.proofs.choice.write_choice.Reads as reads
+use Rattle.seeds.proofs.choice.write_choice.Lts as lts
+use Rattle.bits.proofs.write_u16.Reads as write-u16-reads
+
+cast-write-u16 : tie.Need-cast-write-u16
+cast-write-u16 c = search needs
+
+write-u16-requires : tie.Need-write-u16-requires
+write-u16-requires c κs = search needs
+
+add-out : tie.Need-add-out
+add-out c = search needs
+
+slice-write-out : tie.Need-slice-write-out
+slice-write-out c = search needs
+
+same-length : tie.Need-same-length
+same-length c = search needs
+
+returns : tie.Need-returns
+returns c = ap (λ (o : List ℕ). set o (c .before .before .before .before .before .args .at + 2) (c .before .before .before .before .before .args .p)) (c .before .before .write-u16 .ensures) ∙ write-pair (c .before .before .before .before .before .args .out .now) (c .before .before .before .before .before .args .at) (c .before .before .before .before .before .args .i) (c .before .before .before .before .before .args .p)
+
+pub write-choice-spec : {M : Type 1} → statement M
+write-choice-spec =
+    tie.close
+    (tie.spec cast-write-u16 write-u16-requires add-out slice-write-out same-length returns)

@@ -1,0 +1,34 @@
+use Rattle.bits.specs.Bytes.{leBytes}
+use mathlib.Core.List.{[], _∷_, _++_, append-nil}
+use Rattle.seeds.specs.Inputs.{allOnlineInput}
+use Rattle.seeds.specs.Digest.{taken}
+use Rattle.seeds.proofs.Hashes.{empty-room}
+use Rattle.seeds.proofs.Digests.{taken-first}
+use native.Mathlib.Omega.{arith}
+use mathlib.Core.Path.{_≡_, refl, sym, ap, _∙_}
+use Prim.Native.Nat.{ℕ, zero, suc, _+_, _-_, _*_, _≤_, _<_}
+use lib.ListN.{length, getD, set, length-set}
+use borrow.Author.Needs.{needs}
+use Rattle.seeds.proofs.digest.start_all_online.Statement.{statement}
+use Rattle.seeds.proofs.digest.start_all_online.Tie as tie
+use Rattle.seeds.proofs.digest.start_all_online.Reads as reads
+use Rattle.seeds.proofs.digest.start_all_online.Lts as lts
+use Rattle.keccak.proofs.sponge.Sponge.absorb.Reads as absorb-reads
+use Rattle.keccak.proofs.sponge.Sponge.new.Reads as new-reads
+
+new-requires : tie.Need-new-requires
+new-requires c κs = search needs
+
+slice-aggregate-absorb : tie.Need-slice-aggregate-absorb
+slice-aggregate-absorb c = search needs
+
+absorb-requires : tie.Need-absorb-requires
+absorb-requires c κs = (omega arith, (refl, rw (c .before .new .ensures) (empty-room 136 (omega arith))))
+
+returns : tie.Need-returns
+unfolding allOnlineInput
+returns c = taken-first (10 ∷ []) (c .before .before .new .result) (c .absorb .result) (c .before .before .new .ensures) (c .absorb .ensures)
+
+pub start-all-online-spec : {M : Type 1} → statement M
+start-all-online-spec =
+    tie.close (tie.spec new-requires slice-aggregate-absorb absorb-requires returns)

@@ -1,0 +1,41 @@
+use Rattle.bits.specs.Bytes.{leBytes}
+use mathlib.Core.List.{[], _∷_, _++_, append-nil}
+use Rattle.seeds.specs.Inputs.{commitmentsInput}
+use Rattle.seeds.specs.Digest.{taken}
+use Rattle.seeds.proofs.Hashes.{empty-room}
+use Rattle.seeds.proofs.Digests.{taken-first}
+use native.Mathlib.Omega.{arith}
+use mathlib.Core.Path.{_≡_, refl, sym, ap, _∙_}
+use Prim.Native.Nat.{ℕ, zero, suc, _+_, _-_, _*_, _≤_, _<_}
+use lib.ListN.{length, getD, set, length-set}
+use borrow.Author.Needs.{needs}
+use Rattle.seeds.proofs.digest.start_commitments.Statement.{statement}
+use Rattle.seeds.proofs.digest.start_commitments.Tie as tie
+use Rattle.seeds.proofs.digest.start_commitments.Reads as reads
+use Rattle.seeds.proofs.digest.start_commitments.Lts as lts
+use Rattle.keccak.proofs.sponge.Sponge.absorb.Reads as absorb-reads
+use Rattle.keccak.proofs.sponge.Sponge.new.Reads as new-reads
+
+cast-t4 : tie.Need-cast-t4
+cast-t4 c = search needs
+
+cast-t7 : tie.Need-cast-t7
+cast-t7 c = search needs
+
+new-requires : tie.Need-new-requires
+new-requires c κs = search needs
+
+slice-aggregate-absorb : tie.Need-slice-aggregate-absorb
+slice-aggregate-absorb c = search needs
+
+absorb-requires : tie.Need-absorb-requires
+absorb-requires c κs = (omega arith, (refl, rw (c .before .new .ensures) (empty-room 136 (omega arith))))
+
+returns : tie.Need-returns
+unfolding commitmentsInput leBytes
+returns c = taken-first (7 ∷ leBytes 2 (c .before .before .before .args .j)) (c .before .before .new .result) (c .absorb .result) (c .before .before .new .ensures) (c .absorb .ensures)
+
+pub start-commitments-spec : {M : Type 1} → statement M
+start-commitments-spec =
+    tie.close
+    (tie.spec cast-t4 cast-t7 new-requires slice-aggregate-absorb absorb-requires returns)

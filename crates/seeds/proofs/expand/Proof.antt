@@ -1,0 +1,78 @@
+use mathlib.Core.List.{List}
+use Rattle.seeds.specs.Tree.{leavesBelow, siblingsBelow}
+use borrow.Author.Tests.{lt-leb, le-leb, lt-ltb, le-ltb, eq-eqb, ne-eqb}
+use Rattle.seeds.specs.Parties.{heightOf}
+use Rattle.seeds.specs.Operations.{expandOp, Outcome}
+use Rattle.seeds.proofs.PartyCounts.{Sizes, sizes, count-yes, count-no}
+use native.Mathlib.Omega.{arith}
+use mathlib.Core.Path.{_≡_, refl, sym, ap, _∙_}
+use Prim.Native.Nat.{ℕ, zero, suc, _+_, _-_, _*_, _≤_, _<_}
+use lib.ListN.{length, getD, set, length-set}
+use borrow.Author.Needs.{needs}
+use Rattle.seeds.proofs.expand.Statement.{statement}
+use Rattle.seeds.proofs.expand.Tie as tie
+use Rattle.seeds.proofs.expand.Reads as reads
+use Rattle.seeds.proofs.expand.Lts as lts
+use Rattle.seeds.proofs.height.Reads as height-reads
+use Rattle.seeds.proofs.tree.leaves_below.Reads as leaves-below-reads
+
+returns : tie.Need-returns
+unfolding expandOp
+returns c =
+    let x = c .before .before .before .args in
+    rw (lt-leb (x .j) 65535 (c .if1 .taken))
+
+height-requires : tie.Need-height-requires
+height-requires c κs = search needs
+
+returns-2 : tie.Need-returns-2
+unfolding expandOp
+returns-2 c =
+    let x = c .before .before .before .before .before .args in
+    rw (le-leb (x .j) 65535 (omega (arith, c .before .before .if1 .left)), count-no (x .n) (sym (c .before .height .ensures) ∙ c .if2 .taken))
+
+returns-3 : tie.Need-returns-3
+unfolding expandOp
+returns-3 c =
+    let x = c .before .before .before .before .before .before .args in
+    rw (le-leb (x .j) 65535 (omega (arith, c .before .before .before .if1 .left)), count-yes (x .n) (λ e. c .before .if2 .left (c .before .before .height .ensures ∙ e)), ne-eqb (length (x .master .now)) 16 (c .if3 .taken))
+
+mul-if4 : tie.Need-mul-if4
+mul-if4 c = search needs
+
+returns-4 : tie.Need-returns-4
+unfolding expandOp
+returns-4 c =
+    let x = c .before .before .before .before .before .before .before .args in
+    rw (le-leb (x .j) 65535 (omega (arith, c .before .before .before .before .if1 .left)), count-yes (x .n) (λ e. c .before .before .if2 .left (c .before .before .before .height .ensures ∙ e)), eq-eqb (length (x .master .now)) 16 (omega (arith, c .before .if3 .left)), ne-eqb (length (x .leaves .now)) (16 * x .n) (c .if4 .taken))
+
+leaves-below-requires : tie.Need-leaves-below-requires
+leaves-below-requires c κs =
+    let x = c .before .before .before .before .before .before .before .before .args in
+    let e = c .before .before .before .before .height .ensures in
+    let z = sizes (x .n) (λ q. c .before .before .before .if2 .left (e ∙ q)) in
+    rw e (omega (arith, c .before .before .if3 .left), (omega (arith, c .before .if4 .left), omega arith))
+
+same-length : tie.Need-same-length
+same-length c = search needs
+
+returns-5 : tie.Need-returns-5
+unfolding expandOp
+returns-5 c =
+    let x = c .before .before .before .before .before .before .before .before .before .before .before .args in
+    rw (le-leb (x .j) 65535 (omega (arith, c .before .before .before .before .before .before .before .before .if1 .left)), count-yes (x .n) (λ e. c .before .before .before .before .before .before .if2 .left (c .before .before .before .before .before .before .before .height .ensures ∙ e)), eq-eqb (length (x .master .now)) 16 (omega (arith, c .before .before .before .before .before .if3 .left)), eq-eqb (length (x .leaves .now)) (16 * x .n) (omega (arith, c .before .before .before .before .if4 .left)))
+    (ap (λ (o : List ℕ). record { number = 0; buffer = o }) (c .before .before .leaves-below .ensures ∙ ap (λ (h : ℕ). leavesBelow (x .j) h 1 (x .master .now)) (c .before .before .before .before .before .before .before .height .ensures)))
+
+pub expand-spec : {M : Type 1} → statement M
+expand-spec =
+    tie.close
+    (tie.spec
+    returns
+    height-requires
+    returns-2
+    returns-3
+    mul-if4
+    returns-4
+    leaves-below-requires
+    same-length
+    returns-5)

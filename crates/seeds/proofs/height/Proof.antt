@@ -1,0 +1,34 @@
+use Rattle.seeds.specs.Parties.{heightOf}
+use borrow.Author.Tests.{eq-eqb, ne-eqb}
+use borrow.Author.Needs.{needs}
+use native.Mathlib.Omega.{arith}
+use mathlib.Core.Path.{_≡_, refl, sym, ap, _∙_}
+use Prim.Native.Nat.{ℕ, zero, suc, _+_, _-_, _*_, _≤_, _<_}
+use lib.ListN.{length, getD, set, length-set}
+use Rattle.seeds.proofs.height.Statement.{statement}
+use Rattle.seeds.proofs.height.Tie as tie
+use Rattle.seeds.proofs.height.Reads as reads
+use Rattle.seeds.proofs.height.Lts as lts
+
+returns : tie.Need-returns
+unfolding heightOf
+returns c = rw (eq-eqb _ 2 (c .if1 .taken))
+
+returns-2 : tie.Need-returns-2
+unfolding heightOf
+returns-2 c = rw (ne-eqb _ 2 (c .before .if1 .left), eq-eqb _ 4 (c .if2 .taken))
+
+returns-3 : tie.Need-returns-3
+unfolding heightOf
+returns-3 c = rw (ne-eqb _ 2 (c .before .before .if1 .left), ne-eqb _ 4 (c .before .if2 .left), eq-eqb _ 8 (c .if3 .taken))
+
+returns-4 : tie.Need-returns-4
+unfolding heightOf
+returns-4 c = rw (ne-eqb _ 2 (c .before .before .before .if1 .left), ne-eqb _ 4 (c .before .before .if2 .left), ne-eqb _ 8 (c .before .if3 .left), eq-eqb _ 16 (c .if4 .taken))
+
+returns-5 : tie.Need-returns-5
+unfolding heightOf
+returns-5 c = rw (ne-eqb _ 2 (c .before .before .before .if1 .left), ne-eqb _ 4 (c .before .before .if2 .left), ne-eqb _ 8 (c .before .if3 .left), ne-eqb _ 16 (c .if4 .left))
+
+pub height-spec : {M : Type 1} → statement M
+height-spec = tie.close (tie.spec returns returns-2 returns-3 returns-4 returns-5)

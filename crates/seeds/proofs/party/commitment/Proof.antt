@@ -1,0 +1,106 @@
+use mathlib.Core.Logic.{⊎-elim}
+use mathlib.Core.List.{[], _∷_, _++_}
+use lib.Seq.{length-take-le}
+use Rattle.bits.specs.Bytes.{leBytes}
+use Rattle.bits.proofs.Rows.{row-length}
+use Rattle.keccak.proofs.Steps.{absorbs-room}
+use Rattle.seeds.proofs.Hashes.{empty-room}
+use Rattle.seeds.proofs.Digests.{taken-first, own-all, own-none, commitment-is}
+use native.Mathlib.Omega.{arith}
+use mathlib.Core.Path.{_≡_, refl, sym, ap, _∙_}
+use Prim.Native.Nat.{ℕ, zero, suc, _+_, _-_, _*_, _≤_, _<_}
+use lib.ListN.{length, getD, set, length-set}
+use borrow.Author.Needs.{needs}
+use Rattle.seeds.proofs.party.commitment.Statement.{statement}
+use Rattle.seeds.proofs.party.commitment.Tie as tie
+use Rattle.seeds.proofs.party.commitment.Reads as reads
+use Rattle.seeds.proofs.party.commitment.Lts as lts
+use Rattle.bits.proofs.row.Reads as row-reads
+use Rattle.keccak.proofs.sponge.Sponge.absorb.Reads as absorb-reads
+use Rattle.keccak.proofs.sponge.Sponge.new.Reads as new-reads
+use Rattle.seeds.proofs.digest.finish.Reads as finish-reads
+
+cast-t11 : tie.Need-cast-t11
+cast-t11 c = search needs
+
+cast-t14 : tie.Need-cast-t14
+cast-t14 c = search needs
+
+cast-t16 : tie.Need-cast-t16
+cast-t16 c = search needs
+
+row-requires : tie.Need-row-requires
+row-requires c κs = search needs
+
+add-if1 : tie.Need-add-if1
+add-if1 c = search needs
+
+new-requires : tie.Need-new-requires
+new-requires c κs = search needs
+
+slice-aggregate-absorb : tie.Need-slice-aggregate-absorb
+slice-aggregate-absorb c = search needs
+
+absorb-requires : tie.Need-absorb-requires
+absorb-requires c κs = (omega arith, (refl, rw (c .before .new .ensures) (empty-room 136 (omega arith))))
+
+slice-aggregate-absorb-2 : tie.Need-slice-aggregate-absorb-2
+slice-aggregate-absorb-2 c = sym (length-take-le 16 (c .before .before .before .before .before .row .result .now) (omega (arith, (ap length (c .before .before .before .before .before .row .ensures) ∙ row-length (c .before .before .before .before .before .before .before .before .args .rows .now) 32 (c .before .before .before .before .before .before .before .before .args .i) (c .before .before .before .before .before .before .before .before .pre .1)))))
+
+absorb-requires-2 : tie.Need-absorb-requires-2
+absorb-requires-2 c κs = (omega arith, (refl, rw (c .before .absorb .ensures) (absorbs-room 136 (omega arith) _ _ (rw (c .before .before .before .new .ensures) (empty-room 136 (omega arith))))))
+
+slice-aggregate-absorb-3 : tie.Need-slice-aggregate-absorb-3
+slice-aggregate-absorb-3 c = sym (length-take-le (c .before .before .before .before .before .before .if1 .own) (c .before .before .before .before .before .before .before .before .before .before .args .corrections .now) (⊎-elim (λ a. omega (arith, a .1)) (λ a. omega (arith, a .1)) (c .before .before .before .before .before .before .if1 .came)))
+
+absorb-requires-3 : tie.Need-absorb-requires-3
+absorb-requires-3 c κs = (omega arith, (refl, rw (c .before .absorb2 .ensures) (absorbs-room 136 (omega arith) _ _ (rw (c .before .before .before .absorb .ensures) (absorbs-room 136 (omega arith) _ _ (rw (c .before .before .before .before .before .new .ensures) (empty-room 136 (omega arith))))))))
+
+sub-absorb : tie.Need-sub-absorb
+sub-absorb c = omega (arith, (ap length (c .before .before .before .before .before .before .before .before .row .ensures) ∙ row-length (c .before .before .before .before .before .before .before .before .before .before .before .args .rows .now) 32 (c .before .before .before .before .before .before .before .before .before .before .before .args .i) (c .before .before .before .before .before .before .before .before .before .before .before .pre .1)))
+
+part-absorb-start : tie.Need-part-absorb-start
+part-absorb-start c = omega (arith, (ap length (c .before .before .before .before .before .before .before .before .row .ensures) ∙ row-length (c .before .before .before .before .before .before .before .before .before .before .before .args .rows .now) 32 (c .before .before .before .before .before .before .before .before .before .before .before .args .i) (c .before .before .before .before .before .before .before .before .before .before .before .pre .1)))
+
+part-absorb-end : tie.Need-part-absorb-end
+part-absorb-end c = search needs
+
+absorb-requires-4 : tie.Need-absorb-requires-4
+absorb-requires-4 c κs = (omega arith, (refl, rw (c .before .absorb3 .ensures) (absorbs-room 136 (omega arith) _ _ (rw (c .before .before .before .absorb2 .ensures) (absorbs-room 136 (omega arith) _ _ (rw (c .before .before .before .before .before .absorb .ensures) (absorbs-room 136 (omega arith) _ _ (rw (c .before .before .before .before .before .before .before .new .ensures) (empty-room 136 (omega arith))))))))))
+
+finish-requires : tie.Need-finish-requires
+finish-requires c κs = rw (c .absorb4 .ensures) (absorbs-room 136 (omega arith) _ _ (rw (c .before .before .absorb3 .ensures) (absorbs-room 136 (omega arith) _ _ (rw (c .before .before .before .before .absorb2 .ensures) (absorbs-room 136 (omega arith) _ _ (rw (c .before .before .before .before .before .before .absorb .ensures) (absorbs-room 136 (omega arith) _ _ (rw (c .before .before .before .before .before .before .before .before .new .ensures) (empty-room 136 (omega arith))))))))))
+
+returns : tie.Need-returns
+unfolding leBytes
+returns c =
+    let x = c .before .before .before .before .before .before .before .before .before .before .before .before .before .before .args in
+    commitment-is (x .j) (x .n) (x .i) (x .rows .now) (x .corrections .now) (c .before .before .before .before .before .before .before .before .before .before .before .row .result .now) (c .finish .result) (c .before .before .before .before .before .before .before .before .before .before .if1 .own)
+    (c .before .before .before .before .before .before .before .absorb .result) (c .before .before .before .before .before .absorb2 .result) (c .before .before .before .absorb3 .result) (c .before .absorb4 .result)
+    (λ i. c .before .before .before .before .before .before .before .before .before .before .before .before .before .shared-slice-known .given i .fits) (λ i. c .before .before .before .before .before .before .before .before .before .before .before .before .shared-slice-known2 .given i .fits) (c .before .before .before .before .before .before .before .before .before .before .before .row .ensures)
+    (⊎-elim (λ a. own-all (x .n) (x .i) (x .corrections .now) (c .before .before .before .before .before .before .before .before .before .before .if1 .own) (a .0 .taken) (a .1)) (λ a. own-none (x .n) (x .i) (x .corrections .now) (c .before .before .before .before .before .before .before .before .before .before .if1 .own) (a .0 .left) (a .1)) (c .before .before .before .before .before .before .before .before .before .before .if1 .came))
+    (taken-first (1 ∷ leBytes 2 (x .j) ++ leBytes 1 (x .i)) (c .before .before .before .before .before .before .before .before .before .new .result) (c .before .before .before .before .before .before .before .absorb .result) (c .before .before .before .before .before .before .before .before .before .new .ensures) (c .before .before .before .before .before .before .before .absorb .ensures))
+    (c .before .before .before .before .before .absorb2 .ensures) (c .before .before .before .absorb3 .ensures) (c .before .absorb4 .ensures) (c .finish .ensures)
+
+pub commitment-spec : {M : Type 1} → statement M
+commitment-spec =
+    tie.close
+    (tie.spec
+    cast-t11
+    cast-t14
+    cast-t16
+    row-requires
+    add-if1
+    new-requires
+    slice-aggregate-absorb
+    absorb-requires
+    slice-aggregate-absorb-2
+    absorb-requires-2
+    slice-aggregate-absorb-3
+    absorb-requires-3
+    sub-absorb
+    part-absorb-start
+    part-absorb-end
+    absorb-requires-4
+    finish-requires
+    returns)

@@ -1,0 +1,38 @@
+use Rattle.bits.specs.Bytes.{leBytes}
+use Rattle.keccak.specs.Sponge.{shake128}
+use Rattle.seeds.specs.Inputs.{masterInput}
+use Rattle.seeds.specs.Derive.{masterOf}
+use native.Mathlib.Omega.{arith}
+use mathlib.Core.Path.{_≡_, refl, sym, ap, _∙_}
+use Prim.Native.Nat.{ℕ, zero, suc, _+_, _-_, _*_, _≤_, _<_}
+use lib.ListN.{length, getD, set, length-set}
+use borrow.Author.Needs.{needs}
+use Rattle.seeds.proofs.party.master.Statement.{statement}
+use Rattle.seeds.proofs.party.master.Tie as tie
+use Rattle.seeds.proofs.party.master.Reads as reads
+use Rattle.seeds.proofs.party.master.Lts as lts
+use Rattle.seeds.proofs.hash.shake128.Reads as shake128-reads
+
+cast-t6 : tie.Need-cast-t6
+cast-t6 c = search needs
+
+cast-t9 : tie.Need-cast-t9
+cast-t9 c = search needs
+
+slice-aggregate-shake128 : tie.Need-slice-aggregate-shake128
+slice-aggregate-shake128 c = search needs
+
+shake128-requires : tie.Need-shake128-requires
+shake128-requires c κs = search needs
+
+same-length : tie.Need-same-length
+same-length c = search needs
+
+returns : tie.Need-returns
+unfolding masterOf masterInput leBytes
+returns c = c .before .before .shake128 .ensures ∙ ap (shake128 _) (c .before .before .before .before .before .before .before .pre)
+
+pub master-spec : {M : Type 1} → statement M
+master-spec =
+    tie.close
+    (tie.spec cast-t6 cast-t9 slice-aggregate-shake128 shake128-requires same-length returns)

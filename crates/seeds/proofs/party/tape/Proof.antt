@@ -1,0 +1,52 @@
+use Rattle.bits.specs.Bytes.{leBytes}
+use Rattle.seeds.specs.Inputs.{tapeInput}
+use Rattle.seeds.specs.Derive.{tapeRow, clearFrom}
+use native.Mathlib.Omega.{arith}
+use mathlib.Core.Path.{_≡_, refl, sym, ap, _∙_}
+use Prim.Native.Nat.{ℕ, zero, suc, _+_, _-_, _*_, _≤_, _<_}
+use lib.ListN.{length, getD, set, length-set}
+use borrow.Author.Needs.{needs}
+use Rattle.seeds.proofs.party.tape.Statement.{statement}
+use Rattle.seeds.proofs.party.tape.Tie as tie
+use Rattle.seeds.proofs.party.tape.Reads as reads
+use Rattle.seeds.proofs.party.tape.Lts as lts
+use Rattle.seeds.proofs.hash.shake128.Reads as shake128-reads
+use Rattle.seeds.proofs.party.clear_from.Reads as clear-from-reads
+
+cast-t8 : tie.Need-cast-t8
+cast-t8 c = search needs
+
+cast-t11 : tie.Need-cast-t11
+cast-t11 c = search needs
+
+cast-t13 : tie.Need-cast-t13
+cast-t13 c = search needs
+
+slice-aggregate-shake128 : tie.Need-slice-aggregate-shake128
+slice-aggregate-shake128 c = search needs
+
+shake128-requires : tie.Need-shake128-requires
+shake128-requires c κs = search needs
+
+clear-from-requires : tie.Need-clear-from-requires
+clear-from-requires c κs = search needs
+
+same-length : tie.Need-same-length
+same-length c = search needs
+
+returns : tie.Need-returns
+unfolding tapeRow tapeInput leBytes
+returns c = c .before .before .clear-from .ensures ∙ ap (clearFrom (c .before .before .before .before .before .before .before .before .before .before .before .args .k)) (c .before .before .before .before .before .before .shake128 .ensures)
+
+pub tape-spec : {M : Type 1} → statement M
+tape-spec =
+    tie.close
+    (tie.spec
+    cast-t8
+    cast-t11
+    cast-t13
+    slice-aggregate-shake128
+    shake128-requires
+    clear-from-requires
+    same-length
+    returns)

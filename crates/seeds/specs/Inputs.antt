@@ -1,0 +1,58 @@
+-- The input of every hash, named after what it makes. Document 01, "Seeds and digests":
+-- "Each input starts with a tag byte. j is u16, i is u8."
+-- Assumes nothing.
+use mathlib.Core.Bool.{cond}
+use mathlib.Core.List.{List, [], _∷_, _++_}
+use Prim.Native.Nat.{ℕ, _+_}
+use lib.Dec.{eqb}
+use lib.ListN.{length}
+use Rattle.bits.specs.Bytes.{leBytes}
+
+-- 5: the master of j, from the root
+unfoldable pub masterInput : ℕ → List ℕ → List ℕ
+masterInput j root = (5 ∷ leBytes 2 j) ++ root
+
+-- 2: the two children of node k, from its value
+unfoldable pub nodeInput : ℕ → ℕ → List ℕ → List ℕ
+nodeInput j k value = (2 ∷ leBytes 2 j ++ leBytes 2 k) ++ value
+
+-- 3: the seed and r of party i, from its leaf
+unfoldable pub leafInput : ℕ → ℕ → List ℕ → List ℕ
+leafInput j i leaf = (3 ∷ leBytes 2 j ++ leBytes 1 i) ++ leaf
+
+-- 4: the tape row of party i, from its seed
+unfoldable pub tapeInput : ℕ → ℕ → List ℕ → List ℕ
+tapeInput j i seed = (4 ∷ leBytes 2 j ++ leBytes 1 i) ++ seed
+
+-- "corrections if i = n − 1"
+unfoldable pub ownCorrections : ℕ → ℕ → List ℕ → List ℕ
+ownCorrections n i corrections = cond (eqb (i + 1) n) corrections []
+
+-- 1: the commitment of party i of n
+unfoldable pub commitmentInput : ℕ → ℕ → ℕ → List ℕ → List ℕ → List ℕ → List ℕ
+commitmentInput j n i seed corrections r =
+    ((1 ∷ leBytes 2 j ++ leBytes 1 i) ++ seed) ++ ownCorrections n i corrections ++ r
+
+-- 7: h_j, over all commitments
+unfoldable pub commitmentsInput : ℕ → List ℕ → List ℕ
+commitmentsInput j commitments = (7 ∷ leBytes 2 j) ++ commitments
+
+-- 8: h'_j, over the masked inputs and all broadcast rows
+unfoldable pub onlineInput : ℕ → List ℕ → List ℕ → List ℕ
+onlineInput j maskedInputs rows = (8 ∷ leBytes 2 j) ++ maskedInputs ++ rows
+
+-- 9: h, over all h_j
+unfoldable pub allCommitmentsInput : List ℕ → List ℕ
+allCommitmentsInput digests = (9 ∷ []) ++ digests
+
+-- 10: h', over all h'_j
+unfoldable pub allOnlineInput : List ℕ → List ℕ
+allOnlineInput digests = (10 ∷ []) ++ digests
+
+-- 11: h*, over h and h'
+unfoldable pub transcriptInput : List ℕ → List ℕ → List ℕ
+transcriptInput h h′ = (11 ∷ []) ++ h ++ h′
+
+-- 6: the challenge, from h* and the message
+unfoldable pub challengeInput : List ℕ → List ℕ → List ℕ
+challengeInput hstar message = (6 ∷ []) ++ hstar ++ leBytes 2 (length message) ++ message

@@ -1,0 +1,7 @@
+pub mod Inputs
+pub mod Parties
+pub mod Tree
+pub mod Derive
+pub mod Challenge
+pub mod Digest
+pub mod Operations

@@ -1,0 +1,45 @@
+-- The tree of an instance j. Document 01: "node 1 of the tree is the master; a node k's 32 bytes SHAKE128(2, j, k as u16,
+-- value) are nodes 2k and 2k + 1. Leaf i is node n + i; a node's subtree is the same rule applied to its two children.
+-- Opening all but p gives the siblings on the path to p, top first."
+-- Assumes nothing.
+use mathlib.Core.Bool.{cond}
+use mathlib.Core.List.{List, [], _∷_, _++_}
+use Prim.Native.Nat.{ℕ, zero, suc, _+_, _-_, _*_, _^_}
+use lib.Dec.{ltb}
+use lib.ListN.{take, drop, replicate}
+use Rattle.keccak.specs.Sponge.{shake128}
+use Rattle.seeds.specs.Inputs.{nodeInput}
+
+-- the values of nodes 2k and 2k + 1, from that of node k
+unfoldable pub children : ℕ → ℕ → List ℕ → List ℕ
+children j k value = shake128 (nodeInput j k value) 32
+
+unfoldable pub leftChild : ℕ → ℕ → List ℕ → List ℕ
+leftChild j k value = take 16 (children j k value)
+
+unfoldable pub rightChild : ℕ → ℕ → List ℕ → List ℕ
+rightChild j k value = drop 16 (children j k value)
+
+-- the leaves h levels below node k, in order
+unfoldable pub leavesBelow : ℕ → ℕ → ℕ → List ℕ → List ℕ
+leavesBelow j zero k value = value
+leavesBelow j (suc h) k value =
+    leavesBelow j h (2 * k) (leftChild j k value) ++ leavesBelow j h (2 * k + 1) (rightChild j k value)
+
+-- the siblings on the path from node k to its leaf p, h levels below, top first
+unfoldable pub siblingsBelow : ℕ → ℕ → ℕ → ℕ → List ℕ → List ℕ
+siblingsBelow j zero k p value = []
+siblingsBelow j (suc h) k p value =
+    cond (ltb p (2 ^ h)) (rightChild j k value ++ siblingsBelow j h (2 * k) p (leftChild j k value))
+    (leftChild j k value ++ siblingsBelow j h (2 * k + 1) (p - 2 ^ h) (rightChild j k value))
+
+-- the leaves h levels below node k that follow from the siblings on the path to leaf p, with zeros at leaf p
+unfoldable pub openedBelow : ℕ → ℕ → ℕ → ℕ → List ℕ → List ℕ
+openedBelow j zero k p siblings = replicate 16 0
+openedBelow j (suc h) k p siblings =
+    cond (ltb p (2 ^ h)) (openedBelow j h (2 * k) p (drop 16 siblings) ++ leavesBelow j h (2 * k + 1) (take 16 siblings))
+    (leavesBelow j h (2 * k) (take 16 siblings) ++ openedBelow j h (2 * k + 1) (p - 2 ^ h) (drop 16 siblings))
+
+-- leaves with zeros at leaf p
+unfoldable pub hide : ℕ → List ℕ → List ℕ
+hide p leaves = take (16 * p) leaves ++ replicate 16 0 ++ drop (16 * p + 16) leaves

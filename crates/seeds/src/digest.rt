@@ -1,0 +1,64 @@
+// The digests of a transcript. A caller starts one, lends its parts to `absorb` at the rate of SHA3-256, and finishes it.
+ghost use mathlib.Core.Path.{_≡_};
+ghost use mathlib.Core.List.{[]};
+ghost use Prim.Native.Nat.{_<_};
+ghost use Rattle.seeds.specs.Inputs.{commitmentsInput, onlineInput, allCommitmentsInput, allOnlineInput};
+ghost use Rattle.seeds.specs.Digest.{taken, given, transcriptOf};
+use keccak::SHA3_256_RATE;
+use keccak::SHA3_FIRST;
+use keccak::sponge::Sponge;
+
+// Starts h_j, which takes in all commitments of instance j.
+pub fn start_commitments(j: u32) -> Sponge
+    ensures { λ r. ⌜ r ≡ taken (commitmentsInput j []) ⌝ }
+{
+    let head = [7u8, (j % 256) as u8, (j / 256 % 256) as u8];
+    Sponge::new().absorb(SHA3_256_RATE, &head)
+}
+
+// Starts h'_j, which takes in the masked inputs and all broadcast rows of instance j.
+pub fn start_online(j: u32) -> Sponge
+    ensures { λ r. ⌜ r ≡ taken (onlineInput j [] []) ⌝ }
+{
+    let head = [8u8, (j % 256) as u8, (j / 256 % 256) as u8];
+    Sponge::new().absorb(SHA3_256_RATE, &head)
+}
+
+// Starts h, which takes in all h_j.
+pub fn start_all_commitments() -> Sponge
+    ensures { λ r. ⌜ r ≡ taken (allCommitmentsInput []) ⌝ }
+{
+    let head = [9u8];
+    Sponge::new().absorb(SHA3_256_RATE, &head)
+}
+
+// Starts h', which takes in all h'_j.
+pub fn start_all_online() -> Sponge
+    ensures { λ r. ⌜ r ≡ taken (allOnlineInput []) ⌝ }
+{
+    let head = [10u8];
+    Sponge::new().absorb(SHA3_256_RATE, &head)
+}
+
+// The digest of what the sponge has taken in.
+pub fn finish(s: Sponge) -> [u8; 32]
+    requires { ⌜ s .fill < 136 ⌝ }
+    ensures { λ r. ⌜ r ≡ given s ⌝ }
+{
+    let mut out = [0u8; 32];
+    let _ = s.pad(SHA3_256_RATE, SHA3_FIRST)
+        .squeeze(SHA3_256_RATE, &mut out);
+    out
+}
+
+// h*, from h and h'.
+pub fn transcript(h: &[u8], online: &[u8]) -> [u8; 32]
+    ensures { λ r. ⌜ r ≡ transcriptOf (now (h .entry)) (now (online .entry)) ⌝ }
+{
+    let head = [11u8];
+    let s = Sponge::new()
+        .absorb(SHA3_256_RATE, &head)
+        .absorb(SHA3_256_RATE, h)
+        .absorb(SHA3_256_RATE, online);
+    finish(s)
+}

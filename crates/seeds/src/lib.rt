@@ -1,0 +1,115 @@
+// Seeds and digests of document 01: the tree of an instance, what follows from a leaf, the challenge.
+ghost use mathlib.Core.Path.{_≡_};
+ghost use Rattle.seeds.specs.Parties.{heightOf};
+ghost use Rattle.seeds.specs.Operations.{outcome, areCounts, expandOp, openOp, challengeOp};
+
+mod choice;
+pub mod digest;
+mod hash;
+pub mod party;
+pub mod tree;
+
+use choice::derive;
+use refusal::Refusal;
+use tree::leaves_below;
+use tree::siblings_below;
+
+// What an operation answers.
+pub enum Answer {
+    Done,
+    Refused(Refusal),
+}
+
+// The height of the tree for n parties; 0 where n is no party count.
+pub fn height(n: u32) -> u32
+    ensures { λ r. ⌜ r ≡ heightOf n ⌝ }
+{
+    if n == 2 {
+        1
+    } else if n == 4 {
+        2
+    } else if n == 8 {
+        3
+    } else if n == 16 {
+        4
+    } else {
+        0
+    }
+}
+
+// Expands the tree of instance j from its master into its n leaves.
+pub fn expand(j: u32, n: u32, master: &[u8], leaves: &mut [u8]) -> Answer
+    ensures { λ r. ⌜ outcome r (now (leaves .exit)) ≡ expandOp j n (now (master .entry)) (now (leaves .entry)) ⌝ }
+{
+    if j > 65535 {
+        return Answer::Refused(Refusal::Parameter);
+    }
+    let h = height(n);
+    if h == 0 {
+        return Answer::Refused(Refusal::Parameter);
+    }
+    if master.len() != 16 {
+        return Answer::Refused(Refusal::BufferLength);
+    }
+    if leaves.len() != 16 * (n as usize) {
+        return Answer::Refused(Refusal::BufferLength);
+    }
+    leaves_below(j, 1, h, master, leaves);
+    Answer::Done
+}
+
+// Opens all leaves but p of the tree of instance j: the siblings on the path to p, top first.
+pub fn open(j: u32, n: u32, p: u32, master: &[u8], siblings: &mut [u8]) -> Answer
+    ensures { λ r. ⌜ outcome r (now (siblings .exit)) ≡ openOp j n p (now (master .entry)) (now (siblings .entry)) ⌝ }
+{
+    if j > 65535 {
+        return Answer::Refused(Refusal::Parameter);
+    }
+    let h = height(n);
+    if h == 0 {
+        return Answer::Refused(Refusal::Parameter);
+    }
+    if p >= n {
+        return Answer::Refused(Refusal::Index);
+    }
+    if master.len() != 16 {
+        return Answer::Refused(Refusal::BufferLength);
+    }
+    if siblings.len() != 16 * (h as usize) {
+        return Answer::Refused(Refusal::BufferLength);
+    }
+    siblings_below(j, 1, h, p, master, siblings);
+    Answer::Done
+}
+
+// Whether m instances with tau of them chosen are within the limits.
+pub fn counts(m: u32, tau: u32) -> bool
+    ensures { λ r. ⌜ r ≡ areCounts m tau ⌝ }
+{
+    2 <= m && (m <= 512 && (1 <= tau && tau < m))
+}
+
+// Derives the challenge: tau chosen instances, ascending, each with its hidden party.
+pub fn challenge(m: u32, tau: u32, n: u32, hstar: &[u8], message: &[u8], out: &mut [u8]) -> Answer
+    ensures { λ r. ⌜ outcome r (now (out .exit)) ≡ challengeOp m tau n (now (hstar .entry)) (now (message .entry)) (now (out .entry)) ⌝ }
+{
+    let fit = counts(m, tau);
+    if !fit {
+        return Answer::Refused(Refusal::Parameter);
+    }
+    let h = height(n);
+    if h == 0 {
+        return Answer::Refused(Refusal::Parameter);
+    }
+    if hstar.len() != 32 {
+        return Answer::Refused(Refusal::BufferLength);
+    }
+    if message.len() > 4096 {
+        return Answer::Refused(Refusal::BufferLength);
+    }
+    if out.len() != 3 * (tau as usize) {
+        return Answer::Refused(Refusal::BufferLength);
+    }
+    derive(m as usize, tau as usize, n as u8, hstar, message, out);
+    Answer::Done
+}

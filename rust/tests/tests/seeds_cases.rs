@@ -1,0 +1,146 @@
+//! Each refusal of the seed tree and the challenge, alone and in order. Both
+//! implementations must give the number that stands here.
+
+use reference::seeds;
+use tests::guarded::Guarded;
+use tests::random::Random;
+
+const NOT_A_COUNT: [u32; 16] = [
+    0,
+    1,
+    3,
+    5,
+    6,
+    7,
+    9,
+    12,
+    15,
+    17,
+    32,
+    256 + 2,
+    65_536 + 4,
+    1 << 31,
+    u32::MAX - 1,
+    u32::MAX,
+];
+const NOT_AN_INSTANCE: [u32; 4] = [65_536, 65_537, 1 << 31, u32::MAX];
+
+/// A refused call of the library leaves what it is lent.
+fn refused(
+    out_len: usize,
+    number: u32,
+    call: impl Fn(&mut [u8]) -> Result<(), wivulameno::Refusal>,
+) {
+    let mut out = Guarded::new(&mut Random::new(1), 1, out_len);
+    let answer = call(out.lent());
+    assert_eq!(answer, Err(wivulameno::Refusal(number)));
+    assert!(out.unchanged());
+}
+
+fn check_expand(j: u32, n: u32, lens: [usize; 2], number: u32) {
+    let master = vec![7; lens[0]];
+    let second = seeds::expand(j, n, &master, &mut vec![0; lens[1]]);
+    assert_eq!(second, Err(number), "j {j}, n {n}, lengths {lens:?}");
+    refused(lens[1], number, |out| {
+        wivulameno::seeds::expand(j, n, &master, out)
+    });
+}
+
+fn check_open(j: u32, n: u32, p: u32, lens: [usize; 2], number: u32) {
+    let master = vec![7; lens[0]];
+    let second = seeds::open(j, n, p, &master, &mut vec![0; lens[1]]);
+    assert_eq!(second, Err(number), "j {j}, n {n}, p {p}, lengths {lens:?}");
+    refused(lens[1], number, |out| {
+        wivulameno::seeds::open(j, n, p, &master, out)
+    });
+}
+
+/// The lengths are those of h*, the message and the output. The reference has
+/// no lent output; its length is the last test.
+fn check_challenge(counts: [u32; 3], lens: [usize; 3], number: u32) {
+    let [m, tau, n] = counts;
+    let (hstar, message) = (vec![7; lens[0]], vec![8; lens[1]]);
+    refused(lens[2], number, |out| {
+        wivulameno::seeds::challenge(m, tau, n, &hstar, &message, out)
+    });
+    let mut second = seeds::challenge(m, tau, n, &hstar, &message).map(|_| ());
+    if second.is_ok() && lens[2] != 3 * tau as usize {
+        second = Err(6);
+    }
+    assert_eq!(second, Err(number), "{counts:?}, {lens:?}");
+}
+
+#[test]
+fn refusals_of_expand() {
+    for n in NOT_A_COUNT {
+        check_expand(0, n, [16, 32], 8);
+        check_expand(0, n, [15, 31], 8);
+    }
+    for j in NOT_AN_INSTANCE {
+        check_expand(j, 2, [16, 32], 8);
+        check_expand(j, 2, [0, 0], 8);
+    }
+    for len in [0, 1, 15, 17, 32, 256 + 16] {
+        check_expand(0, 2, [len, 32], 6);
+        check_expand(65_535, 16, [len, 256], 6);
+    }
+    for len in [0, 1, 63, 65, 32, 128, 256] {
+        check_expand(0, 4, [16, len], 6);
+    }
+}
+
+#[test]
+fn refusals_of_open() {
+    for n in NOT_A_COUNT {
+        check_open(0, n, 0, [16, 16], 8);
+        check_open(0, n, n, [0, 0], 8);
+    }
+    for j in NOT_AN_INSTANCE {
+        check_open(j, 2, 0, [16, 16], 8);
+        check_open(j, 2, 2, [0, 0], 8);
+    }
+    for (n, len) in [(2, 16), (4, 32), (8, 48), (16, 64)] {
+        for p in [n, n + 1, 256, 65_536, 1 << 31, u32::MAX] {
+            check_open(0, n, p, [16, len], 9);
+            check_open(0, n, p, [0, 0], 9);
+        }
+        for other in [0, 1, len - 1, len + 1, len - 16, len + 16] {
+            check_open(0, n, n - 1, [16, other], 6);
+        }
+        for other in [0, 1, 15, 17, 32] {
+            check_open(0, n, n - 1, [other, len], 6);
+        }
+    }
+}
+
+#[test]
+fn refusals_of_challenge_for_counts() {
+    for m in [0, 1, 513, 514, 1024, 65_536 + 4, 1 << 31, u32::MAX] {
+        check_challenge([m, 1, 2], [32, 5, 3], 8);
+        check_challenge([m, 1, 2], [0, 4097, 0], 8);
+    }
+    for tau in [0, 4, 5, 256 + 1, 65_536 + 1, 1 << 31, u32::MAX] {
+        check_challenge([4, tau, 2], [32, 5, 3], 8);
+        check_challenge([4, tau, 2], [0, 4097, 0], 8);
+    }
+    for m in [2, 3, 17, 512] {
+        check_challenge([m, m, 2], [32, 5, 3 * m as usize], 8);
+    }
+    for n in NOT_A_COUNT {
+        check_challenge([4, 1, n], [32, 5, 3], 8);
+        check_challenge([4, 1, n], [0, 4097, 0], 8);
+    }
+}
+
+#[test]
+fn refusals_of_challenge_for_lengths() {
+    for len in [0, 1, 31, 33, 64, 256 + 32] {
+        check_challenge([4, 1, 2], [len, 5, 3], 6);
+    }
+    for len in [4097, 4098, 65_536, 65_536 + 5] {
+        check_challenge([4, 1, 2], [32, len, 3], 6);
+    }
+    for len in [0, 1, 2, 3, 5, 7, 8, 9, 12, 256 + 6] {
+        check_challenge([4, 2, 2], [32, 5, len], 6);
+    }
+}
