@@ -3,7 +3,7 @@
 use mathlib.Core.Path.{_≡_, refl, sym, ap, ap₂, _∙_}
 use mathlib.Core.Bool.{Bool, true, false, not, cond, _&&_}
 use mathlib.Core.List.{List, [], _∷_, map}
-use Prim.Native.Nat.{ℕ, zero, suc, _+_, _-_, _*_, _≤_, _<_}
+use Prim.Native.Nat.{ℕ, _+_, _*_, _≤_, _<_}
 use native.Mathlib.Omega.{arith}
 use borrow.Author.Tests.{lt-ltb, le-ltb, ltb-false, not-false, not-true, leb-true, eq-eqb, ne-eqb}
 use lib.Dec.{leb, ltb}
@@ -11,9 +11,10 @@ use lib.ListN.{length, length-map}
 use Rattle.bits.proofs.Tests.{and-true-left, and-true-right}
 use Rattle.bits.proofs.Tabulate.{length-tabulate}
 use Rattle.circuit.specs.Circuit.{Circuit, Gate, ands}
-use Rattle.circuit.specs.File.{inputsOf, outputsOf, gatesOf, headOf, nextOf, outputWire, withinLimits, rightLength, goodRecords, goodChain, goodWires, goodOutputs, readsWritten, walks, chainFrom, gateAt, gatesInOrder, circuitOf, Reading, refused, legal, readCircuit}
+use Rattle.circuit.specs.File.{inputsOf, outputsOf, gatesOf, headOf, outputWire, withinLimits, rightLength, goodRecords, goodChain, goodWires, goodOutputs, readsWritten, walks, chainFrom, gateAt, gatesInOrder, circuitOf, Reading, refused, legal, readCircuit}
 use Rattle.circuit.specs.Operations.{refusal, success, readAnswer, readOp}
 use Rattle.circuit.specs.Records.{Framed, limits, gatesFrom, inputsFirst}
+use Rattle.circuit.proofs.Visits.{length-chain}
 
 -- a file of 8 bytes or more, with its limits and its length good
 pub record Front (s : List ℕ) : Type 0 where
@@ -58,12 +59,7 @@ module _ (s : List ℕ) where
   unfolding readCircuit
   read-legal p = rw (le-ltb (length s) 8 (p .front .enough), p .front .limited, p .front .sized, p .records, p .chain, p .wires)
 
-length-chain : (s : List ℕ) (n k : ℕ) → length (chainFrom s n k) ≡ n
-unfolding chainFrom
-length-chain s zero k = refl
-length-chain s (suc n) k = ap suc (length-chain s n (nextOf s k))
-
--- the circuit has G gates and O outputs
+-- the circuit has G gates
 pub gates-count : (s : List ℕ) → length (gatesInOrder s) ≡ gatesOf s
 unfolding gatesInOrder
 gates-count s = length-map (chainFrom s (gatesOf s) (headOf s)) (gateAt s) ∙ length-chain s (gatesOf s) (headOf s)
@@ -94,6 +90,13 @@ passed s c e =
       chain = not-false _ (g .0);
       wires = not-false _ (h .0);
     }
+
+-- and its circuit is the one that it holds
+pub read-same : (s : List ℕ) (c : Circuit) → readCircuit s ≡ legal c → circuitOf s ≡ c
+read-same s c e = same-legal (circuitOf s) c (sym (read-legal s (passed s c e)) ∙ e)
+  where
+    same-legal : (c d : Circuit) → legal c ≡ legal d → c ≡ d
+    same-legal c d e = cc
 
 -- an answer that is a success is that of a legal file
 pub success-passed : (s : List ℕ) (l : List ℕ) → success l ≡ readOp s → Passed s

@@ -15,7 +15,7 @@ use Rattle.refusal.specs.Refusal.{numberOf}
 use Rattle.refusal.specs.declared.Refusal.{Refusal}
 use Rattle.refusal.specs.declared.Refusal.the-variants.{BufferLength, UnusedBits}
 use Rattle.circuit.specs.Circuit.{ands, evaluate}
-use Rattle.circuit.specs.File.{inputsOf, outputsOf, gatesOf, headOf, nextOf, outputWire, withinLimits, rightLength, walks, goodWires, goodOutputs, readsWritten, gatesInOrder, circuitOf, refused, legal}
+use Rattle.circuit.specs.File.{inputsOf, outputsOf, gatesOf, headOf, nextOf, outputWire, withinLimits, rightLength, walks, goodWires, goodOutputs, readsWritten, gatesInOrder, circuitOf}
 use Rattle.circuit.specs.Operations.{refusal, success, readOp, evaluateLegal, evaluateRead, evaluateOp}
 use Rattle.circuit.specs.Records.{limits, gatesFrom, gateOf}
 use Rattle.circuit.specs.Values.{gateByte, loaded, walked, outBits, Ready, Ended, Legal}

@@ -2,24 +2,25 @@
 -- written by an earlier gate.
 -- Assumes nothing.
 use mathlib.Core.Path.{_≡_, refl, sym, ap, subst, _∙_}
-use mathlib.Core.Bool.{Bool, true, false, not, cond, _&&_}
+use mathlib.Core.Bool.{Bool, true, false, cond, _&&_}
 use mathlib.Core.List.{List, [], _∷_, _++_, map}
 use mathlib.Core.Logic.{_≢_, _⊎_, inl, inr, ⊎-elim}
 use Prim.Native.Nat.{ℕ, zero, suc, _+_, _-_, _≤_, _<_}
 use native.Mathlib.Nat.{eq-or-lt-of-le}
 use native.Mathlib.Omega.{arith}
 use lib.Dec.{eqb, ltb}
-use lib.ListN.{length, getD, length-map}
+use lib.ListN.{length, getD}
 use borrow.Author.Tests.{eq-eqb, ne-eqb, ltb-true, lt-ltb}
 use Rattle.bits.specs.Bits.{tabulate}
 use Rattle.bits.proofs.Numbers.{eq-or-ne}
 use Rattle.bits.proofs.Tabulate.{length-tabulate, getD-tabulate}
 use Rattle.bits.proofs.Tests.{and-true-left, and-true-right}
 use Rattle.circuit.specs.Circuit.{Gate, xor, and, inv, Circuit, put}
-use Rattle.circuit.specs.File.{inputsOf, outputsOf, gatesOf, headOf, outputWire, kindOf, wireA, wireB, goodChain, chainFrom, gateAt, gatesInOrder, readsWritten, goodOutputs, goodWires, withinLimits, rightLength, goodRecords, circuitOf, Reading, refused, legal, readCircuit}
+use Rattle.circuit.specs.File.{inputsOf, outputsOf, gatesOf, headOf, outputWire, kindOf, wireA, wireB, goodChain, chainFrom, gateAt, gatesInOrder, readsWritten, goodOutputs, goodWires, circuitOf}
 use Rattle.circuit.specs.Meaning.{count, reads, writes, ReadsEarlier, WiresTheorem}
 use Rattle.circuit.proofs.Counting.{Within, count-here, count-other, count-rest, within-first, within-rest}
-use Rattle.circuit.proofs.Visits.{length-chain, chain-sound}
+use Rattle.circuit.proofs.Visits.{chain-sound}
+use Rattle.circuit.proofs.Answered.{passed, gates-count, read-same}
 
 -- the wire that a gate writes
 out : Gate → ℕ
@@ -75,11 +76,6 @@ module _ (I g : ℕ) where
       let other : I + y - 1 ≢ w = λ e. ⊎-elim (λ l. omega arith) (λ l. omega arith) o in
       count-other w (I + y - 1) (map (λ y. I + y - 1) ys) other ∙ wire-none ys (within-rest g y ys h) w o
 
--- a chain has as many gates as slots
-length-gates : (s : List ℕ) → length (gatesInOrder s) ≡ gatesOf s
-unfolding gatesInOrder
-length-gates s = length-map (chainFrom s (gatesOf s) (headOf s)) (gateAt s) ∙ length-chain s (gatesOf s) (headOf s)
-
 -- on a good chain, each wire from I to I + G − 1 is written once
 gates-once : (s : List ℕ) → goodChain s ≡ true → (w : ℕ) → inputsOf s ≤ w → w < inputsOf s + length (gatesInOrder s)
     → count w (writes (gatesInOrder s)) ≡ 1
@@ -88,7 +84,7 @@ gates-once s t w p l =
     let slots : List ℕ = chainFrom s (gatesOf s) (headOf s) in
     let k : ℕ = suc (w - inputsOf s) in
     let e : w ≡ inputsOf s + k - 1 = omega arith in
-    let b : k ≤ gatesOf s = omega (arith, length-gates s) in
+    let b : k ≤ gatesOf s = omega (arith, gates-count s) in
     ap (count w) (slots-write s slots)
     ∙ ap (λ (x : ℕ). count x (map (λ y. inputsOf s + y - 1) slots)) e
     ∙ wire-count (inputsOf s) (gatesOf s) slots (chain-sound s t .only) k (omega arith)
@@ -101,7 +97,7 @@ unfolding gatesInOrder
 gates-only s t w o =
     let slots : List ℕ = chainFrom s (gatesOf s) (headOf s) in
     ap (count w) (slots-write s slots)
-    ∙ wire-none (inputsOf s) (gatesOf s) slots (chain-sound s t .only) w (rw (length-gates s) at o)
+    ∙ wire-none (inputsOf s) (gatesOf s) slots (chain-sound s t .only) w (rw (gates-count s) at o)
 
 -- after a gate, its wire is written
 put-here : (f : ℕ → Bool) (c w : ℕ) → w ≡ c → put f c true w ≡ true
@@ -206,38 +202,6 @@ unfolding goodOutputs
 below-outputs s zero h = refl
 below-outputs s (suc n) h = rw (below-outputs s n (λ j l. h j (omega arith)), lt-ltb (outputWire s n) (inputsOf s + gatesOf s) (h n (omega arith)))
 
--- what a legal file has passed, as far as it is used here, and its circuit
-record Passed (s : List ℕ) (c : Circuit) : Type 0 where
-  chain : goodChain s ≡ true
-  wires : goodWires s ≡ true
-  same : circuitOf s ≡ c
-
--- a legal reading has passed the test that stands first
-go-on : (t : Bool) (k : ℕ) (r : Reading) (c : Circuit) → cond (not t) (refused k) r ≡ legal c → (t ≡ true) × (r ≡ legal c)
-go-on true k r c e = (refl, e)
-go-on false k r c e = let z : _≡_ {A = ℕ} 0 1 = cc in absurd (omega arith)
-
--- and has not met the condition that refuses
-go-on-long : (t : Bool) (k : ℕ) (r : Reading) (c : Circuit) → cond t (refused k) r ≡ legal c → r ≡ legal c
-go-on-long false k r c e = e
-go-on-long true k r c e = let z : _≡_ {A = ℕ} 0 1 = cc in absurd (omega arith)
-
--- legal readings that are equal have equal circuits
-same-legal : (c d : Circuit) → legal c ≡ legal d → c ≡ d
-same-legal c d e = cc
-
--- a legal file has passed the tests
-passed : (s : List ℕ) (c : Circuit) → readCircuit s ≡ legal c → Passed s c
-unfolding readCircuit
-passed s c e =
-    let e₁ = go-on-long (ltb (length s) 8) 1 _ c e in
-    let e₂ = go-on (withinLimits s) 2 _ c e₁ in
-    let e₃ = go-on (rightLength s) 1 _ c (e₂ .1) in
-    let e₄ = go-on (goodRecords s (gatesOf s)) 3 _ c (e₃ .1) in
-    let e₅ = go-on (goodChain s) 4 _ c (e₄ .1) in
-    let e₆ = go-on (goodWires s) 5 _ c (e₅ .1) in
-    record { chain = e₅ .0; wires = e₆ .0; same = same-legal (circuitOf s) c (e₆ .1) }
-
 -- a gate of a file whose wires pass the test reads inputs or what an earlier gate writes
 reads-earlier : (s : List ℕ) → goodWires s ≡ true → ReadsEarlier (inputsOf s) (gatesInOrder s)
 unfolding goodWires
@@ -253,7 +217,7 @@ unfolding goodWires
 outputs-good s t j l =
     let f : ℕ → Bool = λ w. ltb w (inputsOf s) in
     let b : j < outputsOf s = omega (arith, length-tabulate (outputsOf s) (outputWire s)) in
-    rw (getD-tabulate (outputsOf s) (outputWire s) j 0 b, length-gates s)
+    rw (getD-tabulate (outputsOf s) (outputWire s) j 0 b, gates-count s)
     (outputs-below s (outputsOf s) (and-true-right (readsWritten f (gatesInOrder s)) (goodOutputs s (outputsOf s)) t) j b)
 
 -- wires of which both hold pass the test
@@ -272,16 +236,16 @@ unfolding circuitOf
 wires-theorem =
     record {
       once = λ s c r. let p = passed s c r in
-          subst (λ (d : Circuit). (w : ℕ) → d .inputs ≤ w → w < d .inputs + length (d .gates) → count w (writes (d .gates)) ≡ 1) (p .same)
+          subst (λ (d : Circuit). (w : ℕ) → d .inputs ≤ w → w < d .inputs + length (d .gates) → count w (writes (d .gates)) ≡ 1) (read-same s c r)
           (gates-once s (p .chain));
       only = λ s c r. let p = passed s c r in
-          subst (λ (d : Circuit). (w : ℕ) → (w < d .inputs) ⊎ (d .inputs + length (d .gates) ≤ w) → count w (writes (d .gates)) ≡ 0) (p .same)
+          subst (λ (d : Circuit). (w : ℕ) → (w < d .inputs) ⊎ (d .inputs + length (d .gates) ≤ w) → count w (writes (d .gates)) ≡ 0) (read-same s c r)
           (gates-only s (p .chain));
       earlier = λ s c r. let p = passed s c r in
-          subst (λ (d : Circuit). ReadsEarlier (d .inputs) (d .gates)) (p .same)
+          subst (λ (d : Circuit). ReadsEarlier (d .inputs) (d .gates)) (read-same s c r)
           (reads-earlier s (p .wires));
       outputs = λ s c r. let p = passed s c r in
-          subst (λ (d : Circuit). (j : ℕ) → j < length (d .outputs) → getD (d .outputs) j 0 < d .inputs + length (d .gates)) (p .same)
+          subst (λ (d : Circuit). (j : ℕ) → j < length (d .outputs) → getD (d .outputs) j 0 < d .inputs + length (d .gates)) (read-same s c r)
           (outputs-good s (p .wires));
       complete = wires-complete;
     }

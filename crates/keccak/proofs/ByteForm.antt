@@ -18,14 +18,14 @@ use Rattle.bits.specs.Bits.{tabulate, testBit, fromBits, bitVal, bitAt, odd, un
 use Rattle.bits.specs.Bytes.{leBytes}
 use Rattle.bits.specs.Xor.{_⊕_}
 use Rattle.bits.proofs.Bitwise.{testBit-xor}
-use Rattle.bits.proofs.Little.{length-leBytes, leBytes-lt}
+use Rattle.bits.proofs.Little.{leBytes-lt}
 use Rattle.bits.proofs.Numbers.{lt-or-le, fromBits-lt, testBit-bitVal, testBit-block, testBit-fromBits, testBit-low, testBit-mod, testBit-shr}
 use Rattle.bits.proofs.Packing.{all-unused, bitAt-end, getD-unpack, length-unpack, pack-unpack}
 use Rattle.bits.proofs.Tabulate.{length-tabulate, tabulate-cong}
 use Rattle.bits.proofs.Xor.{xor-false}
-use Rattle.permutation.proofs.Agree.{length-lanes}
 use Rattle.permutation.specs.Permutation.{StateArray, rounds, fromString, lane, lanes, laneBytes, toString, keccakF}
 use Rattle.keccak.specs.Sponge.{xorInto, absorbBlocks, squeezeBlocks, padding, sponge, sha3-256, shake128, shake256}
+use Rattle.keccak.proofs.Lengths.{length-absorb}
 use Rattle.keccak.specs.Bitstrings.{zeros, xorBits, fromBitString, Lane, Plane, toBitString, KECCAK-p, pad10*1, blockOf, absorb, squeeze, SPONGE, KECCAK, SHA3-256, SHAKE128, SHAKE256, h2b, b2h}
 
 -- ---- lists given place by place
@@ -231,26 +231,9 @@ bytes-keccak : (S : List ℕ) → Bytes (keccakF S)
 unfolding keccakF toString
 bytes-keccak S = bytes-lanes (lanes (rounds 24 (fromString S)))
 
--- a lane is written to 8 bytes
-length-laneBytes : (L : List ℕ) → length (laneBytes L) ≡ 8 * length L
-unfolding laneBytes
-length-laneBytes [] = refl
-length-laneBytes (x ∷ L) = omega (arith, length-append (leBytes 8 x) (laneBytes L), length-leBytes 8 x, length-laneBytes L)
-
--- Keccak-f[1600] leaves 200 bytes
-length-keccak : (S : List ℕ) → length (keccakF S) ≡ 200
-unfolding keccakF toString
-length-keccak S = let A = rounds 24 (fromString S) in length-laneBytes (lanes A) ∙ ap (λ (n : ℕ). 8 * n) (length-lanes A)
-
 -- ---- absorbing
 
--- absorbing keeps the state's length
-length-absorb : (r n : ℕ) (S P : List ℕ) → length S ≡ 200 → length (absorbBlocks r n S P) ≡ 200
-unfolding absorbBlocks
-length-absorb r zero S P e = e
-length-absorb r (suc n) S P e = length-absorb r n (keccakF (xorInto S (take r P))) (drop r P) (length-keccak (xorInto S (take r P)))
-
--- and leaves bytes
+-- absorbing leaves bytes
 bytes-absorb : (r n : ℕ) (S P : List ℕ) → Bytes S → Bytes (absorbBlocks r n S P)
 unfolding absorbBlocks
 bytes-absorb r zero S P h = h

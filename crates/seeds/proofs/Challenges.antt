@@ -4,13 +4,13 @@ use native.Mathlib.Omega.{arith}
 use native.Mathlib.Nat.{mod-lt, le-trans}
 use mathlib.Core.Path.{_≡_, refl, sym, ap, _∙_}
 use mathlib.Core.Bool.{Bool, true, false}
-use mathlib.Core.List.{List, [], _∷_, _++_}
-use Prim.Native.Nat.{ℕ, zero, suc, _+_, _-_, _*_, _%_, _≤_, _<_}
-use lib.ListN.{length, getD, take, drop, length-drop, length-append}
+use mathlib.Core.List.{List, [], _∷_}
+use Prim.Native.Nat.{ℕ, zero, suc, _+_, _*_, _≤_, _<_}
+use lib.ListN.{length, getD, drop, length-drop, length-append}
 use Rattle.bits.specs.Bytes.{leBytes}
 use Rattle.bits.proofs.Little.{length-leBytes}
 use Rattle.seeds.specs.Challenge.{drawn, chosenFrom, partiesOf, streamOf, instances, hiddenParties, beside, challengeOf, Ascending, none, more, Sound}
-use Rattle.seeds.proofs.Lengths.{length-shake256}
+use Rattle.keccak.proofs.Lengths.{length-shake256}
 use Rattle.seeds.proofs.Choosing.{length-drawn, length-instances}
 
 -- from a lower number on

@@ -7,18 +7,18 @@ use mathlib.Core.Path.{_≡_, refl, sym, ap, _∙_}
 use mathlib.Core.List.{List, [], _∷_, _++_, append-nil, append-assoc}
 use Prim.Native.Nat.{ℕ, zero, suc, _+_, _-_, _*_, _/_, _%_, _^_, _≤_, _<_, min}
 use lib.Pow.{pow-pos, pow-lt}
-use lib.ListN.{length, getD, set, take, drop, replicate, length-set, length-drop, length-take, length-append, length-replicate, drop-of-length-le}
+use lib.ListN.{length, getD, set, take, drop, replicate, length-set, length-drop, drop-of-length-le}
 use lib.Seq.{take-suc-set, length-take-le}
 use borrow.Rule.Slice.PartMut.{putMid, same-len-mid}
 use Rattle.keccak.proofs.Absorbing.{Bytes}
 use mathlib.Core.Bool.{true, false}
-use Rattle.bits.specs.Bits.{bitAt, testBit, unusedZero}
+use Rattle.bits.specs.Bits.{bitAt, unusedZero}
 use Rattle.bits.proofs.Numbers.{testBit-mod, testBit-high}
 use Rattle.bits.proofs.Packing.{all-unused}
 use Rattle.keccak.specs.Sponge.{shake128}
 use Rattle.seeds.specs.Inputs.{tapeInput}
 use Rattle.seeds.specs.Derive.{clearFrom, tapeRow}
-use Rattle.seeds.proofs.Lengths.{length-shake128}
+use Rattle.keccak.proofs.Lengths.{length-shake128}
 
 -- all bits cleared
 clear-all : (s : List ℕ) → clearFrom 0 s ≡ replicate (length s) 0

@@ -2,11 +2,11 @@
 -- Assumes nothing.
 use native.Mathlib.Omega.{arith}
 use native.Mathlib.Numerals.{add-one}
-use mathlib.Core.Path.{_≡_, refl, sym, ap, _∙_}
-use mathlib.Core.List.{List, [], _∷_, _++_, append-nil}
-use Prim.Native.Nat.{ℕ, zero, suc, _+_, _-_, _*_, _≤_, _<_}
-use lib.ListN.{length, getD, set, take, drop, replicate, length-set, length-append, drop-of-length-le}
-use lib.Seq.{take-suc, take-suc-set, take-all, take-at, drop-at, drop-length, drop-append-le}
+use mathlib.Core.Path.{_≡_, sym, _∙_}
+use mathlib.Core.List.{List, _++_, append-nil}
+use Prim.Native.Nat.{ℕ, _+_, _≤_, _<_}
+use lib.ListN.{length, getD, set, take, drop, replicate}
+use lib.Seq.{take-suc, take-suc-set, take-all, take-at, drop-length}
 
 -- one more byte is copied
 pub copy-more : (s d : List ℕ) (i : ℕ) → i < length d → length d ≡ length s → take i d ≡ take i s

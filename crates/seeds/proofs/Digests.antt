@@ -2,17 +2,16 @@
 -- Assumes nothing.
 use native.Mathlib.Omega.{arith}
 use mathlib.Core.Path.{_≡_, refl, sym, ap, _∙_}
-use mathlib.Core.Bool.{true, false, cond}
-use mathlib.Core.List.{List, [], _∷_, _++_, append-nil, append-assoc}
-use Prim.Native.Nat.{ℕ, zero, suc, _+_, _-_, _*_, _≤_, _<_}
+use mathlib.Core.List.{List, [], _∷_, _++_, append-nil}
+use Prim.Native.Nat.{ℕ, zero, suc, _+_, _-_, _<_}
 use borrow.Author.Tests.{eq-eqb, ne-eqb}
-use lib.ListN.{length, getD, take, drop, length-drop}
-use lib.Seq.{take-all, getD-take, getD-drop, take-length}
+use lib.ListN.{length, take, drop, length-drop}
+use lib.Seq.{take-all, getD-drop, take-length}
 use Rattle.bits.specs.Bytes.{leBytes, rowOf}
 use Rattle.bits.proofs.Little.{leBytes-lt}
 use Rattle.bits.proofs.Rows.{row-lt}
 use Rattle.keccak.specs.declared.sponge.Sponge.{Sponge}
-use Rattle.keccak.specs.Steps.{empty, absorbs, padded, squeezes}
+use Rattle.keccak.specs.Steps.{empty, absorbs}
 use Rattle.keccak.specs.Sponge.{sha3-256}
 use Rattle.keccak.proofs.Absorbing.{Bytes}
 use Rattle.keccak.proofs.Steps.{absorbs-append, absorbs-room}

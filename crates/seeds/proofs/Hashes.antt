@@ -1,19 +1,10 @@
 -- The hash of an input in parts.
 -- Assumes nothing.
 use native.Mathlib.Omega.{arith}
-use mathlib.Core.Path.{_≡_, refl, sym, ap, _∙_}
-use mathlib.Core.Logic.{⊎-elim}
 use mathlib.Core.List.{List, [], _∷_, _++_}
-use Prim.Native.Nat.{ℕ, zero, suc, _+_, _-_, _*_, _≤_, _<_}
-use lib.ListN.{length, getD, List·getD-append}
-use lib.Seq.{getD-append-add}
-use Rattle.bits.proofs.Numbers.{lt-or-le}
-use Rattle.keccak.specs.declared.sponge.Sponge.{Sponge}
-use Rattle.keccak.specs.Steps.{empty, absorbs, padded, squeezes}
-use Rattle.keccak.specs.Sponge.{sponge}
+use Prim.Native.Nat.{ℕ, zero, suc, _<_}
+use Rattle.keccak.specs.Steps.{empty}
 use Rattle.keccak.proofs.Absorbing.{Bytes}
-use Rattle.keccak.proofs.Steps.{absorbs-append, absorbs-room}
-use Rattle.keccak.proofs.Squeezing.{steps-sponge}
 
 -- two strings of bytes make one
 pub bytes-append : (a b : List ℕ) → Bytes a → Bytes b → Bytes (a ++ b)

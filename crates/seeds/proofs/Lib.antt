@@ -4,7 +4,8 @@ pub mod Nodes
 pub mod Lengths
 pub mod Opening
 pub mod Choosing
-pub mod PartyCounts
+pub mod Instances
 pub mod Digests
 pub mod Challenges
 pub mod Clearing
+pub mod Numbering

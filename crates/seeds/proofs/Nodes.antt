@@ -3,15 +3,13 @@
 use native.Mathlib.Omega.{arith}
 use native.Mathlib.Nat.{pow-succ', one-mul, pow-le-pow-right, mod-eq-of-lt, mul-assoc, mul-comm, mul-le-mul-right}
 use native.Mathlib.Numerals.{add-one}
-use mathlib.Core.Bool.{cond}
-use mathlib.Core.Path.{_≡_, refl, sym, ap, _∙_}
-use mathlib.Core.List.{List, [], _∷_, _++_, append-nil, append-assoc}
-use Prim.Native.Nat.{ℕ, zero, suc, _+_, _-_, _*_, _/_, _%_, _^_, _≤_, _<_}
+use mathlib.Core.Path.{_≡_, sym, ap, _∙_}
+use mathlib.Core.List.{List, [], _∷_, _++_, append-nil}
+use Prim.Native.Nat.{ℕ, suc, _+_, _-_, _*_, _/_, _%_, _^_, _≤_, _<_}
 use mathlib.Core.Logic.{⊎-elim}
 use Rattle.bits.proofs.Numbers.{lt-or-le}
 use borrow.Author.Tests.{lt-ltb, le-ltb}
 use lib.Pow.{pow-pos, pow-lt}
-use lib.Dec.{ltb}
 use lib.ListN.{length, take, drop, replicate, length-append, length-take, length-drop, drop-of-length-le}
 use lib.Seq.{take-all, take-at, drop-at, length-take-le}
 use borrow.Rule.Slice.PartMut.{putMid}

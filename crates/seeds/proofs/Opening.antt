@@ -2,20 +2,18 @@
 -- Assumes nothing.
 use native.Mathlib.Omega.{arith}
 use native.Mathlib.Nat.{pow-succ'}
-use mathlib.Core.Path.{_≡_, refl, sym, ap, _∙_}
+use mathlib.Core.Path.{_≡_, sym, ap, _∙_}
 use mathlib.Core.Logic.{_⊎_, ⊎-elim, inl, inr}
-use mathlib.Core.Bool.{Bool, true, false, cond}
-use mathlib.Core.List.{List, [], _∷_, _++_, append-assoc}
-use Prim.Native.Nat.{ℕ, zero, suc, _+_, _-_, _*_, _/_, _^_, _≤_, _<_}
+use mathlib.Core.List.{List, _++_, append-assoc}
+use Prim.Native.Nat.{ℕ, zero, suc, _+_, _-_, _*_, _^_, _≤_, _<_}
 use borrow.Author.Tests.{lt-ltb, le-ltb}
-use lib.Dec.{ltb}
 use lib.ListN.{length, getD, take, drop, replicate, length-append, length-take, length-drop, length-replicate, List·getD-append, drop-of-length-le}
 use lib.Seq.{length-take-le, take-at, drop-at, take-append-le, drop-append-le, take-append-add, drop-append-add, getD-append-add, getD-take, getD-drop, ext-getD}
 use Rattle.bits.specs.Bytes.{rowOf}
 use Rattle.bits.proofs.Numbers.{lt-or-le}
 use Rattle.bits.proofs.Rows.{row-length, row-getD}
-use Rattle.seeds.specs.Tree.{children, leftChild, rightChild, leavesBelow, siblingsBelow, openedBelow, hide}
-use Rattle.seeds.proofs.Lengths.{length-left, length-right, length-leaves, length-siblings}
+use Rattle.seeds.specs.Tree.{leftChild, rightChild, leavesBelow, siblingsBelow, openedBelow, hide}
+use Rattle.seeds.proofs.Lengths.{length-left, length-right, length-leaves}
 
 -- the hidden leaf is among the first, or among the others
 hide-left : (p : ℕ) (L R : List ℕ) → 16 * p + 16 ≤ length L → hide p (L ++ R) ≡ hide p L ++ R

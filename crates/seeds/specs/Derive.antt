@@ -1,7 +1,7 @@
 -- What follows from the root, a leaf and a seed. Document 01, "Seeds and digests".
 -- Assumes nothing.
-use mathlib.Core.List.{List, [], _∷_, _++_}
-use Prim.Native.Nat.{ℕ, zero, suc, _+_, _-_, _*_, _%_, _^_, min}
+use mathlib.Core.List.{List, [], _∷_}
+use Prim.Native.Nat.{ℕ, _-_, _%_, _^_, min}
 use lib.ListN.{take, drop}
 use Rattle.bits.specs.Bytes.{rowOf}
 use Rattle.keccak.specs.Sponge.{shake128, sha3-256}

@@ -1,7 +1,7 @@
 -- Digests that are taken in by parts, and given out at the end. All are SHA3-256.
 -- `proofs/Digests.antt` shows that parts taken in one after the other are their concatenation, and that the end is its digest.
 -- Assumes nothing.
-use mathlib.Core.List.{List, [], _∷_, _++_}
+use mathlib.Core.List.{List}
 use Prim.Native.Nat.{ℕ}
 use Rattle.keccak.specs.Sponge.{sha3-256}
 use Rattle.keccak.specs.declared.sponge.Sponge.{Sponge}

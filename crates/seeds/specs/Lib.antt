@@ -1,5 +1,4 @@
 pub mod Inputs
-pub mod Parties
 pub mod Tree
 pub mod Derive
 pub mod Challenge

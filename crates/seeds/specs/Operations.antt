@@ -1,17 +1,17 @@
 -- The operations with their refusals. Document 01: "Hash, expand or open a tree, derive a challenge: 8, 9, 6."
 -- "A refusal returns its number alone, and all lent buffers hold what they held."
 -- Assumes nothing.
-use mathlib.Core.Bool.{Bool, true, false, cond, not, _&&_, _||_}
-use mathlib.Core.List.{List, [], _∷_, _++_}
-use Prim.Native.Nat.{ℕ, zero, suc, _+_, _-_, _*_}
+use mathlib.Core.Bool.{Bool, cond, _&&_}
+use mathlib.Core.List.{List}
+use Prim.Native.Nat.{ℕ, _*_}
 use lib.Dec.{eqb, leb, ltb}
 use lib.ListN.{length}
 use Rattle.refusal.specs.Refusal.{numberOf}
 use Rattle.refusal.specs.declared.Refusal.{Refusal}
 use Rattle.refusal.specs.declared.Refusal.the-variants.{BufferLength, Parameter, Index}
+use Rattle.parties.specs.Parties.{heightOf, isPartyCount}
 use Rattle.seeds.specs.declared.Answer.{Answer}
 use Rattle.seeds.specs.declared.Answer.the-variants.{Done, Refused}
-use Rattle.seeds.specs.Parties.{heightOf, isPartyCount}
 use Rattle.seeds.specs.Tree.{leavesBelow, siblingsBelow}
 use Rattle.seeds.specs.Challenge.{challengeOf}
 

@@ -3,9 +3,9 @@
 -- Opening all but p gives the siblings on the path to p, top first."
 -- Assumes nothing.
 use mathlib.Core.Bool.{cond}
-use mathlib.Core.List.{List, [], _∷_, _++_}
-use Prim.Native.Nat.{ℕ, zero, suc, _+_, _-_, _*_, _^_}
-use lib.Dec.{ltb}
+use mathlib.Core.List.{List, [], _++_}
+use Prim.Native.Nat.{ℕ, zero, suc, _+_, _-_, _*_, _/_, _%_, _^_}
+use lib.Dec.{eqb, ltb}
 use lib.ListN.{take, drop, replicate}
 use Rattle.keccak.specs.Sponge.{shake128}
 use Rattle.seeds.specs.Inputs.{nodeInput}
@@ -19,6 +19,15 @@ leftChild j k value = take 16 (children j k value)
 
 unfoldable pub rightChild : ℕ → ℕ → List ℕ → List ℕ
 rightChild j k value = drop 16 (children j k value)
+
+-- the value of node x, d levels below the master: node 1 is the master, an even node x is the left child of node x / 2, an
+-- odd one its right child
+unfoldable pub nodeValue : ℕ → List ℕ → ℕ → ℕ → List ℕ
+nodeValue j master zero x = master
+nodeValue j master (suc d) x =
+    let k : ℕ = x / 2 in
+    let value : List ℕ = nodeValue j master d k in
+    cond (eqb (x % 2) 0) (leftChild j k value) (rightChild j k value)
 
 -- the leaves h levels below node k, in order
 unfoldable pub leavesBelow : ℕ → ℕ → ℕ → List ℕ → List ℕ

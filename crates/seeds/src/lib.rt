@@ -1,6 +1,5 @@
 // Seeds and digests of document 01: the tree of an instance, what follows from a leaf, the challenge.
 ghost use mathlib.Core.Path.{_≡_};
-ghost use Rattle.seeds.specs.Parties.{heightOf};
 ghost use Rattle.seeds.specs.Operations.{outcome, areCounts, expandOp, openOp, challengeOp};
 
 mod choice;
@@ -10,6 +9,7 @@ pub mod party;
 pub mod tree;
 
 use choice::derive;
+use parties::height;
 use refusal::Refusal;
 use tree::leaves_below;
 use tree::siblings_below;
@@ -18,23 +18,6 @@ use tree::siblings_below;
 pub enum Answer {
     Done,
     Refused(Refusal),
-}
-
-// The height of the tree for n parties; 0 where n is no party count.
-pub fn height(n: u32) -> u32
-    ensures { λ r. ⌜ r ≡ heightOf n ⌝ }
-{
-    if n == 2 {
-        1
-    } else if n == 4 {
-        2
-    } else if n == 8 {
-        3
-    } else if n == 16 {
-        4
-    } else {
-        0
-    }
 }
 
 // Expands the tree of instance j from its master into its n leaves.

@@ -3,19 +3,21 @@
 use mathlib.Core.Path.{_≡_, refl, ap, _∙_}
 use mathlib.Core.Bool.{true, false}
 use mathlib.Core.List.{List}
-use mathlib.Core.Logic.{_≢_}
-use Prim.Native.Nat.{ℕ, _+_, _-_}
+use mathlib.Core.Logic.{_≢_, ⊎-elim}
+use Prim.Native.Nat.{ℕ, _+_, _*_, _≤_}
+use native.Mathlib.Omega.{arith}
 use borrow.Author.Tests.{eq-eqb, ne-eqb}
 use lib.ListN.{length, take, drop}
 use lib.Seq.{sets}
 use Rattle.bits.specs.Bytes.{leBytes}
+use Rattle.bits.proofs.Numbers.{eq-or-ne}
 use Rattle.refusal.specs.Refusal.{numberOf}
 use Rattle.refusal.proofs.Laws.{numberOf-injective}
 use Rattle.shelf.specs.declared.Answer.{Answer}
 use Rattle.shelf.specs.declared.Answer.the-variants.{Accepted, Refused}
 use Rattle.shelf.specs.declared.Shelf.{Shelf}
 use Rattle.shelf.specs.Page.{slotAt, readyHead, spareHead, drawsOf, nextOf, rootOf, zeroRoot, sound}
-use Rattle.shelf.specs.Operations.{accepted, refused, said, putSlot, putHeads, stocked, drawn, stockOp, drawOp}
+use Rattle.shelf.specs.Operations.{accepted, refused, said, putSlot, putHeads, linkAfter, movedAfter, stocked, drawn, stockOp, drawOp}
 use Rattle.shelf.proofs.Soundness.{shelfOf}
 
 -- answers that say the same are the same
@@ -77,11 +79,22 @@ pub stock-done : (p root : List ℕ) (s : Shelf) (next : ℕ) (a b : List ℕ) �
 unfolding stocked
 stock-done p root s next a b e f g h = cc
 
+-- the link that leads to a spare slot is inside the page
+pub link-room : (before n : ℕ) → 12 + 18 * before ≤ n → linkAfter before + 2 ≤ n
+unfolding linkAfter
+link-room before n h =
+    ⊎-elim (λ e. rw (eq-eqb before 0 e) (omega arith)) (λ e. rw (ne-eqb before 0 e) (omega (arith, e))) (eq-or-ne before 0)
+
+-- a slot at the front of spare
+moved-front : (k next : ℕ) (root p : List ℕ) → movedAfter 0 k next root p ≡ putHeads next k (putSlot k (spareHead p) root p)
+unfolding movedAfter linkAfter putHeads spareHead
+moved-front k next root p = refl
+
 -- the writes of a draw
-pub draw-done : (p : List ℕ) (s : Shelf) (next : ℕ) (a b d : List ℕ) → s ≡ shelfOf p → next ≡ nextOf p (s .ready)
-    → a ≡ putSlot (s .ready) (s .spare) zeroRoot p → b ≡ putHeads next (s .ready) a → d ≡ sets b 8 (leBytes 4 (s .draws + 1)) → d ≡ drawn p
+pub draw-done : (p : List ℕ) (s : Shelf) (next : ℕ) (a b : List ℕ) → s ≡ shelfOf p → next ≡ nextOf p (s .ready)
+    → a ≡ movedAfter 0 (s .ready) next zeroRoot p → b ≡ sets a 8 (leBytes 4 (s .draws + 1)) → b ≡ drawn p
 unfolding drawn
-draw-done p s next a b d e f g h i = i ∙ rw (h, g, f, e)
+draw-done p s next a b e f g h = h ∙ rw (g, f, e, moved-front (readyHead p) (nextOf p (readyHead p)) zeroRoot p)
 
 -- the root that is read is the first ready root
 pub root-read : (p : List ℕ) (s : Shelf) (at : ℕ) (r : List ℕ) → s ≡ shelfOf p → at ≡ slotAt (s .ready) → r ≡ take 16 (drop (at + 2) p) → r ≡ rootOf p (readyHead p)

@@ -4,12 +4,13 @@ use mathlib.Core.Path.{_≡_, refl, sym, ap, ap₂, _∙_}
 use mathlib.Core.Bool.{Bool, true, false, not, _&&_}
 use mathlib.Core.List.{List, _++_}
 use mathlib.Core.Logic.{_≢_, _⊎_, inl, inr, ⊎-elim}
-use Prim.Native.Nat.{ℕ, _+_, _-_, _*_, _≤_, _<_}
+use Prim.Native.Nat.{ℕ, _+_, _*_, _≤_, _<_}
 use native.Mathlib.Omega.{arith}
 use borrow.Author.Tests.{eq-eqb, eqb-true, le-leb, leb-true}
 use lib.Dec.{eqb, leb}
 use lib.ListN.{length, getD}
 use Rattle.bits.specs.Bytes.{leAt}
+use Rattle.bits.proofs.Numbers.{eq-or-ne}
 use Rattle.bits.proofs.Tests.{and-true-left, and-true-right}
 use Rattle.shelf.specs.declared.Shelf.{Shelf}
 use Rattle.shelf.specs.declared.Checked.the-variants.{Sound, Broken}
@@ -226,3 +227,7 @@ ready-slot p s o z =
     let e : s .ready ≡ readyHead p = ap (λ (t : Shelf). t .ready) (o .1) in
     let m = ready-room p (o .0) (λ q. z (e ∙ q)) in
     (omega arith, omega arith)
+
+-- the first spare slot, if there is one, ends inside the page
+pub spare-end : (p : List ℕ) (s : Shelf) → (sound p ≡ true) × (s ≡ shelfOf p) → 12 + 18 * s .spare ≤ length p
+spare-end p s o = ⊎-elim (λ e. omega (arith, parts p (o .0) .long)) (λ z. let m = spare-slot p s o z in omega (arith, z)) (eq-or-ne (s .spare) 0)

@@ -6,7 +6,7 @@ use Prim.Native.Nat.{ℕ, _+_}
 use lib.Dec.{eqb}
 use lib.ListN.{length}
 use lib.Seq.{sets}
-use Rattle.bits.specs.Bytes.{leBytes}
+use Rattle.bits.specs.Bytes.{leAt, leBytes}
 use Rattle.refusal.specs.declared.Refusal.{Refusal}
 use Rattle.refusal.specs.declared.Refusal.the-variants.{BufferLength, Shelf, Count, Empty, Full, Exhausted}
 use Rattle.refusal.specs.Refusal.{numberOf}
@@ -45,6 +45,16 @@ putSlot k next root p = sets (sets p (slotAt k) (leBytes 2 next)) (slotAt k + 2)
 -- the heads of the ready chain and of the spare chain
 unfoldable pub putHeads : ℕ → ℕ → List ℕ → List ℕ
 putHeads ready spare p = sets (sets p 2 (leBytes 2 ready)) 4 (leBytes 2 spare)
+
+-- where the link to the spare slot after slot `before` stands: the spare head for 0, and else that slot's next
+unfoldable pub linkAfter : ℕ → ℕ
+linkAfter before = cond (eqb before 0) 4 (slotAt before)
+
+-- slot k, with this root, moved from the front of ready into spare, after slot `before`; the first ready slot is then `next`
+unfoldable pub movedAfter : ℕ → ℕ → ℕ → List ℕ → List ℕ → List ℕ
+movedAfter before k next root p =
+    let link : ℕ = linkAfter before in
+    sets (sets (putSlot k (leAt 2 p link) root p) 2 (leBytes 2 next)) link (leBytes 2 k)
 
 -- "Stocking writes the lent root into the first spare slot and moves that slot to the front of ready."
 unfoldable pub stocked : List ℕ → List ℕ → List ℕ

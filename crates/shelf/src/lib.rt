@@ -5,7 +5,7 @@ ghost use Prim.Native.Nat.{ℕ, _+_, _*_, _≤_, _<_};
 ghost use lib.ListN.{length, take, drop, getD};
 ghost use lib.Seq.{sets};
 ghost use Rattle.shelf.specs.Page.{slotAt, nextOf, chain, ended, allOne, blank, chainsFrom, Tallied};
-ghost use Rattle.shelf.specs.Operations.{said, noRoot, checked, putSlot, putHeads, stockOp, drawOp};
+ghost use Rattle.shelf.specs.Operations.{said, noRoot, checked, putSlot, putHeads, linkAfter, movedAfter, stockOp, drawOp};
 use refusal::Refusal;
 
 // The answer of stock and of draw.
@@ -198,6 +198,30 @@ fn put_heads(page: &mut [u8], ready: u16, spare: u16)
     bits::write_u16(page, 4, spare);
 }
 
+// Where the link to the spare slot after slot `before` stands: the spare head for 0.
+fn link_after(before: u16) -> usize
+    ensures { λ r. ⌜ r ≡ linkAfter before ⌝ }
+{
+    if before == 0 {
+        4
+    } else {
+        slot_at(before as usize)
+    }
+}
+
+// Moves the first ready slot, with this root, into spare: after slot `before`, to the front where that is 0.
+// The first ready slot is then `next`.
+fn move_after(page: &mut [u8], before: u16, slot: u16, next: u16, root: &[u8])
+    requires { ⌜ (12 + 18 * before ≤ length (now page)) × ((0 < slot) × ((slotAt slot + 18 ≤ length (now page)) × (length (now root) ≡ 16))) ⌝ }
+    ensures { λ _. ⌜ now (page .exit) ≡ movedAfter before slot next (now (root .entry)) (now (page .entry)) ⌝ }
+{
+    let link = link_after(before);
+    let after = bits::read_u16(page, link);
+    put_slot(page, slot as usize, after, root);
+    bits::write_u16(page, 2, next);
+    bits::write_u16(page, link, slot);
+}
+
 // Stocks a root: into the first spare slot, which goes to the front of ready.
 pub fn stock(page: &mut [u8], root: &[u8]) -> Answer
     ensures { λ r. ⌜ (said r, now (page .exit)) ≡ stockOp (now (page .entry)) (now (root .entry)) ⌝ }
@@ -251,8 +275,7 @@ pub fn draw(page: &mut [u8], count: u64) -> Drawn
     let next = bits::read_u16(page, at);
     let root = take_root(page, at + 2);
     let zero = [0u8; 16];
-    put_slot(page, first, shelf.spare, &zero);
-    put_heads(page, next, shelf.ready);
+    move_after(page, 0, shelf.ready, next, &zero);
     bits::write_u32(page, 8, draws + 1);
     Drawn {
         answer: Answer::Accepted,

@@ -1,19 +1,17 @@
+-- `seeds::challenge` meets its contract: each refusal in order, and the challenge.
+-- Assumes nothing.
 use mathlib.Core.List.{List}
 use borrow.Author.Tests.{lt-leb, le-leb, eq-eqb, ne-eqb, not-true, not-false}
-use Rattle.seeds.specs.Operations.{challengeOp, Outcome}
-use Rattle.seeds.proofs.PartyCounts.{Sizes, sizes, count-yes, count-no, Fit, counts-fit}
+use Rattle.seeds.specs.Operations.{challengeOp}
+use Rattle.parties.proofs.Counts.{sizes, count-yes, count-no}
+use Rattle.seeds.proofs.Instances.{counts-fit}
 use native.Mathlib.Omega.{arith}
-use mathlib.Core.Path.{_≡_, refl, sym, ap, _∙_}
-use Prim.Native.Nat.{ℕ, zero, suc, _+_, _-_, _*_, _≤_, _<_}
-use lib.ListN.{length, getD, set, length-set}
+use mathlib.Core.Path.{sym, ap, _∙_}
+use Prim.Native.Nat.{ℕ, _*_}
+use lib.ListN.{length}
 use borrow.Author.Needs.{needs}
 use Rattle.seeds.proofs.challenge.Statement.{statement}
 use Rattle.seeds.proofs.challenge.Tie as tie
-use Rattle.seeds.proofs.challenge.Reads as reads
-use Rattle.seeds.proofs.challenge.Lts as lts
-use Rattle.seeds.proofs.choice.derive.Reads as derive-reads
-use Rattle.seeds.proofs.counts.Reads as counts-reads
-use Rattle.seeds.proofs.height.Reads as height-reads
 
 counts-requires : tie.Need-counts-requires
 counts-requires c κs = search needs

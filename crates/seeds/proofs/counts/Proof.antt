@@ -1,14 +1,9 @@
+-- `seeds::counts` meets its contract: one case for each test.
+-- Assumes nothing.
 use borrow.Author.Tests.{le-leb, lt-leb}
 use Rattle.seeds.specs.Operations.{areCounts}
-use borrow.Author.Needs.{needs}
-use native.Mathlib.Omega.{arith}
-use mathlib.Core.Path.{_≡_, refl, sym, ap, _∙_}
-use Prim.Native.Nat.{ℕ, zero, suc, _+_, _-_, _*_, _≤_, _<_}
-use lib.ListN.{length, getD, set, length-set}
 use Rattle.seeds.proofs.counts.Statement.{statement}
 use Rattle.seeds.proofs.counts.Tie as tie
-use Rattle.seeds.proofs.counts.Reads as reads
-use Rattle.seeds.proofs.counts.Lts as lts
 
 returns : tie.Need-returns
 unfolding areCounts

@@ -1,20 +1,17 @@
+-- `seeds::expand` meets its contract: each refusal in order, and the leaves.
+-- Assumes nothing.
 use mathlib.Core.List.{List}
-use Rattle.seeds.specs.Tree.{leavesBelow, siblingsBelow}
-use borrow.Author.Tests.{lt-leb, le-leb, lt-ltb, le-ltb, eq-eqb, ne-eqb}
-use Rattle.seeds.specs.Parties.{heightOf}
-use Rattle.seeds.specs.Operations.{expandOp, Outcome}
-use Rattle.seeds.proofs.PartyCounts.{Sizes, sizes, count-yes, count-no}
+use Rattle.seeds.specs.Tree.{leavesBelow}
+use borrow.Author.Tests.{lt-leb, le-leb, eq-eqb, ne-eqb}
+use Rattle.seeds.specs.Operations.{expandOp}
+use Rattle.parties.proofs.Counts.{sizes, count-yes, count-no}
 use native.Mathlib.Omega.{arith}
-use mathlib.Core.Path.{_≡_, refl, sym, ap, _∙_}
-use Prim.Native.Nat.{ℕ, zero, suc, _+_, _-_, _*_, _≤_, _<_}
-use lib.ListN.{length, getD, set, length-set}
+use mathlib.Core.Path.{sym, ap, _∙_}
+use Prim.Native.Nat.{ℕ, _*_}
+use lib.ListN.{length}
 use borrow.Author.Needs.{needs}
 use Rattle.seeds.proofs.expand.Statement.{statement}
 use Rattle.seeds.proofs.expand.Tie as tie
-use Rattle.seeds.proofs.expand.Reads as reads
-use Rattle.seeds.proofs.expand.Lts as lts
-use Rattle.seeds.proofs.height.Reads as height-reads
-use Rattle.seeds.proofs.tree.leaves_below.Reads as leaves-below-reads
 
 returns : tie.Need-returns
 unfolding expandOp

@@ -1,20 +1,18 @@
+-- `seeds::open` meets its contract: each refusal in order, and the siblings.
+-- Assumes nothing.
 use mathlib.Core.List.{List}
-use Rattle.seeds.specs.Tree.{leavesBelow, siblingsBelow}
+use Rattle.seeds.specs.Tree.{siblingsBelow}
 use borrow.Author.Tests.{lt-leb, le-leb, lt-ltb, le-ltb, eq-eqb, ne-eqb}
-use Rattle.seeds.specs.Parties.{heightOf}
-use Rattle.seeds.specs.Operations.{openOp, Outcome}
-use Rattle.seeds.proofs.PartyCounts.{Sizes, sizes, count-yes, count-no}
+use Rattle.parties.specs.Parties.{heightOf}
+use Rattle.seeds.specs.Operations.{openOp}
+use Rattle.parties.proofs.Counts.{sizes, count-yes, count-no}
 use native.Mathlib.Omega.{arith}
-use mathlib.Core.Path.{_≡_, refl, sym, ap, _∙_}
-use Prim.Native.Nat.{ℕ, zero, suc, _+_, _-_, _*_, _≤_, _<_}
-use lib.ListN.{length, getD, set, length-set}
+use mathlib.Core.Path.{sym, ap, _∙_}
+use Prim.Native.Nat.{ℕ, _*_}
+use lib.ListN.{length}
 use borrow.Author.Needs.{needs}
 use Rattle.seeds.proofs.open.Statement.{statement}
 use Rattle.seeds.proofs.open.Tie as tie
-use Rattle.seeds.proofs.open.Reads as reads
-use Rattle.seeds.proofs.open.Lts as lts
-use Rattle.seeds.proofs.height.Reads as height-reads
-use Rattle.seeds.proofs.tree.siblings_below.Reads as siblings-below-reads
 
 returns : tie.Need-returns
 unfolding openOp

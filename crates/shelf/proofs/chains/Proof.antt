@@ -1,7 +1,6 @@
 -- `shelf::chains` meets its contract: the tests of the chains, one after the other.
 -- Assumes nothing.
 use mathlib.Core.Path.{refl, sym, _∙_}
-use Prim.Native.Nat.{_-_}
 use native.Mathlib.Omega.{arith}
 use borrow.Author.Tests.{not-true, not-false}
 use borrow.Author.Needs.{needs}

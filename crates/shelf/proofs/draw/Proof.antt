@@ -4,7 +4,7 @@ use mathlib.Core.List.{List}
 use mathlib.Core.Logic.{_≢_}
 use mathlib.Core.Path.{ap₂, _≡_, sym, ap, _∙_}
 use mathlib.Core.Bool.{true}
-use Prim.Native.Nat.{ℕ, _-_}
+use Prim.Native.Nat.{ℕ}
 use native.Mathlib.Omega.{arith}
 use borrow.Author.Needs.{needs}
 use Rattle.shelf.specs.declared.Drawn.{Drawn}
@@ -12,7 +12,7 @@ use Rattle.shelf.specs.declared.Shelf.{Shelf}
 use Rattle.shelf.specs.Page.{nextOf, sound, rootOf, readyHead}
 use Rattle.shelf.specs.Operations.{accepted, said}
 use Rattle.shelf.proofs.Walks.{next-read}
-use Rattle.shelf.proofs.Soundness.{shelfOf, opened, broken, ready-slot}
+use Rattle.shelf.proofs.Soundness.{shelfOf, opened, broken, ready-slot, spare-end}
 use Rattle.shelf.proofs.Operations.{draw-14, draw-15, draw-16, draw-18, draw-accepted, draw-done, root-read}
 use Rattle.shelf.proofs.draw.Statement.{statement}
 use Rattle.shelf.proofs.draw.Tie as tie
@@ -116,34 +116,28 @@ take-root-requires c κs =
     let o = taken-apart (c .before .before .before .before .before .before .before .before .before) in
     omega (arith, c .before .before .before .slot-at .ensures, ready-slot (x .page .now) s o (c .before .before .before .before .before .if2 .left))
 
-slice-aggregate-put-slot : tie.Need-slice-aggregate-put-slot
-slice-aggregate-put-slot c = search needs
+slice-aggregate-move-after : tie.Need-slice-aggregate-move-after
+slice-aggregate-move-after c = search needs
 
-put-slot-requires : tie.Need-put-slot-requires
-put-slot-requires c κs =
+move-after-requires : tie.Need-move-after-requires
+move-after-requires c κs =
     let x = c .before .before .before .before .before .before .before .before .before .before .before .before .before .before .before .before .before .args in
     let s = c .before .before .before .before .before .before .before .before .before .before .before .before .shelf .given .0 .0 in
     let o = taken-apart (c .before .before .before .before .before .before .before .before .before .before .before .before) in
     let m = ready-slot (x .page .now) s o (c .before .before .before .before .before .before .before .before .if2 .left) in
     let z : s .ready ≢ 0 = c .before .before .before .before .before .before .before .before .if2 .left in
-    ((omega arith, omega arith), (m .1, search needs))
-
-put-heads-requires : tie.Need-put-heads-requires
-put-heads-requires c κs =
-    let x = c .before .before .before .before .before .before .before .before .before .before .before .before .before .before .before .before .before .before .before .before .before .args in
-    let s = c .before .before .before .before .before .before .before .before .before .before .before .before .before .before .before .before .shelf .given .0 .0 in
-    let o = taken-apart (c .before .before .before .before .before .before .before .before .before .before .before .before .before .before .before .before) in
-    omega (arith, c .before .before .before .put-slot .kept .0, ready-slot (x .page .now) s o (c .before .before .before .before .before .before .before .before .before .before .before .before .if2 .left))
+    let e = spare-end (x .page .now) s o in
+    (omega arith, (omega arith, (m .1, search needs)))
 
 add-write-u32 : tie.Need-add-write-u32
 add-write-u32 c = search needs
 
 write-u32-requires : tie.Need-write-u32-requires
 write-u32-requires c κs =
-    let x = c .before .before .before .before .before .before .before .before .before .before .before .before .before .before .before .before .before .before .before .before .before .before .before .before .before .args in
-    let s = c .before .before .before .before .before .before .before .before .before .before .before .before .before .before .before .before .before .before .before .before .shelf .given .0 .0 in
-    let o = taken-apart (c .before .before .before .before .before .before .before .before .before .before .before .before .before .before .before .before .before .before .before .before) in
-    omega (arith, c .before .before .before .put-heads .kept .0, c .before .before .before .before .before .before .before .put-slot .kept .0, ready-slot (x .page .now) s o (c .before .before .before .before .before .before .before .before .before .before .before .before .before .before .before .before .if2 .left))
+    let x = c .before .before .before .before .before .before .before .before .before .before .before .before .before .before .before .before .before .before .before .before .before .args in
+    let s = c .before .before .before .before .before .before .before .before .before .before .before .before .before .before .before .before .shelf .given .0 .0 in
+    let o = taken-apart (c .before .before .before .before .before .before .before .before .before .before .before .before .before .before .before .before) in
+    omega (arith, c .before .before .before .move-after .kept .0, ready-slot (x .page .now) s o (c .before .before .before .before .before .before .before .before .before .before .before .before .if2 .left))
 
 same-length-5 : tie.Need-same-length-5
 same-length-5 c = search needs
@@ -151,16 +145,16 @@ same-length-5 c = search needs
 returns-5 : tie.Need-returns-5
 unfolding said
 returns-5 c =
-    let x = c .before .before .before .before .before .before .before .before .before .before .before .before .before .before .before .before .before .before .before .before .before .before .before .before .before .before .before .before .args in
-    let s = c .before .before .before .before .before .before .before .before .before .before .before .before .before .before .before .before .before .before .before .before .before .before .before .shelf .given .0 .0 in
-    let o = taken-apart (c .before .before .before .before .before .before .before .before .before .before .before .before .before .before .before .before .before .before .before .before .before .before .before) in
+    let x = c .before .before .before .before .before .before .before .before .before .before .before .before .before .before .before .before .before .before .before .before .before .before .before .before .args in
+    let s = c .before .before .before .before .before .before .before .before .before .before .before .before .before .before .before .before .before .before .before .shelf .given .0 .0 in
+    let o = taken-apart (c .before .before .before .before .before .before .before .before .before .before .before .before .before .before .before .before .before .before .before) in
     let p = x .page .now in
-    let z : s .ready ≢ 0 = c .before .before .before .before .before .before .before .before .before .before .before .before .before .before .before .before .before .before .before .if2 .left in
-    let f : c .before .before .before .before .before .before .before .before .before .before .before .before .before .before .before .read-u16 .result ≡ nextOf p (s .ready) = next-read p (s .ready) _ _ (c .before .before .before .before .before .before .before .before .before .before .before .before .before .before .before .before .before .slot-at .ensures) (c .before .before .before .before .before .before .before .before .before .before .before .before .before .before .before .read-u16 .ensures) in
-    let r : c .before .before .before .before .before .before .before .before .before .before .before .before .before .take-root .result ≡ rootOf p (readyHead p) = root-read p s _ _ (o .1) (c .before .before .before .before .before .before .before .before .before .before .before .before .before .before .before .before .before .slot-at .ensures) (c .before .before .before .before .before .before .before .before .before .before .before .before .before .take-root .ensures) in
-    let d = draw-done p s _ _ _ _ (o .1) f (c .before .before .before .before .before .before .before .before .before .before .put-slot .ensures) (c .before .before .before .before .before .before .put-heads .ensures) (c .before .before .write-u32 .ensures) in
-    sym (draw-accepted p (x .count) (o .0) (c .before .before .before .before .before .before .before .before .before .before .before .before .before .before .before .before .before .before .before .before .if1 .left ∙ ap (λ (t : Shelf). t .draws) (o .1)) (λ q. z (ap (λ (t : Shelf). t .ready) (o .1) ∙ q))
-    (λ q. (c .before .before .before .before .before .before .before .before .before .before .before .before .before .before .before .before .before .before .if3 .left) (ap (λ (t : Shelf). t .draws) (o .1) ∙ q))
+    let z : s .ready ≢ 0 = c .before .before .before .before .before .before .before .before .before .before .before .before .before .before .before .if2 .left in
+    let f : c .before .before .before .before .before .before .before .before .before .before .before .read-u16 .result ≡ nextOf p (s .ready) = next-read p (s .ready) _ _ (c .before .before .before .before .before .before .before .before .before .before .before .before .before .slot-at .ensures) (c .before .before .before .before .before .before .before .before .before .before .before .read-u16 .ensures) in
+    let r : c .before .before .before .before .before .before .before .before .before .take-root .result ≡ rootOf p (readyHead p) = root-read p s _ _ (o .1) (c .before .before .before .before .before .before .before .before .before .before .before .before .before .slot-at .ensures) (c .before .before .before .before .before .before .before .before .before .take-root .ensures) in
+    let d = draw-done p s _ _ _ (o .1) f (c .before .before .before .before .before .before .move-after .ensures) (c .before .before .write-u32 .ensures) in
+    sym (draw-accepted p (x .count) (o .0) (c .before .before .before .before .before .before .before .before .before .before .before .before .before .before .before .before .if1 .left ∙ ap (λ (t : Shelf). t .draws) (o .1)) (λ q. z (ap (λ (t : Shelf). t .ready) (o .1) ∙ q))
+    (λ q. (c .before .before .before .before .before .before .before .before .before .before .before .before .before .before .if3 .left) (ap (λ (t : Shelf). t .draws) (o .1) ∙ q))
     ∙ ap₂ (λ (a b : List ℕ). (accepted, a, b)) (sym r) (sym d))
 
 pub draw-spec : {M : Type 1} → statement M
@@ -188,9 +182,8 @@ draw-spec =
     read-u16-requires
     add-take-root
     take-root-requires
-    slice-aggregate-put-slot
-    put-slot-requires
-    put-heads-requires
+    slice-aggregate-move-after
+    move-after-requires
     add-write-u32
     write-u32-requires
     same-length-5

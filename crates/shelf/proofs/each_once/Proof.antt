@@ -1,7 +1,7 @@
 -- `shelf::each_once` meets its contract. The loop's invariant: the slots above k were counted once, so the test of the slots 1..k decides.
 -- Assumes nothing.
 use mathlib.Core.Path.{_≡_, refl, sym, ap, _∙_}
-use Prim.Native.Nat.{ℕ, _-_, _≤_}
+use Prim.Native.Nat.{ℕ, _≤_}
 use native.Mathlib.Omega.{arith}
 use lib.ListN.{getD}
 use Rattle.shelf.specs.Page.{allOne}

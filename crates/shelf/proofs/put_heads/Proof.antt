@@ -1,6 +1,5 @@
 -- `shelf::put_heads` meets its contract: one head, then the other.
 -- Assumes nothing.
-use Prim.Native.Nat.{_-_}
 use borrow.Author.Needs.{needs}
 use Rattle.shelf.specs.Operations.{putHeads}
 use Rattle.shelf.proofs.put_heads.Statement.{statement}

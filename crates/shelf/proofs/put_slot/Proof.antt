@@ -1,6 +1,5 @@
 -- `shelf::put_slot` meets its contract: the next slot, then the root.
 -- Assumes nothing.
-use Prim.Native.Nat.{_-_}
 use borrow.Author.Needs.{needs}
 use Rattle.shelf.specs.Operations.{putSlot}
 use Rattle.shelf.proofs.put_slot.Statement.{statement}

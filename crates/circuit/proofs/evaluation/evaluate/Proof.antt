@@ -1,7 +1,6 @@
 -- `circuit::evaluation::evaluate` meets its contract.
 -- Assumes nothing.
 use mathlib.Core.Path.{sym, _∙_}
-use Prim.Native.Nat.{_-_}
 use borrow.Author.Needs.{needs}
 use Rattle.circuit.proofs.Outcomes.{legal-sizes, evaluate-refused, evaluate-read}
 use Rattle.circuit.proofs.evaluation.evaluate.Statement.{statement}

@@ -1,7 +1,6 @@
 -- `circuit::evaluation::evaluate_legal` meets its contract.
 -- Assumes nothing.
 use mathlib.Core.Path.{ap, _∙_}
-use Prim.Native.Nat.{_-_}
 use borrow.Author.Needs.{needs}
 use Rattle.bits.specs.Bits.{pack}
 use Rattle.circuit.proofs.Outcomes.{ready, ended, outputs-right}

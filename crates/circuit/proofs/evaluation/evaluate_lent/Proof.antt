@@ -1,7 +1,6 @@
 -- `circuit::evaluation::evaluate_lent` meets its contract.
 -- Assumes nothing.
 use mathlib.Core.Path.{sym, _∙_}
-use Prim.Native.Nat.{_-_}
 use borrow.Author.Tests.{not-false}
 use borrow.Author.Needs.{needs}
 use Rattle.circuit.proofs.Outcomes.{refuse-witness, refuse-output, refuse-unused, done}

@@ -1,6 +1,5 @@
 -- `circuit::evaluation::gate_byte` meets its contract: in each arm the gate is that arm's.
 -- Assumes nothing.
-use Prim.Native.Nat.{_-_}
 use borrow.Author.Needs.{needs}
 use Rattle.circuit.proofs.evaluation.gate_byte.Statement.{statement}
 use Rattle.circuit.proofs.evaluation.gate_byte.Tie as tie

@@ -1,7 +1,7 @@
 -- `circuit::evaluation::output_bit` meets its contract.
 -- Assumes nothing.
 use mathlib.Core.Path.{sym, ap, _∙_}
-use Prim.Native.Nat.{_%_, ℕ, _-_}
+use Prim.Native.Nat.{_%_, ℕ}
 use native.Mathlib.Omega.{arith}
 use borrow.Author.Needs.{needs}
 use lib.ListN.{getD}

@@ -1,7 +1,6 @@
 -- `circuit::reading::read` meets its contract.
 -- Assumes nothing.
 use mathlib.Core.Path.{sym}
-use Prim.Native.Nat.{_-_}
 use borrow.Author.Tests.{eqb-true, eqb-false}
 use borrow.Author.Needs.{needs}
 use Rattle.circuit.proofs.Answered.{fell, held, read-short, read-limits, read-length, header, limits-few, length-same, length-other}

@@ -1,6 +1,5 @@
 -- `circuit::reading::read_body` meets its contract.
 -- Assumes nothing.
-use Prim.Native.Nat.{_-_}
 use borrow.Author.Needs.{needs}
 use Rattle.circuit.proofs.Answered.{fell, held, refuse-records, refuse-chain, refuse-reads, refuse-outputs, accept}
 use Rattle.circuit.proofs.reading.read_body.Statement.{statement}

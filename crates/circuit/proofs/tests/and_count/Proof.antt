@@ -3,7 +3,7 @@
 use mathlib.Core.List.{[]}
 use mathlib.Core.Bool.{true}
 use mathlib.Core.Path.{_≡_, ap}
-use Prim.Native.Nat.{_+_, _-_, _≤_}
+use Prim.Native.Nat.{_+_, _≤_}
 use native.Mathlib.Omega.{arith}
 use borrow.Author.Needs.{needs}
 use Rattle.circuit.specs.Circuit.{ands}

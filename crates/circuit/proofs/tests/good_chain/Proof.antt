@@ -1,7 +1,7 @@
 -- `circuit::tests::good_chain` meets its contract. The loop's invariant: the links that are left from the slot in hand pass as all of them do.
 -- Assumes nothing.
 use mathlib.Core.Path.{_≡_, refl, sym, _∙_}
-use Prim.Native.Nat.{_-_, _≤_}
+use Prim.Native.Nat.{_≤_}
 use native.Mathlib.Omega.{arith}
 use Rattle.circuit.specs.File.{walks}
 use Rattle.circuit.proofs.Chain.{inside, next-read, walks-low, walks-high, walks-on, walks-end}

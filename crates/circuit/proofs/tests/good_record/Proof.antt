@@ -1,6 +1,5 @@
 -- `circuit::tests::good_record` meets its contract.
 -- Assumes nothing.
-use Prim.Native.Nat.{_-_}
 use borrow.Author.Needs.{needs}
 use Rattle.circuit.specs.File.{goodRecord}
 use Rattle.circuit.proofs.tests.good_record.Statement.{statement}

@@ -2,7 +2,6 @@
 -- Assumes nothing.
 use mathlib.Core.Path.{ap₂, _∙_}
 use mathlib.Core.Bool.{_&&_}
-use Prim.Native.Nat.{_-_}
 use borrow.Author.Needs.{needs}
 use Rattle.circuit.proofs.tests.reads_written.Statement.{statement}
 use Rattle.circuit.proofs.tests.reads_written.Tie as tie

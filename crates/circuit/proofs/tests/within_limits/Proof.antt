@@ -1,6 +1,5 @@
 -- `circuit::tests::within_limits` meets its contract.
 -- Assumes nothing.
-use Prim.Native.Nat.{_-_}
 use borrow.Author.Needs.{needs}
 use Rattle.circuit.specs.Records.{limits}
 use Rattle.circuit.proofs.tests.within_limits.Statement.{statement}

@@ -1,9 +1,10 @@
+-- `seeds::choice::choose` meets its contract: the loop's invariant is that the choice is still to be made among the flags from i on.
+-- Assumes nothing.
 use mathlib.Core.Logic.{⊎-elim}
 use borrow.Author.Tests.{not-true, not-false}
-use borrow.Author.Needs.{needs}
 use native.Mathlib.Omega.{arith}
 use mathlib.Core.Path.{_≡_, refl, sym, ap, _∙_}
-use Prim.Native.Nat.{ℕ, zero, suc, _+_, _-_, _*_, _≤_, _<_}
+use Prim.Native.Nat.{ℕ, _+_, _-_, _≤_, _<_}
 use lib.ListN.{length, getD, set, take, drop, length-set}
 use mathlib.Core.List.{List, _++_}
 use mathlib.Core.Bool.{Bool, true, false}
@@ -11,8 +12,6 @@ use Rattle.seeds.specs.Challenge.{choose}
 use Rattle.seeds.proofs.Choosing.{pass-chosen, pass-free, pass-found, pass-end}
 use Rattle.seeds.proofs.choice.choose.Statement.{statement}
 use Rattle.seeds.proofs.choice.choose.Tie as tie
-use Rattle.seeds.proofs.choice.choose.Reads as reads
-use Rattle.seeds.proofs.choice.choose.Lts as lts
 
 abbrev Inv-loop : tie.InvT-loop
 Inv-loop flags₀ x left₀ i₀ flags left i = (length flags ≡ length flags₀) × ((i ≤ length flags₀) × ((flags ≡ flags₀) × (take i flags₀ ++ choose left (drop i flags₀) ≡ choose x flags₀)))

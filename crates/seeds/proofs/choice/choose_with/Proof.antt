@@ -1,19 +1,17 @@
+-- `seeds::choice::choose_with` meets its contract: the draws, then the parties by the bytes after them.
+-- Assumes nothing.
 use mathlib.Core.Bool.{Bool}
 use mathlib.Core.List.{List}
 use lib.ListN.{take, drop, length-drop}
 use Rattle.seeds.specs.Challenge.{chosenFrom}
 use Rattle.seeds.proofs.Choosing.{tail-is, chosen-is, length-instances}
 use native.Mathlib.Omega.{arith}
-use mathlib.Core.Path.{_≡_, refl, sym, ap, _∙_}
-use Prim.Native.Nat.{ℕ, zero, suc, _+_, _-_, _*_, _≤_, _<_}
-use lib.ListN.{length, getD, set, length-set}
+use mathlib.Core.Path.{_≡_, sym, ap, _∙_}
+use Prim.Native.Nat.{ℕ, _-_, _*_}
+use lib.ListN.{length}
 use borrow.Author.Needs.{needs}
 use Rattle.seeds.proofs.choice.choose_with.Statement.{statement}
 use Rattle.seeds.proofs.choice.choose_with.Tie as tie
-use Rattle.seeds.proofs.choice.choose_with.Reads as reads
-use Rattle.seeds.proofs.choice.choose_with.Lts as lts
-use Rattle.seeds.proofs.choice.draw.Reads as draw-reads
-use Rattle.seeds.proofs.choice.write_chosen.Reads as write-chosen-reads
 
 draw-requires : tie.Need-draw-requires
 draw-requires c κs = search needs

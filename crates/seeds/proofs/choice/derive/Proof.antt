@@ -1,14 +1,12 @@
+-- `seeds::choice::derive` meets its contract: as much of the lent stream as is needed.
+-- Assumes nothing.
 use Rattle.seeds.proofs.Choosing.{length-same}
 use native.Mathlib.Omega.{arith}
-use mathlib.Core.Path.{_≡_, refl, sym, ap, _∙_}
-use Prim.Native.Nat.{ℕ, zero, suc, _+_, _-_, _*_, _≤_, _<_}
-use lib.ListN.{length, getD, set, length-set}
+use mathlib.Core.Path.{sym}
+use Prim.Native.Nat.{_*_}
 use borrow.Author.Needs.{needs}
 use Rattle.seeds.proofs.choice.derive.Statement.{statement}
 use Rattle.seeds.proofs.choice.derive.Tie as tie
-use Rattle.seeds.proofs.choice.derive.Reads as reads
-use Rattle.seeds.proofs.choice.derive.Lts as lts
-use Rattle.seeds.proofs.choice.derive_with.Reads as derive-with-reads
 
 mul-len : tie.Need-mul-len
 mul-len c = search needs

@@ -1,18 +1,15 @@
-use mathlib.Core.Bool.{Bool, false}
-use mathlib.Core.List.{List}
+-- `seeds::choice::derive_with` meets its contract: the stream, then what follows from it.
+-- Assumes nothing.
+use mathlib.Core.Bool.{false}
 use Rattle.seeds.specs.Challenge.{beside, instances, hiddenParties}
 use Rattle.seeds.proofs.Choosing.{length-same, all-free, challenge-is}
 use native.Mathlib.Omega.{arith}
-use mathlib.Core.Path.{_≡_, refl, sym, ap, _∙_}
-use Prim.Native.Nat.{ℕ, zero, suc, _+_, _-_, _*_, _≤_, _<_}
-use lib.ListN.{length, getD, set, length-set}
+use mathlib.Core.Path.{sym, ap, _∙_}
+use Prim.Native.Nat.{ℕ}
+use lib.ListN.{length}
 use borrow.Author.Needs.{needs}
 use Rattle.seeds.proofs.choice.derive_with.Statement.{statement}
 use Rattle.seeds.proofs.choice.derive_with.Tie as tie
-use Rattle.seeds.proofs.choice.derive_with.Reads as reads
-use Rattle.seeds.proofs.choice.derive_with.Lts as lts
-use Rattle.seeds.proofs.choice.choose_with.Reads as choose-with-reads
-use Rattle.seeds.proofs.choice.stream_from.Reads as stream-from-reads
 
 stream-from-requires : tie.Need-stream-from-requires
 stream-from-requires c κs = search needs

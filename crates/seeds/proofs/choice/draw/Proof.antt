@@ -1,17 +1,15 @@
+-- `seeds::choice::draw` meets its contract: the loop's invariant is that the flags are those after t draws.
+-- Assumes nothing.
 use Rattle.bits.specs.Bytes.{leAt}
 use Rattle.seeds.specs.Challenge.{choose, drawn}
 use Rattle.seeds.proofs.Choosing.{drawn-none, drawn-more, length-drawn}
 use borrow.Author.Needs.{needs}
 use native.Mathlib.Omega.{arith}
-use mathlib.Core.Path.{_≡_, refl, sym, ap, _∙_}
-use Prim.Native.Nat.{ℕ, zero, suc, _+_, _-_, _*_, _%_, _≤_, _<_}
-use lib.ListN.{length, getD, set, length-set}
+use mathlib.Core.Path.{_≡_, ap, _∙_}
+use Prim.Native.Nat.{ℕ, _-_, _*_, _%_, _≤_}
+use lib.ListN.{length}
 use Rattle.seeds.proofs.choice.draw.Statement.{statement}
 use Rattle.seeds.proofs.choice.draw.Tie as tie
-use Rattle.seeds.proofs.choice.draw.Reads as reads
-use Rattle.seeds.proofs.choice.draw.Lts as lts
-use Rattle.bits.proofs.read_u64.Reads as read-u64-reads
-use Rattle.seeds.proofs.choice.choose.Reads as choose-reads
 
 abbrev Inv-loop : tie.InvT-loop
 Inv-loop tau stream flags₀ m t₀ flags t = (t ≤ tau) × (flags ≡ drawn (length flags₀) stream t)

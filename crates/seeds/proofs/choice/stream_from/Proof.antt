@@ -1,26 +1,21 @@
+-- `seeds::choice::stream_from` meets its contract: the parts taken in one after the other are the challenge's input.
+-- Assumes nothing.
 use mathlib.Core.List.{List, [], _∷_, _++_}
 use Rattle.bits.specs.Bytes.{leBytes}
 use Rattle.bits.proofs.Little.{leBytes-lt}
 use Rattle.keccak.specs.declared.sponge.Sponge.{Sponge}
 use Rattle.keccak.specs.Steps.{empty, absorbs, padded, squeezes}
-use Rattle.keccak.specs.Sponge.{shake256}
 use Rattle.keccak.proofs.Steps.{absorbs-append, absorbs-room}
 use Rattle.keccak.proofs.Squeezing.{shake256-steps}
 use Rattle.seeds.specs.Inputs.{challengeInput}
 use Rattle.seeds.proofs.Hashes.{bytes-append, bytes-one, empty-room}
 use native.Mathlib.Omega.{arith}
-use mathlib.Core.Path.{_≡_, refl, sym, ap, _∙_}
-use Prim.Native.Nat.{ℕ, zero, suc, _+_, _-_, _*_, _≤_, _<_}
-use lib.ListN.{length, getD, set, length-set}
+use mathlib.Core.Path.{refl, sym, ap, _∙_}
+use Prim.Native.Nat.{ℕ}
+use lib.ListN.{length}
 use borrow.Author.Needs.{needs}
 use Rattle.seeds.proofs.choice.stream_from.Statement.{statement}
 use Rattle.seeds.proofs.choice.stream_from.Tie as tie
-use Rattle.seeds.proofs.choice.stream_from.Reads as reads
-use Rattle.seeds.proofs.choice.stream_from.Lts as lts
-use Rattle.keccak.proofs.sponge.Sponge.absorb.Reads as absorb-reads
-use Rattle.keccak.proofs.sponge.Sponge.new.Reads as new-reads
-use Rattle.keccak.proofs.sponge.Sponge.pad.Reads as pad-reads
-use Rattle.keccak.proofs.sponge.Sponge.squeeze.Reads as squeeze-reads
 
 cast-t9 : tie.Need-cast-t9
 cast-t9 c = search needs

@@ -1,15 +1,13 @@
+-- `seeds::choice::write_choice` meets its contract: two bytes, then one.
+-- Assumes nothing.
 use mathlib.Core.List.{List}
 use Rattle.seeds.proofs.Choosing.{write-pair}
-use native.Mathlib.Omega.{arith}
-use mathlib.Core.Path.{_≡_, refl, sym, ap, _∙_}
-use Prim.Native.Nat.{ℕ, zero, suc, _+_, _-_, _*_, _≤_, _<_}
-use lib.ListN.{length, getD, set, length-set}
+use mathlib.Core.Path.{ap, _∙_}
+use Prim.Native.Nat.{ℕ, _+_}
+use lib.ListN.{set}
 use borrow.Author.Needs.{needs}
 use Rattle.seeds.proofs.choice.write_choice.Statement.{statement}
 use Rattle.seeds.proofs.choice.write_choice.Tie as tie
-use Rattle.seeds.proofs.choice.write_choice.Reads as reads
-use Rattle.seeds.proofs.choice.write_choice.Lts as lts
-use Rattle.bits.proofs.write_u16.Reads as write-u16-reads
 
 cast-write-u16 : tie.Need-cast-write-u16
 cast-write-u16 c = search needs

@@ -1,15 +1,13 @@
+-- `seeds::choice::write_chosen` meets its contract: the loop's invariant is that c chosen instances among the first i are written.
+-- Assumes nothing.
 use mathlib.Core.Logic.{⊎-elim}
 use Rattle.seeds.proofs.Choosing.{Written, written-none, written-pass, written-more, written-all, some-left}
-use borrow.Author.Needs.{needs}
 use native.Mathlib.Omega.{arith}
-use mathlib.Core.Path.{_≡_, refl, sym, ap, _∙_}
-use Prim.Native.Nat.{ℕ, zero, suc, _+_, _-_, _*_, _≤_, _<_}
-use lib.ListN.{length, getD, set, length-set}
+use mathlib.Core.Path.{sym, _∙_}
+use Prim.Native.Nat.{_-_}
+use lib.ListN.{length}
 use Rattle.seeds.proofs.choice.write_chosen.Statement.{statement}
 use Rattle.seeds.proofs.choice.write_chosen.Tie as tie
-use Rattle.seeds.proofs.choice.write_chosen.Reads as reads
-use Rattle.seeds.proofs.choice.write_chosen.Lts as lts
-use Rattle.seeds.proofs.choice.write_choice.Reads as write-choice-reads
 
 abbrev Inv-loop : tie.InvT-loop
 Inv-loop flags n bytes out₀ c₀ i₀ out c i = Written flags n bytes out c i

@@ -1,16 +1,12 @@
+-- `seeds::digest::finish` meets its contract: padding, then 32 bytes.
+-- Assumes nothing.
 use Rattle.keccak.specs.Steps.{padded, squeezes}
 use Rattle.seeds.specs.Digest.{given}
 use native.Mathlib.Omega.{arith}
-use mathlib.Core.Path.{_≡_, refl, sym, ap, _∙_}
-use Prim.Native.Nat.{ℕ, zero, suc, _+_, _-_, _*_, _≤_, _<_}
-use lib.ListN.{length, getD, set, length-set}
+use mathlib.Core.Path.{ap, _∙_}
 use borrow.Author.Needs.{needs}
 use Rattle.seeds.proofs.digest.finish.Statement.{statement}
 use Rattle.seeds.proofs.digest.finish.Tie as tie
-use Rattle.seeds.proofs.digest.finish.Reads as reads
-use Rattle.seeds.proofs.digest.finish.Lts as lts
-use Rattle.keccak.proofs.sponge.Sponge.pad.Reads as pad-reads
-use Rattle.keccak.proofs.sponge.Sponge.squeeze.Reads as squeeze-reads
 
 pad-requires : tie.Need-pad-requires
 pad-requires c κs = search needs

@@ -1,20 +1,14 @@
-use Rattle.bits.specs.Bytes.{leBytes}
-use mathlib.Core.List.{[], _∷_, _++_, append-nil}
+-- `seeds::digest::start_all_online` meets its contract: the head is the tag.
+-- Assumes nothing.
+use mathlib.Core.List.{[], _∷_}
 use Rattle.seeds.specs.Inputs.{allOnlineInput}
-use Rattle.seeds.specs.Digest.{taken}
 use Rattle.seeds.proofs.Hashes.{empty-room}
 use Rattle.seeds.proofs.Digests.{taken-first}
 use native.Mathlib.Omega.{arith}
-use mathlib.Core.Path.{_≡_, refl, sym, ap, _∙_}
-use Prim.Native.Nat.{ℕ, zero, suc, _+_, _-_, _*_, _≤_, _<_}
-use lib.ListN.{length, getD, set, length-set}
+use mathlib.Core.Path.{refl}
 use borrow.Author.Needs.{needs}
 use Rattle.seeds.proofs.digest.start_all_online.Statement.{statement}
 use Rattle.seeds.proofs.digest.start_all_online.Tie as tie
-use Rattle.seeds.proofs.digest.start_all_online.Reads as reads
-use Rattle.seeds.proofs.digest.start_all_online.Lts as lts
-use Rattle.keccak.proofs.sponge.Sponge.absorb.Reads as absorb-reads
-use Rattle.keccak.proofs.sponge.Sponge.new.Reads as new-reads
 
 new-requires : tie.Need-new-requires
 new-requires c κs = search needs

@@ -1,20 +1,15 @@
+-- `seeds::digest::start_commitments` meets its contract: the head is the tag and j.
+-- Assumes nothing.
 use Rattle.bits.specs.Bytes.{leBytes}
-use mathlib.Core.List.{[], _∷_, _++_, append-nil}
+use mathlib.Core.List.{_∷_}
 use Rattle.seeds.specs.Inputs.{commitmentsInput}
-use Rattle.seeds.specs.Digest.{taken}
 use Rattle.seeds.proofs.Hashes.{empty-room}
 use Rattle.seeds.proofs.Digests.{taken-first}
 use native.Mathlib.Omega.{arith}
-use mathlib.Core.Path.{_≡_, refl, sym, ap, _∙_}
-use Prim.Native.Nat.{ℕ, zero, suc, _+_, _-_, _*_, _≤_, _<_}
-use lib.ListN.{length, getD, set, length-set}
+use mathlib.Core.Path.{refl}
 use borrow.Author.Needs.{needs}
 use Rattle.seeds.proofs.digest.start_commitments.Statement.{statement}
 use Rattle.seeds.proofs.digest.start_commitments.Tie as tie
-use Rattle.seeds.proofs.digest.start_commitments.Reads as reads
-use Rattle.seeds.proofs.digest.start_commitments.Lts as lts
-use Rattle.keccak.proofs.sponge.Sponge.absorb.Reads as absorb-reads
-use Rattle.keccak.proofs.sponge.Sponge.new.Reads as new-reads
 
 cast-t4 : tie.Need-cast-t4
 cast-t4 c = search needs

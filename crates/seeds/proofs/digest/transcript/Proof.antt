@@ -1,19 +1,14 @@
+-- `seeds::digest::transcript` meets its contract: tag, h and h' taken in one after the other are their concatenation.
+-- Assumes nothing.
 use mathlib.Core.List.{[], _∷_}
 use Rattle.keccak.proofs.Steps.{absorbs-room}
 use Rattle.seeds.proofs.Hashes.{empty-room}
 use Rattle.seeds.proofs.Digests.{taken-first, transcript-is}
 use native.Mathlib.Omega.{arith}
-use mathlib.Core.Path.{_≡_, refl, sym, ap, _∙_}
-use Prim.Native.Nat.{ℕ, zero, suc, _+_, _-_, _*_, _≤_, _<_}
-use lib.ListN.{length, getD, set, length-set}
+use mathlib.Core.Path.{refl}
 use borrow.Author.Needs.{needs}
 use Rattle.seeds.proofs.digest.transcript.Statement.{statement}
 use Rattle.seeds.proofs.digest.transcript.Tie as tie
-use Rattle.seeds.proofs.digest.transcript.Reads as reads
-use Rattle.seeds.proofs.digest.transcript.Lts as lts
-use Rattle.keccak.proofs.sponge.Sponge.absorb.Reads as absorb-reads
-use Rattle.keccak.proofs.sponge.Sponge.new.Reads as new-reads
-use Rattle.seeds.proofs.digest.finish.Reads as finish-reads
 
 new-requires : tie.Need-new-requires
 new-requires c κs = search needs

@@ -1,13 +1,12 @@
-use borrow.Author.Needs.{needs}
+-- `seeds::hash::copy` meets its contract: the loop's invariant is that the first i bytes are copied.
+-- Assumes nothing.
 use native.Mathlib.Omega.{arith}
-use mathlib.Core.Path.{_≡_, refl, sym, ap, _∙_}
-use Prim.Native.Nat.{ℕ, zero, suc, _+_, _-_, _*_, _≤_, _<_}
-use lib.ListN.{length, getD, set, take, length-set}
+use mathlib.Core.Path.{_≡_, refl}
+use Prim.Native.Nat.{_-_, _≤_}
+use lib.ListN.{length, take, length-set}
 use Rattle.seeds.proofs.Copies.{copy-more, copy-end}
 use Rattle.seeds.proofs.hash.copy.Statement.{statement}
 use Rattle.seeds.proofs.hash.copy.Tie as tie
-use Rattle.seeds.proofs.hash.copy.Reads as reads
-use Rattle.seeds.proofs.hash.copy.Lts as lts
 
 abbrev Inv-loop : tie.InvT-loop
 Inv-loop from to₀ i₀ to i = (i ≤ length to) × ((length to ≡ length from) × (take i to ≡ take i from))

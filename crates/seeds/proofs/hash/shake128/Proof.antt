@@ -1,23 +1,18 @@
+-- `seeds::hash::shake128` meets its contract: head and body taken in one after the other are their concatenation.
+-- Assumes nothing.
 use mathlib.Core.List.{List, _++_}
 use Rattle.keccak.specs.declared.sponge.Sponge.{Sponge}
 use Rattle.keccak.specs.Steps.{empty, absorbs, padded, squeezes}
-use Rattle.keccak.specs.Sponge.{shake128}
 use Rattle.keccak.proofs.Steps.{absorbs-append, absorbs-room}
 use Rattle.keccak.proofs.Squeezing.{shake128-steps}
 use Rattle.seeds.proofs.Hashes.{bytes-append, empty-room}
 use native.Mathlib.Omega.{arith}
-use mathlib.Core.Path.{_≡_, refl, sym, ap, _∙_}
-use Prim.Native.Nat.{ℕ, zero, suc, _+_, _-_, _*_, _≤_, _<_}
-use lib.ListN.{length, getD, set, length-set}
+use mathlib.Core.Path.{sym, ap, _∙_}
+use Prim.Native.Nat.{ℕ}
+use lib.ListN.{length}
 use borrow.Author.Needs.{needs}
 use Rattle.seeds.proofs.hash.shake128.Statement.{statement}
 use Rattle.seeds.proofs.hash.shake128.Tie as tie
-use Rattle.seeds.proofs.hash.shake128.Reads as reads
-use Rattle.seeds.proofs.hash.shake128.Lts as lts
-use Rattle.keccak.proofs.sponge.Sponge.absorb.Reads as absorb-reads
-use Rattle.keccak.proofs.sponge.Sponge.new.Reads as new-reads
-use Rattle.keccak.proofs.sponge.Sponge.pad.Reads as pad-reads
-use Rattle.keccak.proofs.sponge.Sponge.squeeze.Reads as squeeze-reads
 
 new-requires : tie.Need-new-requires
 new-requires c κs = search needs

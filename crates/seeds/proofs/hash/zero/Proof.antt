@@ -1,15 +1,14 @@
-use borrow.Author.Needs.{needs}
+-- `seeds::hash::zero` meets its contract: the loop's invariant is that the first i bytes are zero and the others as lent.
+-- Assumes nothing.
 use native.Mathlib.Omega.{arith}
-use mathlib.Core.Path.{_≡_, refl, sym, ap, _∙_}
-use Prim.Native.Nat.{ℕ, zero, suc, _+_, _-_, _*_, _≤_, _<_}
-use lib.ListN.{length, getD, set, take, drop, replicate, length-set}
+use mathlib.Core.Path.{_≡_, refl, ap, _∙_}
+use Prim.Native.Nat.{ℕ, _-_, _≤_}
+use lib.ListN.{length, set, drop, replicate, length-set}
 use mathlib.Core.List.{List, _++_}
 use Rattle.seeds.proofs.Copies.{fill-end}
 use borrow.Author.Fill.{fill-more}
 use Rattle.seeds.proofs.hash.zero.Statement.{statement}
 use Rattle.seeds.proofs.hash.zero.Tie as tie
-use Rattle.seeds.proofs.hash.zero.Reads as reads
-use Rattle.seeds.proofs.hash.zero.Lts as lts
 
 abbrev Inv-loop : tie.InvT-loop
 Inv-loop out₀ i₀ out i = (length out ≡ length out₀) × ((i ≤ length out₀) × (out ≡ replicate i 0 ++ drop i out₀))

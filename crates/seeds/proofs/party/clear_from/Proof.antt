@@ -1,14 +1,12 @@
+-- `seeds::party::clear_from` meets its contract: one byte is cut, the bytes after it are zero.
+-- Assumes nothing.
 use Rattle.seeds.proofs.Clearing.{cleared, byte-some, clear-kept, clear-code, clear-none}
 use native.Mathlib.Omega.{arith}
-use mathlib.Core.Path.{_≡_, refl, sym, ap, _∙_}
-use Prim.Native.Nat.{ℕ, zero, suc, _+_, _-_, _*_, _/_, _≤_, _<_}
-use lib.ListN.{length, getD, set, length-set}
+use Prim.Native.Nat.{zero, _/_}
+use lib.ListN.{length-set}
 use borrow.Author.Needs.{needs}
 use Rattle.seeds.proofs.party.clear_from.Statement.{statement}
 use Rattle.seeds.proofs.party.clear_from.Tie as tie
-use Rattle.seeds.proofs.party.clear_from.Reads as reads
-use Rattle.seeds.proofs.party.clear_from.Lts as lts
-use Rattle.seeds.proofs.hash.zero.Reads as zero-reads
 
 slice-read-s : tie.Need-slice-read-s
 slice-read-s c = search needs

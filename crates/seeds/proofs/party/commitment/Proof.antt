@@ -1,5 +1,7 @@
+-- `seeds::party::commitment` meets its contract: the parts taken in one after the other are the commitment's input.
+-- Assumes nothing.
 use mathlib.Core.Logic.{⊎-elim}
-use mathlib.Core.List.{[], _∷_, _++_}
+use mathlib.Core.List.{_∷_, _++_}
 use lib.Seq.{length-take-le}
 use Rattle.bits.specs.Bytes.{leBytes}
 use Rattle.bits.proofs.Rows.{row-length}
@@ -7,18 +9,11 @@ use Rattle.keccak.proofs.Steps.{absorbs-room}
 use Rattle.seeds.proofs.Hashes.{empty-room}
 use Rattle.seeds.proofs.Digests.{taken-first, own-all, own-none, commitment-is}
 use native.Mathlib.Omega.{arith}
-use mathlib.Core.Path.{_≡_, refl, sym, ap, _∙_}
-use Prim.Native.Nat.{ℕ, zero, suc, _+_, _-_, _*_, _≤_, _<_}
-use lib.ListN.{length, getD, set, length-set}
+use mathlib.Core.Path.{refl, sym, ap, _∙_}
+use lib.ListN.{length}
 use borrow.Author.Needs.{needs}
 use Rattle.seeds.proofs.party.commitment.Statement.{statement}
 use Rattle.seeds.proofs.party.commitment.Tie as tie
-use Rattle.seeds.proofs.party.commitment.Reads as reads
-use Rattle.seeds.proofs.party.commitment.Lts as lts
-use Rattle.bits.proofs.row.Reads as row-reads
-use Rattle.keccak.proofs.sponge.Sponge.absorb.Reads as absorb-reads
-use Rattle.keccak.proofs.sponge.Sponge.new.Reads as new-reads
-use Rattle.seeds.proofs.digest.finish.Reads as finish-reads
 
 cast-t11 : tie.Need-cast-t11
 cast-t11 c = search needs

@@ -1,17 +1,13 @@
+-- `seeds::party::master` meets its contract: the head is the tag and j.
+-- Assumes nothing.
 use Rattle.bits.specs.Bytes.{leBytes}
 use Rattle.keccak.specs.Sponge.{shake128}
 use Rattle.seeds.specs.Inputs.{masterInput}
 use Rattle.seeds.specs.Derive.{masterOf}
-use native.Mathlib.Omega.{arith}
-use mathlib.Core.Path.{_≡_, refl, sym, ap, _∙_}
-use Prim.Native.Nat.{ℕ, zero, suc, _+_, _-_, _*_, _≤_, _<_}
-use lib.ListN.{length, getD, set, length-set}
+use mathlib.Core.Path.{ap, _∙_}
 use borrow.Author.Needs.{needs}
 use Rattle.seeds.proofs.party.master.Statement.{statement}
 use Rattle.seeds.proofs.party.master.Tie as tie
-use Rattle.seeds.proofs.party.master.Reads as reads
-use Rattle.seeds.proofs.party.master.Lts as lts
-use Rattle.seeds.proofs.hash.shake128.Reads as shake128-reads
 
 cast-t6 : tie.Need-cast-t6
 cast-t6 c = search needs

@@ -1,17 +1,13 @@
+-- `seeds::party::seed_row` meets its contract: the head is the tag, j and i.
+-- Assumes nothing.
 use Rattle.bits.specs.Bytes.{leBytes}
 use Rattle.keccak.specs.Sponge.{shake128}
 use Rattle.seeds.specs.Inputs.{leafInput}
 use Rattle.seeds.specs.Derive.{seedRow}
-use native.Mathlib.Omega.{arith}
-use mathlib.Core.Path.{_≡_, refl, sym, ap, _∙_}
-use Prim.Native.Nat.{ℕ, zero, suc, _+_, _-_, _*_, _≤_, _<_}
-use lib.ListN.{length, getD, set, length-set}
+use mathlib.Core.Path.{ap, _∙_}
 use borrow.Author.Needs.{needs}
 use Rattle.seeds.proofs.party.seed_row.Statement.{statement}
 use Rattle.seeds.proofs.party.seed_row.Tie as tie
-use Rattle.seeds.proofs.party.seed_row.Reads as reads
-use Rattle.seeds.proofs.party.seed_row.Lts as lts
-use Rattle.seeds.proofs.hash.shake128.Reads as shake128-reads
 
 cast-t7 : tie.Need-cast-t7
 cast-t7 c = search needs

@@ -1,17 +1,12 @@
+-- `seeds::party::tape` meets its contract: the stream, then the unused bits cleared.
+-- Assumes nothing.
 use Rattle.bits.specs.Bytes.{leBytes}
 use Rattle.seeds.specs.Inputs.{tapeInput}
 use Rattle.seeds.specs.Derive.{tapeRow, clearFrom}
-use native.Mathlib.Omega.{arith}
-use mathlib.Core.Path.{_≡_, refl, sym, ap, _∙_}
-use Prim.Native.Nat.{ℕ, zero, suc, _+_, _-_, _*_, _≤_, _<_}
-use lib.ListN.{length, getD, set, length-set}
+use mathlib.Core.Path.{ap, _∙_}
 use borrow.Author.Needs.{needs}
 use Rattle.seeds.proofs.party.tape.Statement.{statement}
 use Rattle.seeds.proofs.party.tape.Tie as tie
-use Rattle.seeds.proofs.party.tape.Reads as reads
-use Rattle.seeds.proofs.party.tape.Lts as lts
-use Rattle.seeds.proofs.hash.shake128.Reads as shake128-reads
-use Rattle.seeds.proofs.party.clear_from.Reads as clear-from-reads
 
 cast-t8 : tie.Need-cast-t8
 cast-t8 c = search needs

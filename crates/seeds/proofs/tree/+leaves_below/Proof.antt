@@ -1,9 +1,11 @@
-use Rattle.seeds.proofs.Nodes.{Room, room, leaves-joined, leaves-none, both-parts, both-length, both-kept, second-part, right-length}
+-- `seeds::tree::leaves_below` meets its contract: by the remaining height: the leaves below the left child, then those below the right one.
+-- Assumes nothing.
+use Rattle.seeds.proofs.Nodes.{room, leaves-joined, leaves-none, both-length, both-kept, second-part, right-length}
 use lib.Seq.{length-take-le}
 use borrow.Author.Needs.{needs}
 use native.Mathlib.Omega.{arith}
-use mathlib.Core.Path.{_≡_, refl, sym, ap, _∙_}
-use lib.ListN.{length, getD, set, length-set}
+use mathlib.Core.Path.{refl, sym, ap, _∙_}
+use lib.ListN.{length}
 use Prim.Native.Nat.{ℕ, _<_, _*_, _/_, _^_}
 use borrow.Fn.Kinds.{In}
 use borrow.Fn.PlainCycle.{Measures, is, falls, and}
@@ -30,107 +32,45 @@ leaves-below-below t =
     (falls 2 leaves-below-kinds.ps _<_ μ-leaves-below t)
     leaves-below.Pre
 
-leaves-below-copy-requires : (t : ℕ) → leaves-below-lts.Need-copy-requires (
+-- what is asked and known of the functions called, with a height below t
+abbrev calls : ℕ → leaves-below-lts.Claims
+calls t = (
   copy-reads.Asked,
   copy-reads.Learnt,
   children-reads.Asked,
   children-reads.Learnt,
   leaves-below-below t,
   leaves-below.Post,
-) (leaves-below-at t) leaves-below.Post
+)
+
+leaves-below-copy-requires : (t : ℕ) → leaves-below-lts.Need-copy-requires (calls t) (leaves-below-at t) leaves-below.Post
 leaves-below-copy-requires t c κs = c .before .before .before .before .pre .1 .1 .0 ∙ (ap (λ (x : ℕ). 16 * 2 ^ x) (c .before .if1 .taken) ∙ sym (c .before .before .before .before .pre .1 .0))
 
-leaves-below-slice-aggregate-children : (t : ℕ) → leaves-below-lts.Need-slice-aggregate-children (
-  copy-reads.Asked,
-  copy-reads.Learnt,
-  children-reads.Asked,
-  children-reads.Learnt,
-  leaves-below-below t,
-  leaves-below.Post,
-) (leaves-below-at t) leaves-below.Post
+leaves-below-slice-aggregate-children : (t : ℕ) → leaves-below-lts.Need-slice-aggregate-children (calls t) (leaves-below-at t) leaves-below.Post
 leaves-below-slice-aggregate-children t c = refl
 
-leaves-below-children-requires : (t : ℕ) → leaves-below-lts.Need-children-requires (
-  copy-reads.Asked,
-  copy-reads.Learnt,
-  children-reads.Asked,
-  children-reads.Learnt,
-  leaves-below-below t,
-  leaves-below.Post,
-) (leaves-below-at t) leaves-below.Post
+leaves-below-children-requires : (t : ℕ) → leaves-below-lts.Need-children-requires (calls t) (leaves-below-at t) leaves-below.Post
 leaves-below-children-requires t c κs = refl
 
-leaves-below-mul-leaves-below : (t : ℕ) → leaves-below-lts.Need-mul-leaves-below (
-  copy-reads.Asked,
-  copy-reads.Learnt,
-  children-reads.Asked,
-  children-reads.Learnt,
-  leaves-below-below t,
-  leaves-below.Post,
-) (leaves-below-at t) leaves-below.Post
+leaves-below-mul-leaves-below : (t : ℕ) → leaves-below-lts.Need-mul-leaves-below (calls t) (leaves-below-at t) leaves-below.Post
 leaves-below-mul-leaves-below t c = let r = room (c .before .before .before .before .before .before .args .k) (c .before .before .before .before .before .before .args .h) (c .before .before .before .if1 .left) (c .before .before .before .before .before .before .pre .1 .1 .1) in record { fits = omega arith }
 
-leaves-below-sub-leaves-below : (t : ℕ) → leaves-below-lts.Need-sub-leaves-below (
-  copy-reads.Asked,
-  copy-reads.Learnt,
-  children-reads.Asked,
-  children-reads.Learnt,
-  leaves-below-below t,
-  leaves-below.Post,
-) (leaves-below-at t) leaves-below.Post
+leaves-below-sub-leaves-below : (t : ℕ) → leaves-below-lts.Need-sub-leaves-below (calls t) (leaves-below-at t) leaves-below.Post
 leaves-below-sub-leaves-below t c = let r = room (c .before .before .before .before .before .before .args .k) (c .before .before .before .before .before .before .args .h) (c .before .before .before .if1 .left) (c .before .before .before .before .before .before .pre .1 .1 .1) in r .some
 
-leaves-below-array-share-prefix-c : (t : ℕ) → leaves-below-lts.Need-array-share-prefix-c (
-  copy-reads.Asked,
-  copy-reads.Learnt,
-  children-reads.Asked,
-  children-reads.Learnt,
-  leaves-below-below t,
-  leaves-below.Post,
-) (leaves-below-at t) leaves-below.Post
+leaves-below-array-share-prefix-c : (t : ℕ) → leaves-below-lts.Need-array-share-prefix-c (calls t) (leaves-below-at t) leaves-below.Post
 leaves-below-array-share-prefix-c t c = omega (arith, c .before .children .kept .1 .1 .1 .0)
 
-leaves-below-slice-aggregate-leaves-below :
-    (t : ℕ) → leaves-below-lts.Need-slice-aggregate-leaves-below (
-      copy-reads.Asked,
-      copy-reads.Learnt,
-      children-reads.Asked,
-      children-reads.Learnt,
-      leaves-below-below t,
-      leaves-below.Post,
-    ) (leaves-below-at t) leaves-below.Post
+leaves-below-slice-aggregate-leaves-below : (t : ℕ) → leaves-below-lts.Need-slice-aggregate-leaves-below (calls t) (leaves-below-at t) leaves-below.Post
 leaves-below-slice-aggregate-leaves-below t c = sym (length-take-le 16 (c .before .before .children .last .1 .1 .1 .0) (omega (arith, c .before .before .children .kept .1 .1 .1 .0)))
 
-leaves-below-slice-relend-prefix-leaves-below :
-    (t : ℕ) → leaves-below-lts.Need-slice-relend-prefix-leaves-below (
-      copy-reads.Asked,
-      copy-reads.Learnt,
-      children-reads.Asked,
-      children-reads.Learnt,
-      leaves-below-below t,
-      leaves-below.Post,
-    ) (leaves-below-at t) leaves-below.Post
+leaves-below-slice-relend-prefix-leaves-below : (t : ℕ) → leaves-below-lts.Need-slice-relend-prefix-leaves-below (calls t) (leaves-below-at t) leaves-below.Post
 leaves-below-slice-relend-prefix-leaves-below t c = omega arith
 
-leaves-below-slice-aggregate-leaves-below-2 :
-    (t : ℕ) → leaves-below-lts.Need-slice-aggregate-leaves-below-2 (
-      copy-reads.Asked,
-      copy-reads.Learnt,
-      children-reads.Asked,
-      children-reads.Learnt,
-      leaves-below-below t,
-      leaves-below.Post,
-    ) (leaves-below-at t) leaves-below.Post
+leaves-below-slice-aggregate-leaves-below-2 : (t : ℕ) → leaves-below-lts.Need-slice-aggregate-leaves-below-2 (calls t) (leaves-below-at t) leaves-below.Post
 leaves-below-slice-aggregate-leaves-below-2 t c = sym (length-take-le _ _ (omega arith))
 
-leaves-below-leaves-below-requires : (t : ℕ) → leaves-below-lts.Need-leaves-below-requires (
-  copy-reads.Asked,
-  copy-reads.Learnt,
-  children-reads.Asked,
-  children-reads.Learnt,
-  leaves-below-below t,
-  leaves-below.Post,
-) (leaves-below-at t) leaves-below.Post
+leaves-below-leaves-below-requires : (t : ℕ) → leaves-below-lts.Need-leaves-below-requires (calls t) (leaves-below-at t) leaves-below.Post
 leaves-below-leaves-below-requires t c κs =
     let b = c .before .before .before .before .before .before .before .before in
     let r = room (c .before .before .before .before .before .before .before .before .args .k) (c .before .before .before .before .before .before .before .before .args .h) (c .before .before .before .before .before .if1 .left) (c .before .before .before .before .before .before .before .before .pre .1 .1 .1) in (
@@ -141,107 +81,37 @@ leaves-below-leaves-below-requires t c κs =
       ),
     )
 
-leaves-below-mul-leaves-below-2 : (t : ℕ) → leaves-below-lts.Need-mul-leaves-below-2 (
-  copy-reads.Asked,
-  copy-reads.Learnt,
-  children-reads.Asked,
-  children-reads.Learnt,
-  leaves-below-below t,
-  leaves-below.Post,
-) (leaves-below-at t) leaves-below.Post
+leaves-below-mul-leaves-below-2 : (t : ℕ) → leaves-below-lts.Need-mul-leaves-below-2 (calls t) (leaves-below-at t) leaves-below.Post
 leaves-below-mul-leaves-below-2 t c = let r = room (c .before .before .before .before .before .before .before .before .before .before .before .args .k) (c .before .before .before .before .before .before .before .before .before .before .before .args .h) (c .before .before .before .before .before .before .before .before .if1 .left) (c .before .before .before .before .before .before .before .before .before .before .before .pre .1 .1 .1) in record { fits = omega arith }
 
-leaves-below-add-leaves-below : (t : ℕ) → leaves-below-lts.Need-add-leaves-below (
-  copy-reads.Asked,
-  copy-reads.Learnt,
-  children-reads.Asked,
-  children-reads.Learnt,
-  leaves-below-below t,
-  leaves-below.Post,
-) (leaves-below-at t) leaves-below.Post
+leaves-below-add-leaves-below : (t : ℕ) → leaves-below-lts.Need-add-leaves-below (calls t) (leaves-below-at t) leaves-below.Post
 leaves-below-add-leaves-below t c = let r = room (c .before .before .before .before .before .before .before .before .before .before .before .args .k) (c .before .before .before .before .before .before .before .before .before .before .before .args .h) (c .before .before .before .before .before .before .before .before .if1 .left) (c .before .before .before .before .before .before .before .before .before .before .before .pre .1 .1 .1) in record { fits = omega arith }
 
-leaves-below-sub-leaves-below-2 : (t : ℕ) → leaves-below-lts.Need-sub-leaves-below-2 (
-  copy-reads.Asked,
-  copy-reads.Learnt,
-  children-reads.Asked,
-  children-reads.Learnt,
-  leaves-below-below t,
-  leaves-below.Post,
-) (leaves-below-at t) leaves-below.Post
+leaves-below-sub-leaves-below-2 : (t : ℕ) → leaves-below-lts.Need-sub-leaves-below-2 (calls t) (leaves-below-at t) leaves-below.Post
 leaves-below-sub-leaves-below-2 t c = let r = room (c .before .before .before .before .before .before .before .before .before .before .before .args .k) (c .before .before .before .before .before .before .before .before .before .before .before .args .h) (c .before .before .before .before .before .before .before .before .if1 .left) (c .before .before .before .before .before .before .before .before .before .before .before .pre .1 .1 .1) in r .some
 
-leaves-below-sub-leaves-below-3 : (t : ℕ) → leaves-below-lts.Need-sub-leaves-below-3 (
-  copy-reads.Asked,
-  copy-reads.Learnt,
-  children-reads.Asked,
-  children-reads.Learnt,
-  leaves-below-below t,
-  leaves-below.Post,
-) (leaves-below-at t) leaves-below.Post
+leaves-below-sub-leaves-below-3 : (t : ℕ) → leaves-below-lts.Need-sub-leaves-below-3 (calls t) (leaves-below-at t) leaves-below.Post
 leaves-below-sub-leaves-below-3 t c = omega arith
 
-leaves-below-part-leaves-below-start : (t : ℕ) → leaves-below-lts.Need-part-leaves-below-start (
-  copy-reads.Asked,
-  copy-reads.Learnt,
-  children-reads.Asked,
-  children-reads.Learnt,
-  leaves-below-below t,
-  leaves-below.Post,
-) (leaves-below-at t) leaves-below.Post
+leaves-below-part-leaves-below-start : (t : ℕ) → leaves-below-lts.Need-part-leaves-below-start (calls t) (leaves-below-at t) leaves-below.Post
 leaves-below-part-leaves-below-start t c = search needs
 
-leaves-below-part-leaves-below-end : (t : ℕ) → leaves-below-lts.Need-part-leaves-below-end (
-  copy-reads.Asked,
-  copy-reads.Learnt,
-  children-reads.Asked,
-  children-reads.Learnt,
-  leaves-below-below t,
-  leaves-below.Post,
-) (leaves-below-at t) leaves-below.Post
+leaves-below-part-leaves-below-end : (t : ℕ) → leaves-below-lts.Need-part-leaves-below-end (calls t) (leaves-below-at t) leaves-below.Post
 leaves-below-part-leaves-below-end t c = search needs
 
-leaves-below-sub-leaves-below-4 : (t : ℕ) → leaves-below-lts.Need-sub-leaves-below-4 (
-  copy-reads.Asked,
-  copy-reads.Learnt,
-  children-reads.Asked,
-  children-reads.Learnt,
-  leaves-below-below t,
-  leaves-below.Post,
-) (leaves-below-at t) leaves-below.Post
+leaves-below-sub-leaves-below-4 : (t : ℕ) → leaves-below-lts.Need-sub-leaves-below-4 (calls t) (leaves-below-at t) leaves-below.Post
 leaves-below-sub-leaves-below-4 t c =
     let o = c .before .before .before .before .before .before .before .before .before .before .before .before .before .args .out .now in
     let l = c .before .before .before .before .leaves-below .kept .1 .1 .1 .1 .0 ∙ length-take-le (length o / 2) o (omega arith) in
     rw (both-length o _ (length o / 2) l (omega arith)) (omega arith)
 
-leaves-below-part-leaves-below-start-2 : (t : ℕ) → leaves-below-lts.Need-part-leaves-below-start-2 (
-  copy-reads.Asked,
-  copy-reads.Learnt,
-  children-reads.Asked,
-  children-reads.Learnt,
-  leaves-below-below t,
-  leaves-below.Post,
-) (leaves-below-at t) leaves-below.Post
+leaves-below-part-leaves-below-start-2 : (t : ℕ) → leaves-below-lts.Need-part-leaves-below-start-2 (calls t) (leaves-below-at t) leaves-below.Post
 leaves-below-part-leaves-below-start-2 t c = search needs
 
-leaves-below-part-leaves-below-end-2 : (t : ℕ) → leaves-below-lts.Need-part-leaves-below-end-2 (
-  copy-reads.Asked,
-  copy-reads.Learnt,
-  children-reads.Asked,
-  children-reads.Learnt,
-  leaves-below-below t,
-  leaves-below.Post,
-) (leaves-below-at t) leaves-below.Post
+leaves-below-part-leaves-below-end-2 : (t : ℕ) → leaves-below-lts.Need-part-leaves-below-end-2 (calls t) (leaves-below-at t) leaves-below.Post
 leaves-below-part-leaves-below-end-2 t c = search needs
 
-leaves-below-leaves-below-requires-2 : (t : ℕ) → leaves-below-lts.Need-leaves-below-requires-2 (
-  copy-reads.Asked,
-  copy-reads.Learnt,
-  children-reads.Asked,
-  children-reads.Learnt,
-  leaves-below-below t,
-  leaves-below.Post,
-) (leaves-below-at t) leaves-below.Post
+leaves-below-leaves-below-requires-2 : (t : ℕ) → leaves-below-lts.Need-leaves-below-requires-2 (calls t) (leaves-below-at t) leaves-below.Post
 leaves-below-leaves-below-requires-2 t c κs =
     let b = c .before .before .before .before .before .before .before .before .before .before .before .before .before .before in
     let r = room (c .before .before .before .before .before .before .before .before .before .before .before .before .before .before .args .k) (c .before .before .before .before .before .before .before .before .before .before .before .before .before .before .args .h) (c .before .before .before .before .before .before .before .before .before .before .before .if1 .left) (c .before .before .before .before .before .before .before .before .before .before .before .before .before .before .pre .1 .1 .1) in
@@ -254,46 +124,18 @@ leaves-below-leaves-below-requires-2 t c κs =
       ),
     )
 
-leaves-below-same-length : (t : ℕ) → leaves-below-lts.Need-same-length (
-  copy-reads.Asked,
-  copy-reads.Learnt,
-  children-reads.Asked,
-  children-reads.Learnt,
-  leaves-below-below t,
-  leaves-below.Post,
-) (leaves-below-at t) leaves-below.Post
+leaves-below-same-length : (t : ℕ) → leaves-below-lts.Need-same-length (calls t) (leaves-below-at t) leaves-below.Post
 leaves-below-same-length t c = c .before .before .copy .kept .1 .0
 
-leaves-below-returns : (t : ℕ) → leaves-below-lts.Need-returns (
-  copy-reads.Asked,
-  copy-reads.Learnt,
-  children-reads.Asked,
-  children-reads.Learnt,
-  leaves-below-below t,
-  leaves-below.Post,
-) (leaves-below-at t) leaves-below.Post
+leaves-below-returns : (t : ℕ) → leaves-below-lts.Need-returns (calls t) (leaves-below-at t) leaves-below.Post
 leaves-below-returns t c = c .before .before .copy .ensures ∙ leaves-none (c .before .before .before .before .before .before .before .args .j) (c .before .before .before .before .before .before .before .args .k) (c .before .before .before .before .before .before .before .args .h) (c .before .before .before .before .before .before .before .args .value .now) (c .before .before .before .before .if1 .taken)
 
-leaves-below-same-length-2 : (t : ℕ) → leaves-below-lts.Need-same-length-2 (
-  copy-reads.Asked,
-  copy-reads.Learnt,
-  children-reads.Asked,
-  children-reads.Learnt,
-  leaves-below-below t,
-  leaves-below.Post,
-) (leaves-below-at t) leaves-below.Post
+leaves-below-same-length-2 : (t : ℕ) → leaves-below-lts.Need-same-length-2 (calls t) (leaves-below-at t) leaves-below.Post
 leaves-below-same-length-2 t c =
     let o = c .before .before .before .before .before .before .before .before .before .before .before .before .before .before .before .before .before .args .out .now in
     both-kept o (c .before .before .before .before .before .before .before .before .leaves-below .last .1 .1 .1 .1 .0) (c .before .before .leaves-below2 .last .1 .1 .1 .1 .0) (length o / 2) (c .before .before .before .before .before .before .before .before .leaves-below .kept .1 .1 .1 .1 .0 ∙ length-take-le (length o / 2) o (omega arith)) (omega arith) (c .before .before .leaves-below2 .kept .1 .1 .1 .1 .0)
 
-leaves-below-returns-2 : (t : ℕ) → leaves-below-lts.Need-returns-2 (
-  copy-reads.Asked,
-  copy-reads.Learnt,
-  children-reads.Asked,
-  children-reads.Learnt,
-  leaves-below-below t,
-  leaves-below.Post,
-) (leaves-below-at t) leaves-below.Post
+leaves-below-returns-2 : (t : ℕ) → leaves-below-lts.Need-returns-2 (calls t) (leaves-below-at t) leaves-below.Post
 leaves-below-returns-2 t c =
     let x = c .before .before .before .before .before .before .before .before .before .before .before .before .before .before .before .before .before .args in
     leaves-joined (x .j) (x .k) (x .h) (x .value .now) _ (x .out .now) _ _ (c .before .before .before .before .before .before .before .before .before .before .before .before .before .before .if1 .left) (c .before .before .before .before .before .before .before .before .before .before .before .before .before .before .before .before .before .pre .1 .1 .0)
@@ -301,14 +143,7 @@ leaves-below-returns-2 t c =
     (c .before .before .before .before .before .before .before .before .leaves-below .ensures) (c .before .before .leaves-below2 .ensures)
 
 pub +leaves-below-spec : {M : Type 1} → statement M
-+leaves-below-spec = close μ-leaves-below λ t. leaves-below-lts.spec (
-  copy-reads.Asked,
-  copy-reads.Learnt,
-  children-reads.Asked,
-  children-reads.Learnt,
-  leaves-below-below t,
-  leaves-below.Post,
-)
++leaves-below-spec = close μ-leaves-below λ t. leaves-below-lts.spec (calls t)
     (leaves-below-at t)
     leaves-below.Post
     (leaves-below-copy-requires t)

@@ -1,10 +1,12 @@
-use Rattle.seeds.proofs.Nodes.{Room, room, opened-none, opened-joined-left, opened-joined-right, both-length, both-kept, second-part, rest-length}
+-- `seeds::tree::opened_below` meets its contract: by the remaining height: the sibling's leaves, beside those of the child on the path.
+-- Assumes nothing.
+use Rattle.seeds.proofs.Nodes.{room, opened-none, opened-joined-left, opened-joined-right, both-length, both-kept, second-part, rest-length}
 use lib.Seq.{length-take-le}
 use borrow.Author.Needs.{needs}
 use native.Mathlib.Omega.{arith}
-use mathlib.Core.Path.{_≡_, refl, sym, ap, _∙_}
-use lib.ListN.{length, getD, set, length-set}
-use Prim.Native.Nat.{ℕ, _<_, _≤_, _*_, _/_, _^_}
+use mathlib.Core.Path.{sym, _∙_}
+use lib.ListN.{length}
+use Prim.Native.Nat.{ℕ, _<_, _/_}
 use borrow.Fn.Kinds.{In}
 use borrow.Fn.PlainCycle.{Measures, is, falls, and}
 use Rattle.seeds.proofs.tree.opened_below.Reads as opened-below
@@ -31,7 +33,9 @@ opened-below-below t =
     (falls 2 opened-below-kinds.ps _<_ μ-opened-below t)
     opened-below.Pre
 
-opened-below-zero-requires : (t : ℕ) → opened-below-lts.Need-zero-requires (
+-- what is asked and known of the functions called, with a height below t
+abbrev calls : ℕ → opened-below-lts.Claims
+calls t = (
   zero-reads.Asked,
   zero-reads.Learnt,
   leaves-of-reads.Asked,
@@ -40,129 +44,39 @@ opened-below-zero-requires : (t : ℕ) → opened-below-lts.Need-zero-requires (
   opened-below.Post,
   leaves-below-reads.Asked,
   leaves-below-reads.Learnt,
-) (opened-below-at t) opened-below.Post
+)
+
+opened-below-zero-requires : (t : ℕ) → opened-below-lts.Need-zero-requires (calls t) (opened-below-at t) opened-below.Post
 opened-below-zero-requires t c κs = search needs
 
-opened-below-sub-leaves-of : (t : ℕ) → opened-below-lts.Need-sub-leaves-of (
-  zero-reads.Asked,
-  zero-reads.Learnt,
-  leaves-of-reads.Asked,
-  leaves-of-reads.Learnt,
-  opened-below-below t,
-  opened-below.Post,
-  leaves-below-reads.Asked,
-  leaves-below-reads.Learnt,
-) (opened-below-at t) opened-below.Post
+opened-below-sub-leaves-of : (t : ℕ) → opened-below-lts.Need-sub-leaves-of (calls t) (opened-below-at t) opened-below.Post
 opened-below-sub-leaves-of t c = let r = room (c .before .before .before .args .k) (c .before .before .before .args .h) (c .if1 .left) (c .before .before .before .pre .1 .1 .1 .0) in r .some
 
-opened-below-leaves-of-requires : (t : ℕ) → opened-below-lts.Need-leaves-of-requires (
-  zero-reads.Asked,
-  zero-reads.Learnt,
-  leaves-of-reads.Asked,
-  leaves-of-reads.Learnt,
-  opened-below-below t,
-  opened-below.Post,
-  leaves-below-reads.Asked,
-  leaves-below-reads.Learnt,
-) (opened-below-at t) opened-below.Post
+opened-below-leaves-of-requires : (t : ℕ) → opened-below-lts.Need-leaves-of-requires (calls t) (opened-below-at t) opened-below.Post
 opened-below-leaves-of-requires t c κs = let r = room (c .before .before .before .args .k) (c .before .before .before .args .h) (c .if1 .left) (c .before .before .before .pre .1 .1 .1 .0) in r .short
 
-opened-below-mul-opened-below : (t : ℕ) → opened-below-lts.Need-mul-opened-below (
-  zero-reads.Asked,
-  zero-reads.Learnt,
-  leaves-of-reads.Asked,
-  leaves-of-reads.Learnt,
-  opened-below-below t,
-  opened-below.Post,
-  leaves-below-reads.Asked,
-  leaves-below-reads.Learnt,
-) (opened-below-at t) opened-below.Post
+opened-below-mul-opened-below : (t : ℕ) → opened-below-lts.Need-mul-opened-below (calls t) (opened-below-at t) opened-below.Post
 opened-below-mul-opened-below t c = let r = room (c .before .before .before .before .before .args .k) (c .before .before .before .before .before .args .h) (c .before .before .if1 .left) (c .before .before .before .before .before .pre .1 .1 .1 .0) in record { fits = omega arith }
 
-opened-below-sub-opened-below : (t : ℕ) → opened-below-lts.Need-sub-opened-below (
-  zero-reads.Asked,
-  zero-reads.Learnt,
-  leaves-of-reads.Asked,
-  leaves-of-reads.Learnt,
-  opened-below-below t,
-  opened-below.Post,
-  leaves-below-reads.Asked,
-  leaves-below-reads.Learnt,
-) (opened-below-at t) opened-below.Post
+opened-below-sub-opened-below : (t : ℕ) → opened-below-lts.Need-sub-opened-below (calls t) (opened-below-at t) opened-below.Post
 opened-below-sub-opened-below t c = let r = room (c .before .before .before .before .before .args .k) (c .before .before .before .before .before .args .h) (c .before .before .if1 .left) (c .before .before .before .before .before .pre .1 .1 .1 .0) in r .some
 
-opened-below-sub-opened-below-2 : (t : ℕ) → opened-below-lts.Need-sub-opened-below-2 (
-  zero-reads.Asked,
-  zero-reads.Learnt,
-  leaves-of-reads.Asked,
-  leaves-of-reads.Learnt,
-  opened-below-below t,
-  opened-below.Post,
-  leaves-below-reads.Asked,
-  leaves-below-reads.Learnt,
-) (opened-below-at t) opened-below.Post
+opened-below-sub-opened-below-2 : (t : ℕ) → opened-below-lts.Need-sub-opened-below-2 (calls t) (opened-below-at t) opened-below.Post
 opened-below-sub-opened-below-2 t c = let r = room (c .before .before .before .before .before .args .k) (c .before .before .before .before .before .args .h) (c .before .before .if1 .left) (c .before .before .before .before .before .pre .1 .1 .1 .0) in omega (arith, c .before .before .before .before .before .pre .1 .0)
 
-opened-below-part-opened-below-start : (t : ℕ) → opened-below-lts.Need-part-opened-below-start (
-  zero-reads.Asked,
-  zero-reads.Learnt,
-  leaves-of-reads.Asked,
-  leaves-of-reads.Learnt,
-  opened-below-below t,
-  opened-below.Post,
-  leaves-below-reads.Asked,
-  leaves-below-reads.Learnt,
-) (opened-below-at t) opened-below.Post
+opened-below-part-opened-below-start : (t : ℕ) → opened-below-lts.Need-part-opened-below-start (calls t) (opened-below-at t) opened-below.Post
 opened-below-part-opened-below-start t c = search needs
 
-opened-below-part-opened-below-end : (t : ℕ) → opened-below-lts.Need-part-opened-below-end (
-  zero-reads.Asked,
-  zero-reads.Learnt,
-  leaves-of-reads.Asked,
-  leaves-of-reads.Learnt,
-  opened-below-below t,
-  opened-below.Post,
-  leaves-below-reads.Asked,
-  leaves-below-reads.Learnt,
-) (opened-below-at t) opened-below.Post
+opened-below-part-opened-below-end : (t : ℕ) → opened-below-lts.Need-part-opened-below-end (calls t) (opened-below-at t) opened-below.Post
 opened-below-part-opened-below-end t c = search needs
 
-opened-below-slice-relend-prefix-opened-below :
-    (t : ℕ) → opened-below-lts.Need-slice-relend-prefix-opened-below (
-      zero-reads.Asked,
-      zero-reads.Learnt,
-      leaves-of-reads.Asked,
-      leaves-of-reads.Learnt,
-      opened-below-below t,
-      opened-below.Post,
-      leaves-below-reads.Asked,
-      leaves-below-reads.Learnt,
-    ) (opened-below-at t) opened-below.Post
+opened-below-slice-relend-prefix-opened-below : (t : ℕ) → opened-below-lts.Need-slice-relend-prefix-opened-below (calls t) (opened-below-at t) opened-below.Post
 opened-below-slice-relend-prefix-opened-below t c = omega arith
 
-opened-below-slice-aggregate-opened-below :
-    (t : ℕ) → opened-below-lts.Need-slice-aggregate-opened-below (
-      zero-reads.Asked,
-      zero-reads.Learnt,
-      leaves-of-reads.Asked,
-      leaves-of-reads.Learnt,
-      opened-below-below t,
-      opened-below.Post,
-      leaves-below-reads.Asked,
-      leaves-below-reads.Learnt,
-    ) (opened-below-at t) opened-below.Post
+opened-below-slice-aggregate-opened-below : (t : ℕ) → opened-below-lts.Need-slice-aggregate-opened-below (calls t) (opened-below-at t) opened-below.Post
 opened-below-slice-aggregate-opened-below t c = let o = c .before .before .before .before .before .before .before .args .out .now in sym (length-take-le (length o / 2) o (omega arith))
 
-opened-below-opened-below-requires : (t : ℕ) → opened-below-lts.Need-opened-below-requires (
-  zero-reads.Asked,
-  zero-reads.Learnt,
-  leaves-of-reads.Asked,
-  leaves-of-reads.Learnt,
-  opened-below-below t,
-  opened-below.Post,
-  leaves-below-reads.Asked,
-  leaves-below-reads.Learnt,
-) (opened-below-at t) opened-below.Post
+opened-below-opened-below-requires : (t : ℕ) → opened-below-lts.Need-opened-below-requires (calls t) (opened-below-at t) opened-below.Post
 opened-below-opened-below-requires t c κs =
     let b = c .before .before .before .before .before .before .before in
     let r = room (c .before .before .before .before .before .before .before .args .k) (c .before .before .before .before .before .before .before .args .h) (c .before .before .before .before .if1 .left) (c .before .before .before .before .before .before .before .pre .1 .1 .1 .0) in
@@ -177,104 +91,31 @@ opened-below-opened-below-requires t c κs =
       ),
     )
 
-opened-below-mul-leaves-below : (t : ℕ) → opened-below-lts.Need-mul-leaves-below (
-  zero-reads.Asked,
-  zero-reads.Learnt,
-  leaves-of-reads.Asked,
-  leaves-of-reads.Learnt,
-  opened-below-below t,
-  opened-below.Post,
-  leaves-below-reads.Asked,
-  leaves-below-reads.Learnt,
-) (opened-below-at t) opened-below.Post
+opened-below-mul-leaves-below : (t : ℕ) → opened-below-lts.Need-mul-leaves-below (calls t) (opened-below-at t) opened-below.Post
 opened-below-mul-leaves-below t c = let r = room (c .before .before .before .before .before .before .before .before .before .before .args .k) (c .before .before .before .before .before .before .before .before .before .before .args .h) (c .before .before .before .before .before .before .before .if1 .left) (c .before .before .before .before .before .before .before .before .before .before .pre .1 .1 .1 .0) in record { fits = omega arith }
 
-opened-below-add-leaves-below : (t : ℕ) → opened-below-lts.Need-add-leaves-below (
-  zero-reads.Asked,
-  zero-reads.Learnt,
-  leaves-of-reads.Asked,
-  leaves-of-reads.Learnt,
-  opened-below-below t,
-  opened-below.Post,
-  leaves-below-reads.Asked,
-  leaves-below-reads.Learnt,
-) (opened-below-at t) opened-below.Post
+opened-below-add-leaves-below : (t : ℕ) → opened-below-lts.Need-add-leaves-below (calls t) (opened-below-at t) opened-below.Post
 opened-below-add-leaves-below t c = let r = room (c .before .before .before .before .before .before .before .before .before .before .args .k) (c .before .before .before .before .before .before .before .before .before .before .args .h) (c .before .before .before .before .before .before .before .if1 .left) (c .before .before .before .before .before .before .before .before .before .before .pre .1 .1 .1 .0) in record { fits = omega arith }
 
-opened-below-sub-leaves-below : (t : ℕ) → opened-below-lts.Need-sub-leaves-below (
-  zero-reads.Asked,
-  zero-reads.Learnt,
-  leaves-of-reads.Asked,
-  leaves-of-reads.Learnt,
-  opened-below-below t,
-  opened-below.Post,
-  leaves-below-reads.Asked,
-  leaves-below-reads.Learnt,
-) (opened-below-at t) opened-below.Post
+opened-below-sub-leaves-below : (t : ℕ) → opened-below-lts.Need-sub-leaves-below (calls t) (opened-below-at t) opened-below.Post
 opened-below-sub-leaves-below t c = let r = room (c .before .before .before .before .before .before .before .before .before .before .args .k) (c .before .before .before .before .before .before .before .before .before .before .args .h) (c .before .before .before .before .before .before .before .if1 .left) (c .before .before .before .before .before .before .before .before .before .before .pre .1 .1 .1 .0) in r .some
 
-opened-below-slice-aggregate-leaves-below :
-    (t : ℕ) → opened-below-lts.Need-slice-aggregate-leaves-below (
-      zero-reads.Asked,
-      zero-reads.Learnt,
-      leaves-of-reads.Asked,
-      leaves-of-reads.Learnt,
-      opened-below-below t,
-      opened-below.Post,
-      leaves-below-reads.Asked,
-      leaves-below-reads.Learnt,
-    ) (opened-below-at t) opened-below.Post
+opened-below-slice-aggregate-leaves-below : (t : ℕ) → opened-below-lts.Need-slice-aggregate-leaves-below (calls t) (opened-below-at t) opened-below.Post
 opened-below-slice-aggregate-leaves-below t c = let r = room (c .before .before .before .before .before .before .before .before .before .before .before .args .k) (c .before .before .before .before .before .before .before .before .before .before .before .args .h) (c .before .before .before .before .before .before .before .before .if1 .left) (c .before .before .before .before .before .before .before .before .before .before .before .pre .1 .1 .1 .0) in sym (length-take-le 16 (c .before .before .before .before .before .before .before .before .before .before .before .args .siblings .now) (omega (arith, c .before .before .before .before .before .before .before .before .before .before .before .pre .1 .0)))
 
-opened-below-sub-leaves-below-2 : (t : ℕ) → opened-below-lts.Need-sub-leaves-below-2 (
-  zero-reads.Asked,
-  zero-reads.Learnt,
-  leaves-of-reads.Asked,
-  leaves-of-reads.Learnt,
-  opened-below-below t,
-  opened-below.Post,
-  leaves-below-reads.Asked,
-  leaves-below-reads.Learnt,
-) (opened-below-at t) opened-below.Post
+opened-below-sub-leaves-below-2 : (t : ℕ) → opened-below-lts.Need-sub-leaves-below-2 (calls t) (opened-below-at t) opened-below.Post
 opened-below-sub-leaves-below-2 t c =
     let o = c .before .before .before .before .before .before .before .before .before .before .before .args .out .now in
     let l = c .before .before .before .opened-below .kept .1 .1 .1 .1 .1 .0 ∙ length-take-le (length o / 2) o (omega arith) in
     rw (both-length o _ (length o / 2) l (omega arith)) (omega arith)
 
-opened-below-part-leaves-below-start : (t : ℕ) → opened-below-lts.Need-part-leaves-below-start (
-  zero-reads.Asked,
-  zero-reads.Learnt,
-  leaves-of-reads.Asked,
-  leaves-of-reads.Learnt,
-  opened-below-below t,
-  opened-below.Post,
-  leaves-below-reads.Asked,
-  leaves-below-reads.Learnt,
-) (opened-below-at t) opened-below.Post
+opened-below-part-leaves-below-start : (t : ℕ) → opened-below-lts.Need-part-leaves-below-start (calls t) (opened-below-at t) opened-below.Post
 opened-below-part-leaves-below-start t c = search needs
 
-opened-below-part-leaves-below-end : (t : ℕ) → opened-below-lts.Need-part-leaves-below-end (
-  zero-reads.Asked,
-  zero-reads.Learnt,
-  leaves-of-reads.Asked,
-  leaves-of-reads.Learnt,
-  opened-below-below t,
-  opened-below.Post,
-  leaves-below-reads.Asked,
-  leaves-below-reads.Learnt,
-) (opened-below-at t) opened-below.Post
+opened-below-part-leaves-below-end : (t : ℕ) → opened-below-lts.Need-part-leaves-below-end (calls t) (opened-below-at t) opened-below.Post
 opened-below-part-leaves-below-end t c = search needs
 
-opened-below-leaves-below-requires : (t : ℕ) → opened-below-lts.Need-leaves-below-requires (
-  zero-reads.Asked,
-  zero-reads.Learnt,
-  leaves-of-reads.Asked,
-  leaves-of-reads.Learnt,
-  opened-below-below t,
-  opened-below.Post,
-  leaves-below-reads.Asked,
-  leaves-below-reads.Learnt,
-) (opened-below-at t) opened-below.Post
+opened-below-leaves-below-requires : (t : ℕ) → opened-below-lts.Need-leaves-below-requires (calls t) (opened-below-at t) opened-below.Post
 opened-below-leaves-below-requires t c κs =
     let b = c .before .before .before .before .before .before .before .before .before .before .before .before in
     let r = room (c .before .before .before .before .before .before .before .before .before .before .before .before .args .k) (c .before .before .before .before .before .before .before .before .before .before .before .before .args .h) (c .before .before .before .before .before .before .before .before .before .if1 .left) (c .before .before .before .before .before .before .before .before .before .before .before .before .pre .1 .1 .1 .0) in
@@ -284,79 +125,22 @@ opened-below-leaves-below-requires t c κs =
       (second-part o (c .before .before .before .before .opened-below .last .1 .1 .1 .1 .1 .0) (length o / 2) l (omega arith) ∙ omega (arith, b .pre .1 .1 .0), r .right),
     )
 
-opened-below-mul-leaves-below-2 : (t : ℕ) → opened-below-lts.Need-mul-leaves-below-2 (
-  zero-reads.Asked,
-  zero-reads.Learnt,
-  leaves-of-reads.Asked,
-  leaves-of-reads.Learnt,
-  opened-below-below t,
-  opened-below.Post,
-  leaves-below-reads.Asked,
-  leaves-below-reads.Learnt,
-) (opened-below-at t) opened-below.Post
+opened-below-mul-leaves-below-2 : (t : ℕ) → opened-below-lts.Need-mul-leaves-below-2 (calls t) (opened-below-at t) opened-below.Post
 opened-below-mul-leaves-below-2 t c = let r = room (c .before .before .before .before .before .args .k) (c .before .before .before .before .before .args .h) (c .before .before .if1 .left) (c .before .before .before .before .before .pre .1 .1 .1 .0) in record { fits = omega arith }
 
-opened-below-sub-leaves-below-3 : (t : ℕ) → opened-below-lts.Need-sub-leaves-below-3 (
-  zero-reads.Asked,
-  zero-reads.Learnt,
-  leaves-of-reads.Asked,
-  leaves-of-reads.Learnt,
-  opened-below-below t,
-  opened-below.Post,
-  leaves-below-reads.Asked,
-  leaves-below-reads.Learnt,
-) (opened-below-at t) opened-below.Post
+opened-below-sub-leaves-below-3 : (t : ℕ) → opened-below-lts.Need-sub-leaves-below-3 (calls t) (opened-below-at t) opened-below.Post
 opened-below-sub-leaves-below-3 t c = let r = room (c .before .before .before .before .before .args .k) (c .before .before .before .before .before .args .h) (c .before .before .if1 .left) (c .before .before .before .before .before .pre .1 .1 .1 .0) in r .some
 
-opened-below-slice-aggregate-leaves-below-2 :
-    (t : ℕ) → opened-below-lts.Need-slice-aggregate-leaves-below-2 (
-      zero-reads.Asked,
-      zero-reads.Learnt,
-      leaves-of-reads.Asked,
-      leaves-of-reads.Learnt,
-      opened-below-below t,
-      opened-below.Post,
-      leaves-below-reads.Asked,
-      leaves-below-reads.Learnt,
-    ) (opened-below-at t) opened-below.Post
+opened-below-slice-aggregate-leaves-below-2 : (t : ℕ) → opened-below-lts.Need-slice-aggregate-leaves-below-2 (calls t) (opened-below-at t) opened-below.Post
 opened-below-slice-aggregate-leaves-below-2 t c = let r = room (c .before .before .before .before .before .before .args .k) (c .before .before .before .before .before .before .args .h) (c .before .before .before .if1 .left) (c .before .before .before .before .before .before .pre .1 .1 .1 .0) in sym (length-take-le 16 (c .before .before .before .before .before .before .args .siblings .now) (omega (arith, c .before .before .before .before .before .before .pre .1 .0)))
 
-opened-below-slice-relend-prefix-leaves-below :
-    (t : ℕ) → opened-below-lts.Need-slice-relend-prefix-leaves-below (
-      zero-reads.Asked,
-      zero-reads.Learnt,
-      leaves-of-reads.Asked,
-      leaves-of-reads.Learnt,
-      opened-below-below t,
-      opened-below.Post,
-      leaves-below-reads.Asked,
-      leaves-below-reads.Learnt,
-    ) (opened-below-at t) opened-below.Post
+opened-below-slice-relend-prefix-leaves-below : (t : ℕ) → opened-below-lts.Need-slice-relend-prefix-leaves-below (calls t) (opened-below-at t) opened-below.Post
 opened-below-slice-relend-prefix-leaves-below t c = omega arith
 
-opened-below-slice-aggregate-leaves-below-3 :
-    (t : ℕ) → opened-below-lts.Need-slice-aggregate-leaves-below-3 (
-      zero-reads.Asked,
-      zero-reads.Learnt,
-      leaves-of-reads.Asked,
-      leaves-of-reads.Learnt,
-      opened-below-below t,
-      opened-below.Post,
-      leaves-below-reads.Asked,
-      leaves-below-reads.Learnt,
-    ) (opened-below-at t) opened-below.Post
+opened-below-slice-aggregate-leaves-below-3 : (t : ℕ) → opened-below-lts.Need-slice-aggregate-leaves-below-3 (calls t) (opened-below-at t) opened-below.Post
 opened-below-slice-aggregate-leaves-below-3 t c = let o = c .before .before .before .before .before .before .before .args .out .now in sym (length-take-le (length o / 2) o (omega arith))
 
-opened-below-leaves-below-requires-2 : (t : ℕ) → opened-below-lts.Need-leaves-below-requires-2 (
-  zero-reads.Asked,
-  zero-reads.Learnt,
-  leaves-of-reads.Asked,
-  leaves-of-reads.Learnt,
-  opened-below-below t,
-  opened-below.Post,
-  leaves-below-reads.Asked,
-  leaves-below-reads.Learnt,
-) (opened-below-at t) opened-below.Post
+opened-below-leaves-below-requires-2 : (t : ℕ) → opened-below-lts.Need-leaves-below-requires-2 (calls t) (opened-below-at t) opened-below.Post
 opened-below-leaves-below-requires-2 t c κs =
     let b = c .before .before .before .before .before .before .before in
     let r = room (c .before .before .before .before .before .before .before .args .k) (c .before .before .before .before .before .before .before .args .h) (c .before .before .before .before .if1 .left) (c .before .before .before .before .before .before .before .pre .1 .1 .1 .0) in
@@ -365,127 +149,37 @@ opened-below-leaves-below-requires-2 t c κs =
       (length-take-le (length o / 2) o (omega arith) ∙ omega (arith, b .pre .1 .1 .0), r .left),
     )
 
-opened-below-mul-opened-below-2 : (t : ℕ) → opened-below-lts.Need-mul-opened-below-2 (
-  zero-reads.Asked,
-  zero-reads.Learnt,
-  leaves-of-reads.Asked,
-  leaves-of-reads.Learnt,
-  opened-below-below t,
-  opened-below.Post,
-  leaves-below-reads.Asked,
-  leaves-below-reads.Learnt,
-) (opened-below-at t) opened-below.Post
+opened-below-mul-opened-below-2 : (t : ℕ) → opened-below-lts.Need-mul-opened-below-2 (calls t) (opened-below-at t) opened-below.Post
 opened-below-mul-opened-below-2 t c = let r = room (c .before .before .before .before .before .before .before .before .before .before .args .k) (c .before .before .before .before .before .before .before .before .before .before .args .h) (c .before .before .before .before .before .before .before .if1 .left) (c .before .before .before .before .before .before .before .before .before .before .pre .1 .1 .1 .0) in record { fits = omega arith }
 
-opened-below-add-opened-below : (t : ℕ) → opened-below-lts.Need-add-opened-below (
-  zero-reads.Asked,
-  zero-reads.Learnt,
-  leaves-of-reads.Asked,
-  leaves-of-reads.Learnt,
-  opened-below-below t,
-  opened-below.Post,
-  leaves-below-reads.Asked,
-  leaves-below-reads.Learnt,
-) (opened-below-at t) opened-below.Post
+opened-below-add-opened-below : (t : ℕ) → opened-below-lts.Need-add-opened-below (calls t) (opened-below-at t) opened-below.Post
 opened-below-add-opened-below t c = let r = room (c .before .before .before .before .before .before .before .before .before .before .args .k) (c .before .before .before .before .before .before .before .before .before .before .args .h) (c .before .before .before .before .before .before .before .if1 .left) (c .before .before .before .before .before .before .before .before .before .before .pre .1 .1 .1 .0) in record { fits = omega arith }
 
-opened-below-sub-opened-below-3 : (t : ℕ) → opened-below-lts.Need-sub-opened-below-3 (
-  zero-reads.Asked,
-  zero-reads.Learnt,
-  leaves-of-reads.Asked,
-  leaves-of-reads.Learnt,
-  opened-below-below t,
-  opened-below.Post,
-  leaves-below-reads.Asked,
-  leaves-below-reads.Learnt,
-) (opened-below-at t) opened-below.Post
+opened-below-sub-opened-below-3 : (t : ℕ) → opened-below-lts.Need-sub-opened-below-3 (calls t) (opened-below-at t) opened-below.Post
 opened-below-sub-opened-below-3 t c = let r = room (c .before .before .before .before .before .before .before .before .before .before .args .k) (c .before .before .before .before .before .before .before .before .before .before .args .h) (c .before .before .before .before .before .before .before .if1 .left) (c .before .before .before .before .before .before .before .before .before .before .pre .1 .1 .1 .0) in r .some
 
-opened-below-sub-opened-below-4 : (t : ℕ) → opened-below-lts.Need-sub-opened-below-4 (
-  zero-reads.Asked,
-  zero-reads.Learnt,
-  leaves-of-reads.Asked,
-  leaves-of-reads.Learnt,
-  opened-below-below t,
-  opened-below.Post,
-  leaves-below-reads.Asked,
-  leaves-below-reads.Learnt,
-) (opened-below-at t) opened-below.Post
+opened-below-sub-opened-below-4 : (t : ℕ) → opened-below-lts.Need-sub-opened-below-4 (calls t) (opened-below-at t) opened-below.Post
 opened-below-sub-opened-below-4 t c = let r = room (c .before .before .before .before .before .before .before .before .before .before .args .k) (c .before .before .before .before .before .before .before .before .before .before .args .h) (c .before .before .before .before .before .before .before .if1 .left) (c .before .before .before .before .before .before .before .before .before .before .pre .1 .1 .1 .0) in omega (arith, c .before .before .before .before .before .before .before .before .before .before .pre .1 .0)
 
-opened-below-part-opened-below-start-2 : (t : ℕ) → opened-below-lts.Need-part-opened-below-start-2 (
-  zero-reads.Asked,
-  zero-reads.Learnt,
-  leaves-of-reads.Asked,
-  leaves-of-reads.Learnt,
-  opened-below-below t,
-  opened-below.Post,
-  leaves-below-reads.Asked,
-  leaves-below-reads.Learnt,
-) (opened-below-at t) opened-below.Post
+opened-below-part-opened-below-start-2 : (t : ℕ) → opened-below-lts.Need-part-opened-below-start-2 (calls t) (opened-below-at t) opened-below.Post
 opened-below-part-opened-below-start-2 t c = search needs
 
-opened-below-part-opened-below-end-2 : (t : ℕ) → opened-below-lts.Need-part-opened-below-end-2 (
-  zero-reads.Asked,
-  zero-reads.Learnt,
-  leaves-of-reads.Asked,
-  leaves-of-reads.Learnt,
-  opened-below-below t,
-  opened-below.Post,
-  leaves-below-reads.Asked,
-  leaves-below-reads.Learnt,
-) (opened-below-at t) opened-below.Post
+opened-below-part-opened-below-end-2 : (t : ℕ) → opened-below-lts.Need-part-opened-below-end-2 (calls t) (opened-below-at t) opened-below.Post
 opened-below-part-opened-below-end-2 t c = search needs
 
-opened-below-sub-opened-below-5 : (t : ℕ) → opened-below-lts.Need-sub-opened-below-5 (
-  zero-reads.Asked,
-  zero-reads.Learnt,
-  leaves-of-reads.Asked,
-  leaves-of-reads.Learnt,
-  opened-below-below t,
-  opened-below.Post,
-  leaves-below-reads.Asked,
-  leaves-below-reads.Learnt,
-) (opened-below-at t) opened-below.Post
+opened-below-sub-opened-below-5 : (t : ℕ) → opened-below-lts.Need-sub-opened-below-5 (calls t) (opened-below-at t) opened-below.Post
 opened-below-sub-opened-below-5 t c =
     let o = c .before .before .before .before .before .before .before .before .before .before .before .args .out .now in
     let l = c .before .before .before .leaves-below2 .kept .1 .1 .1 .1 .0 ∙ length-take-le (length o / 2) o (omega arith) in
     rw (both-length o _ (length o / 2) l (omega arith)) (omega arith)
 
-opened-below-part-opened-below-start-3 : (t : ℕ) → opened-below-lts.Need-part-opened-below-start-3 (
-  zero-reads.Asked,
-  zero-reads.Learnt,
-  leaves-of-reads.Asked,
-  leaves-of-reads.Learnt,
-  opened-below-below t,
-  opened-below.Post,
-  leaves-below-reads.Asked,
-  leaves-below-reads.Learnt,
-) (opened-below-at t) opened-below.Post
+opened-below-part-opened-below-start-3 : (t : ℕ) → opened-below-lts.Need-part-opened-below-start-3 (calls t) (opened-below-at t) opened-below.Post
 opened-below-part-opened-below-start-3 t c = search needs
 
-opened-below-part-opened-below-end-3 : (t : ℕ) → opened-below-lts.Need-part-opened-below-end-3 (
-  zero-reads.Asked,
-  zero-reads.Learnt,
-  leaves-of-reads.Asked,
-  leaves-of-reads.Learnt,
-  opened-below-below t,
-  opened-below.Post,
-  leaves-below-reads.Asked,
-  leaves-below-reads.Learnt,
-) (opened-below-at t) opened-below.Post
+opened-below-part-opened-below-end-3 : (t : ℕ) → opened-below-lts.Need-part-opened-below-end-3 (calls t) (opened-below-at t) opened-below.Post
 opened-below-part-opened-below-end-3 t c = search needs
 
-opened-below-opened-below-requires-2 : (t : ℕ) → opened-below-lts.Need-opened-below-requires-2 (
-  zero-reads.Asked,
-  zero-reads.Learnt,
-  leaves-of-reads.Asked,
-  leaves-of-reads.Learnt,
-  opened-below-below t,
-  opened-below.Post,
-  leaves-below-reads.Asked,
-  leaves-below-reads.Learnt,
-) (opened-below-at t) opened-below.Post
+opened-below-opened-below-requires-2 : (t : ℕ) → opened-below-lts.Need-opened-below-requires-2 (calls t) (opened-below-at t) opened-below.Post
 opened-below-opened-below-requires-2 t c κs =
     let b = c .before .before .before .before .before .before .before .before .before .before .before .before in
     let r = room (c .before .before .before .before .before .before .before .before .before .before .before .before .args .k) (c .before .before .before .before .before .before .before .before .before .before .before .before .args .h) (c .before .before .before .before .before .before .before .before .before .if1 .left) (c .before .before .before .before .before .before .before .before .before .before .before .before .pre .1 .1 .1 .0) in
@@ -501,99 +195,36 @@ opened-below-opened-below-requires-2 t c κs =
       ),
     )
 
-opened-below-same-length : (t : ℕ) → opened-below-lts.Need-same-length (
-  zero-reads.Asked,
-  zero-reads.Learnt,
-  leaves-of-reads.Asked,
-  leaves-of-reads.Learnt,
-  opened-below-below t,
-  opened-below.Post,
-  leaves-below-reads.Asked,
-  leaves-below-reads.Learnt,
-) (opened-below-at t) opened-below.Post
+opened-below-same-length : (t : ℕ) → opened-below-lts.Need-same-length (calls t) (opened-below-at t) opened-below.Post
 opened-below-same-length t c = c .before .before .zero .kept .0
 
-opened-below-returns : (t : ℕ) → opened-below-lts.Need-returns (
-  zero-reads.Asked,
-  zero-reads.Learnt,
-  leaves-of-reads.Asked,
-  leaves-of-reads.Learnt,
-  opened-below-below t,
-  opened-below.Post,
-  leaves-below-reads.Asked,
-  leaves-below-reads.Learnt,
-) (opened-below-at t) opened-below.Post
+opened-below-returns : (t : ℕ) → opened-below-lts.Need-returns (calls t) (opened-below-at t) opened-below.Post
 opened-below-returns t c = let x = c .before .before .before .before .before .before .before .args in c .before .before .zero .ensures ∙ opened-none (x .j) (x .k) (x .h) (x .p) (x .siblings .now) (length (x .out .now)) (c .before .before .before .before .if1 .taken) (c .before .before .before .before .before .before .before .pre .1 .1 .0)
 
-opened-below-same-length-2 : (t : ℕ) → opened-below-lts.Need-same-length-2 (
-  zero-reads.Asked,
-  zero-reads.Learnt,
-  leaves-of-reads.Asked,
-  leaves-of-reads.Learnt,
-  opened-below-below t,
-  opened-below.Post,
-  leaves-below-reads.Asked,
-  leaves-below-reads.Learnt,
-) (opened-below-at t) opened-below.Post
+opened-below-same-length-2 : (t : ℕ) → opened-below-lts.Need-same-length-2 (calls t) (opened-below-at t) opened-below.Post
 opened-below-same-length-2 t c =
     let o = c .before .before .before .before .before .before .before .before .before .before .before .before .before .before .before .args .out .now in
     both-kept o (c .before .before .before .before .before .before .before .opened-below .last .1 .1 .1 .1 .1 .0) (c .before .before .leaves-below .last .1 .1 .1 .1 .0) (length o / 2) (c .before .before .before .before .before .before .before .opened-below .kept .1 .1 .1 .1 .1 .0 ∙ length-take-le (length o / 2) o (omega arith)) (omega arith) (c .before .before .leaves-below .kept .1 .1 .1 .1 .0)
 
-opened-below-returns-2 : (t : ℕ) → opened-below-lts.Need-returns-2 (
-  zero-reads.Asked,
-  zero-reads.Learnt,
-  leaves-of-reads.Asked,
-  leaves-of-reads.Learnt,
-  opened-below-below t,
-  opened-below.Post,
-  leaves-below-reads.Asked,
-  leaves-below-reads.Learnt,
-) (opened-below-at t) opened-below.Post
+opened-below-returns-2 : (t : ℕ) → opened-below-lts.Need-returns-2 (calls t) (opened-below-at t) opened-below.Post
 opened-below-returns-2 t c =
     let x = c .before .before .before .before .before .before .before .before .before .before .before .before .before .before .before .args in
     opened-joined-left (x .j) (x .k) (x .h) (x .p) (c .before .before .before .before .before .before .before .before .before .before .before .leaves-of .result) (x .siblings .now) (x .out .now) (c .before .before .before .before .before .before .before .opened-below .last .1 .1 .1 .1 .1 .0) (c .before .before .leaves-below .last .1 .1 .1 .1 .0)
     (c .before .before .before .before .before .before .before .before .before .before .before .before .if1 .left) (c .before .before .before .before .before .before .before .before .before .before .before .leaves-of .ensures) (c .before .before .before .before .before .before .before .before .before .before .before .before .before .before .before .pre .1 .1 .0) (c .before .before .before .before .before .before .before .opened-below .kept .1 .1 .1 .1 .1 .0) (omega (arith, c .before .before .before .before .before .before .before .before .before .before .if2 .taken)) (c .before .before .before .before .before .before .before .opened-below .ensures) (c .before .before .leaves-below .ensures)
 
-opened-below-same-length-3 : (t : ℕ) → opened-below-lts.Need-same-length-3 (
-  zero-reads.Asked,
-  zero-reads.Learnt,
-  leaves-of-reads.Asked,
-  leaves-of-reads.Learnt,
-  opened-below-below t,
-  opened-below.Post,
-  leaves-below-reads.Asked,
-  leaves-below-reads.Learnt,
-) (opened-below-at t) opened-below.Post
+opened-below-same-length-3 : (t : ℕ) → opened-below-lts.Need-same-length-3 (calls t) (opened-below-at t) opened-below.Post
 opened-below-same-length-3 t c =
     let o = c .before .before .before .before .before .before .before .before .before .before .before .before .before .before .before .args .out .now in
     both-kept o (c .before .before .before .before .before .before .before .leaves-below2 .last .1 .1 .1 .1 .0) (c .before .before .opened-below2 .last .1 .1 .1 .1 .1 .0) (length o / 2) (c .before .before .before .before .before .before .before .leaves-below2 .kept .1 .1 .1 .1 .0 ∙ length-take-le (length o / 2) o (omega arith)) (omega arith) (c .before .before .opened-below2 .kept .1 .1 .1 .1 .1 .0)
 
-opened-below-returns-3 : (t : ℕ) → opened-below-lts.Need-returns-3 (
-  zero-reads.Asked,
-  zero-reads.Learnt,
-  leaves-of-reads.Asked,
-  leaves-of-reads.Learnt,
-  opened-below-below t,
-  opened-below.Post,
-  leaves-below-reads.Asked,
-  leaves-below-reads.Learnt,
-) (opened-below-at t) opened-below.Post
+opened-below-returns-3 : (t : ℕ) → opened-below-lts.Need-returns-3 (calls t) (opened-below-at t) opened-below.Post
 opened-below-returns-3 t c =
     let x = c .before .before .before .before .before .before .before .before .before .before .before .before .before .before .before .args in
     opened-joined-right (x .j) (x .k) (x .h) (x .p) (c .before .before .before .before .before .before .before .before .before .before .before .leaves-of .result) (x .siblings .now) (x .out .now) (c .before .before .before .before .before .before .before .leaves-below2 .last .1 .1 .1 .1 .0) (c .before .before .opened-below2 .last .1 .1 .1 .1 .1 .0)
     (c .before .before .before .before .before .before .before .before .before .before .before .before .if1 .left) (c .before .before .before .before .before .before .before .before .before .before .before .leaves-of .ensures) (c .before .before .before .before .before .before .before .before .before .before .before .before .before .before .before .pre .1 .1 .0) (c .before .before .before .before .before .before .before .leaves-below2 .kept .1 .1 .1 .1 .0) (omega (arith, c .before .before .before .before .before .before .before .before .before .before .if2 .left)) (c .before .before .before .before .before .before .before .leaves-below2 .ensures) (c .before .before .opened-below2 .ensures)
 
 pub +opened-below-spec : {M : Type 1} → statement M
-+opened-below-spec = close μ-opened-below λ t. opened-below-lts.spec (
-  zero-reads.Asked,
-  zero-reads.Learnt,
-  leaves-of-reads.Asked,
-  leaves-of-reads.Learnt,
-  opened-below-below t,
-  opened-below.Post,
-  leaves-below-reads.Asked,
-  leaves-below-reads.Learnt,
-)
++opened-below-spec = close μ-opened-below λ t. opened-below-lts.spec (calls t)
     (opened-below-at t)
     opened-below.Post
     (opened-below-zero-requires t)

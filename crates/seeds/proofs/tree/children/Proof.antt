@@ -1,17 +1,13 @@
+-- `seeds::tree::children` meets its contract: the head is the tag, j and k.
+-- Assumes nothing.
 use Rattle.seeds.specs.Tree.{children}
 use Rattle.seeds.specs.Inputs.{nodeInput}
 use Rattle.bits.specs.Bytes.{leBytes}
 use Rattle.keccak.specs.Sponge.{shake128}
-use native.Mathlib.Omega.{arith}
-use mathlib.Core.Path.{_≡_, refl, sym, ap, _∙_}
-use Prim.Native.Nat.{ℕ, zero, suc, _+_, _-_, _*_, _≤_, _<_}
-use lib.ListN.{length, getD, set, length-set}
+use mathlib.Core.Path.{ap, _∙_}
 use borrow.Author.Needs.{needs}
 use Rattle.seeds.proofs.tree.children.Statement.{statement}
 use Rattle.seeds.proofs.tree.children.Tie as tie
-use Rattle.seeds.proofs.tree.children.Reads as reads
-use Rattle.seeds.proofs.tree.children.Lts as lts
-use Rattle.seeds.proofs.hash.shake128.Reads as shake128-reads
 
 cast-t7 : tie.Need-cast-t7
 cast-t7 c = search needs

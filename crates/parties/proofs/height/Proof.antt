@@ -1,14 +1,9 @@
-use Rattle.seeds.specs.Parties.{heightOf}
+-- `parties::height` meets its contract: one case for each party count.
+-- Assumes nothing.
+use Rattle.parties.specs.Parties.{heightOf}
 use borrow.Author.Tests.{eq-eqb, ne-eqb}
-use borrow.Author.Needs.{needs}
-use native.Mathlib.Omega.{arith}
-use mathlib.Core.Path.{_≡_, refl, sym, ap, _∙_}
-use Prim.Native.Nat.{ℕ, zero, suc, _+_, _-_, _*_, _≤_, _<_}
-use lib.ListN.{length, getD, set, length-set}
-use Rattle.seeds.proofs.height.Statement.{statement}
-use Rattle.seeds.proofs.height.Tie as tie
-use Rattle.seeds.proofs.height.Reads as reads
-use Rattle.seeds.proofs.height.Lts as lts
+use Rattle.parties.proofs.height.Statement.{statement}
+use Rattle.parties.proofs.height.Tie as tie
 
 returns : tie.Need-returns
 unfolding heightOf

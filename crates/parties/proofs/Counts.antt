@@ -1,16 +1,13 @@
--- The party counts are powers of two, and what the tests of the counts say.
+-- The party counts are powers of two between 2 and 16.
 -- Assumes nothing.
 use native.Mathlib.Omega.{arith}
-use mathlib.Core.Path.{_≡_, refl, sym, ap, _∙_}
+use mathlib.Core.Path.{_≡_, refl}
 use mathlib.Core.Logic.{⊎-elim}
-use mathlib.Core.Bool.{Bool, true, false, cond, not, _&&_}
-use Prim.Native.Nat.{ℕ, _^_, _≤_, _<_}
-use borrow.Author.Tests.{eq-eqb, ne-eqb, leb-true, ltb-true}
-use lib.Dec.{leb, ltb}
-use Rattle.bits.proofs.Tests.{and-true-left, and-true-right}
-use Rattle.seeds.specs.Operations.{areCounts}
+use mathlib.Core.Bool.{true, false}
+use Prim.Native.Nat.{ℕ, _^_, _≤_}
+use borrow.Author.Tests.{eq-eqb, ne-eqb}
 use Rattle.bits.proofs.Numbers.{eq-or-ne}
-use Rattle.seeds.specs.Parties.{heightOf, isPartyCount}
+use Rattle.parties.specs.Parties.{heightOf, isPartyCount}
 
 -- what holds of each party count, and of a number that is none
 height-cases : (P : ℕ → ℕ → Type 0) → P 2 1 → P 4 2 → P 8 3 → P 16 4 → ((n : ℕ) → P n 0) → (n : ℕ) → P n (heightOf n)
@@ -55,26 +52,3 @@ sizes n more = record { leaves = height-pow n more; few = count-few n more; some
 
     count-some : (n : ℕ) → (heightOf n ≡ 0 → ⊥) → 2 ≤ n
     count-some = height-cases (λ n h. (h ≡ 0 → ⊥) → 2 ≤ n) (λ _. omega arith) (λ _. omega arith) (λ _. omega arith) (λ _. omega arith) (λ n f. absurd (f refl))
-
--- what the test of M and τ says
-pub record Fit (M tau : ℕ) : Type 0 where
-  pub least : 2 ≤ M
-  pub most : M ≤ 512
-  pub some : 1 ≤ tau
-  pub below : tau < M
-
-pub counts-fit : (M tau : ℕ) → areCounts M tau ≡ true → Fit M tau
-unfolding areCounts
-counts-fit M tau e =
-    let a = leb 2 M in
-    let b = leb M 512 in
-    let c = leb 1 tau in
-    let d = ltb tau M in
-    let e1 = and-true-right a (b && (c && d)) e in
-    let e2 = and-true-right b (c && d) e1 in
-    record {
-      least = leb-true 2 M (and-true-left a (b && (c && d)) e);
-      most = leb-true M 512 (and-true-left b (c && d) e1);
-      some = leb-true 1 tau (and-true-left c d e2);
-      below = ltb-true tau M (and-true-right c d e2);
-    }
