@@ -79,6 +79,98 @@ uint32_t wv_evaluate(const uint8_t *circuit, size_t circuit_len,
                      uint8_t *y, size_t y_len);
 
 /*
+ * A run of a circuit by n parties; n is 2, 4, 8 or 16, and A is the number of
+ * AND gates. Each length below is a number of bits in that / 8 bytes, rounded
+ * up; the unused bits of a last byte are zero.
+ *
+ *   witness        I bits
+ *   tapes          n rows, party 0 first, each of I + 2 A bits in bytes of its
+ *                  own: I input masks, then A output masks of AND gates in
+ *                  chain order, then A product shares. The last party has no
+ *                  product shares: its last A bits are unused, and zero
+ *   corrections    A bits, the product shares of the last party
+ *   masked inputs  I bits
+ *   rows           n broadcast rows, party 0 first, each of A + O bits in bytes
+ *                  of its own: a bit for each AND gate in chain order, then the
+ *                  party's mask shares of the outputs
+ *   y              O bits
+ *
+ * A showing hides one party p and has four parts: the tapes with row p all
+ * zero, the corrections (all zero if p is the last party), the masked inputs,
+ * and the broadcast row of p.
+ */
+
+/*
+ * Writes the corrections of the tapes of n parties to corrections. Refuses with
+ * 1 to 5, then:
+ *   8  n is not 2, 4, 8 or 16
+ *   6  the length of the tapes or of corrections is not as above
+ *   7  an unused bit of the tapes is not zero
+ */
+uint32_t wv_prepare(const uint8_t *circuit, size_t circuit_len, uint32_t n,
+                    const uint8_t *tapes, size_t tapes_len,
+                    uint8_t *corrections, size_t corrections_len);
+
+/*
+ * Runs the circuit for the witness, with the corrections as lent, right or
+ * wrong. Writes the masked inputs, the n broadcast rows, and the outputs of the
+ * run to y. Refuses with 1 to 5, then:
+ *   8  n is not 2, 4, 8 or 16
+ *   6  the length of the witness, the tapes, the corrections, masked_inputs,
+ *      rows or y is not as above
+ *   7  an unused bit of the witness, the tapes or the corrections is not zero
+ */
+uint32_t wv_run(const uint8_t *circuit, size_t circuit_len, uint32_t n,
+                const uint8_t *witness, size_t witness_len,
+                const uint8_t *tapes, size_t tapes_len,
+                const uint8_t *corrections, size_t corrections_len,
+                uint8_t *masked_inputs, size_t masked_inputs_len,
+                uint8_t *rows, size_t rows_len,
+                uint8_t *y, size_t y_len);
+
+/*
+ * Writes the showing of a run that hides party p, cut after the first gates of
+ * the chain, as many as cut says. The corrections are made from the tapes. The
+ * cut G shows the whole row of p; a lower one shows the bits of the AND gates
+ * that were passed, and the rest of the row is zero. Refuses with 1 to 5, then:
+ *   8  n is not 2, 4, 8 or 16
+ *   9  p is not below n, or cut is above G
+ *   6  the length of the witness, the tapes, shown_tapes (as tapes),
+ *      corrections, masked_inputs or row (one row) is not as above
+ *   7  an unused bit of the witness or the tapes is not zero
+ */
+uint32_t wv_show(const uint8_t *circuit, size_t circuit_len,
+                 uint32_t n, uint32_t p, uint32_t cut,
+                 const uint8_t *witness, size_t witness_len,
+                 const uint8_t *tapes, size_t tapes_len,
+                 uint8_t *shown_tapes, size_t shown_tapes_len,
+                 uint8_t *corrections, size_t corrections_len,
+                 uint8_t *masked_inputs, size_t masked_inputs_len,
+                 uint8_t *row, size_t row_len);
+
+/*
+ * Replays a run from the four parts of its showing that hides party p, and
+ * writes the n broadcast rows to rows; row p is as lent. Refuses with 1 to 5,
+ * then:
+ *    8  n is not 2, 4, 8 or 16
+ *    9  p is not below n
+ *    6  the length of the tapes, the corrections, the masked inputs, the row
+ *       (one row), y or rows is not as above
+ *    7  an unused bit of the tapes, the corrections, the masked inputs, the row
+ *       or y is not zero; or row p of the tapes is not all zero; or p is the
+ *       last party and the corrections are not all zero
+ *   10  the output of the replay is not y
+ */
+uint32_t wv_replay(const uint8_t *circuit, size_t circuit_len,
+                   uint32_t n, uint32_t p,
+                   const uint8_t *tapes, size_t tapes_len,
+                   const uint8_t *corrections, size_t corrections_len,
+                   const uint8_t *masked_inputs, size_t masked_inputs_len,
+                   const uint8_t *row, size_t row_len,
+                   const uint8_t *y, size_t y_len,
+                   uint8_t *rows, size_t rows_len);
+
+/*
  * A shelf is a page of S slots (1 to 255) that hold roots of 16 bytes, each to
  * be drawn once. All numbers are little-endian. The page is 12 + 18 S bytes: S,
  * the first ready slot, the first spare slot and a zero, 16 bits each; then

@@ -1,19 +1,26 @@
 -- Every marked case is right: one test that antt computes over the whole table, and the lemma that turns it into each row.
 -- Assumes nothing.
-use mathlib.Core.Path.{_≡_, refl, ap, _∙_}
+use mathlib.Core.Path.{_≡_, refl, ap, ap₂, _∙_}
 use mathlib.Core.Bool.{Bool, true, _&&_}
-use mathlib.Core.List.{List, [], _∷_, List·Memᴰ, List·Memᴰ·not-nil, List·Memᴰ·cases-cons}
+use mathlib.Core.List.{List, [], _∷_, flatten, List·Memᴰ, List·Memᴰ·not-nil, List·Memᴰ·cases-cons}
 use mathlib.Core.Logic.{⊎-elim}
 use Prim.Native.Nat.{ℕ}
 use native.Mathlib.Omega.{arith}
 use borrow.Author.Tests.{eqb-true}
-use Rattle.bits.specs.Bytes.{leAt, sameBytes}
+use Rattle.bits.specs.Bits.{odd, testBit, fromBits, bitAt, pack, none, unusedZero}
+use Rattle.bits.specs.Bytes.{leAt, sameBytes, rowOf}
+use Rattle.bits.specs.Xor.{xors}
 use Rattle.bits.proofs.Equal.{same-eq}
 use Rattle.bits.proofs.Tests.{and-true-left, and-true-right}
 use Rattle.circuit.specs.Circuit.{put, ands}
 use Rattle.circuit.specs.File.{withinLimits, rightLength, goodRecord, goodRecords, walks, goodChain, chainFrom, gateAt, gatesInOrder, readsWritten, goodOutputs, goodWires, circuitOf, readCircuit}
 use Rattle.circuit.specs.Operations.{Answer, refusal, success, readAnswer, readOp}
-use Rattle.marked.specs.Marked.{Case, reading, Right, sameAnswer, holds, cases}
+use Rattle.parties.specs.Parties.{heightOf, isPartyCount}
+use Rattle.mpc.specs.Run.{corrections, corrected, says, outputs, run}
+use Rattle.mpc.specs.Tapes.{inputMasks, outputMasks, productShares, usedBits, unusedRows, withRow}
+use Rattle.mpc.specs.Showing.{correctionBits, maskedInput, maskedInputs, runWith, runOn, honestRun, rowBits, rowsOf, shownBits, firstBits, showing}
+use Rattle.mpc.specs.Operations.{Outcome, prepareLegal, prepareOp, ran, runLegal, runOp, holdsShowing, showLegal, showOp}
+use Rattle.marked.specs.Marked.{Case, reading, working, Right, sameAnswer, sameBuffers, sameOutcome, holds, cases}
 
 -- answers that pass the test are equal
 same-answer : (a b : Answer) → sameAnswer a b ≡ true → a ≡ b
@@ -23,10 +30,29 @@ same-answer (refusal j) (success ys) t = let z : _≡_ {A = ℕ} 0 1 = cc in abs
 same-answer (success xs) (refusal k) t = let z : _≡_ {A = ℕ} 0 1 = cc in absurd (omega arith)
 same-answer (success xs) (success ys) t = ap success (same-eq xs ys t)
 
+-- so are buffers
+same-buffers : (a b : List (List ℕ)) → sameBuffers a b ≡ true → a ≡ b
+unfolding sameBuffers
+same-buffers [] [] t = refl
+same-buffers [] (y ∷ ys) t = let z : _≡_ {A = ℕ} 0 1 = cc in absurd (omega arith)
+same-buffers (x ∷ xs) [] t = let z : _≡_ {A = ℕ} 0 1 = cc in absurd (omega arith)
+same-buffers (x ∷ xs) (y ∷ ys) t =
+    ap₂ (λ (u : List ℕ) (us : List (List ℕ)). u ∷ us) (same-eq x y (and-true-left (sameBytes x y) (sameBuffers xs ys) t))
+    (same-buffers xs ys (and-true-right (sameBytes x y) (sameBuffers xs ys) t))
+
+-- and outcomes
+same-outcome : (a b : Outcome) → sameOutcome a b ≡ true → a ≡ b
+unfolding sameOutcome
+same-outcome a b t =
+    let e = same-answer (a .answer) (b .answer) (and-true-left (sameAnswer (a .answer) (b .answer)) (sameBuffers (a .left) (b .left)) t) in
+    let f = same-buffers (a .left) (b .left) (and-true-right (sameAnswer (a .answer) (b .answer)) (sameBuffers (a .left) (b .left)) t) in
+    λ i. record { answer = e i; left = f i }
+
 -- a row that passes its test is right
 row-right : (c : Case) → holds c ≡ true → Right c
 unfolding holds Right
 row-right (reading file answer) t = same-answer (readOp file) answer t
+row-right (working a b) t = same-outcome a b t
 
 -- all rows of a table pass
 every : List Case → Bool
@@ -45,7 +71,7 @@ every-row (d ∷ cs) t c m =
 
 -- the marked cases pass
 table-passes : every cases ≡ true
-unfolding every holds sameAnswer sameBytes leAt put ands withinLimits rightLength goodRecord goodRecords walks goodChain chainFrom gateAt gatesInOrder readsWritten goodOutputs goodWires circuitOf readCircuit readAnswer readOp
+unfolding every holds sameAnswer sameBuffers sameOutcome sameBytes flatten odd testBit fromBits bitAt pack none unusedZero rowOf xors heightOf isPartyCount corrections corrected says outputs run inputMasks outputMasks productShares usedBits unusedRows withRow correctionBits maskedInput maskedInputs runWith runOn honestRun rowBits rowsOf shownBits firstBits showing prepareLegal prepareOp ran runLegal runOp holdsShowing showLegal showOp leAt put ands withinLimits rightLength goodRecord goodRecords walks goodChain chainFrom gateAt gatesInOrder readsWritten goodOutputs goodWires circuitOf readCircuit readAnswer readOp
 table-passes = refl
 
 -- every marked case is right

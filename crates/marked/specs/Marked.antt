@@ -1,21 +1,25 @@
 -- The marked cases (document 01, "Marked cases"): a row for each, with what is lent and what the paper says of it.
 -- Assumes nothing.
 use mathlib.Core.Path.{_≡_}
-use mathlib.Core.Bool.{Bool, false}
+use mathlib.Core.Bool.{Bool, true, false, _&&_}
 use mathlib.Core.List.{List, [], _∷_}
 use Prim.Native.Nat.{ℕ}
 use lib.Dec.{eqb}
 use lib.ListN.{set}
 use Rattle.bits.specs.Bytes.{sameBytes}
 use Rattle.circuit.specs.Operations.{Answer, refusal, success, readOp}
+use Rattle.mpc.specs.Showing.{Showing}
+use Rattle.mpc.specs.Operations.{Outcome, done, prepareOp, runOp, showOp}
 
--- a row: reading a circuit file, and its answer
+-- a row: reading a circuit file, and its answer; an operation's outcome, and what it is
 pub data Case : Type 0 where
   reading : List ℕ → Answer → Case
+  working : Outcome → Outcome → Case
 
 -- what a row says
 unfoldable pub Right : Case → Type 0
 Right (reading file answer) = readOp file ≡ answer
+Right (working a b) = a ≡ b
 
 -- whether two answers are the same
 unfoldable pub sameAnswer : Answer → Answer → Bool
@@ -24,9 +28,21 @@ sameAnswer (refusal j) (success ys) = false
 sameAnswer (success xs) (refusal k) = false
 sameAnswer (success xs) (success ys) = sameBytes xs ys
 
+-- whether two lists of buffers are the same
+unfoldable pub sameBuffers : List (List ℕ) → List (List ℕ) → Bool
+sameBuffers [] [] = true
+sameBuffers [] (y ∷ ys) = false
+sameBuffers (x ∷ xs) [] = false
+sameBuffers (x ∷ xs) (y ∷ ys) = sameBytes x y && sameBuffers xs ys
+
+-- whether two outcomes are the same
+unfoldable pub sameOutcome : Outcome → Outcome → Bool
+sameOutcome a b = sameAnswer (a .answer) (b .answer) && sameBuffers (a .left) (b .left)
+
 -- the test of a row
 unfoldable pub holds : Case → Bool
 holds (reading file answer) = sameAnswer (readOp file) answer
+holds (working a b) = sameOutcome a b
 
 -- "Circuit K, hexadecimal: 02 00 01 00 01 00 01 00 02 00 02 00 00 00 01 00 00 00"
 abbrev pub circuitK : List ℕ
@@ -53,6 +69,41 @@ m4 = reading [] (refusal 1)
 abbrev pub m5 : Case
 m5 = reading (1 ∷ 0 ∷ 1 ∷ 0 ∷ 0 ∷ 0 ∷ 0 ∷ 0 ∷ 0 ∷ 0 ∷ []) (success (1 ∷ 1 ∷ 0 ∷ 0 ∷ []))
 
+-- "K, n = 2, rows 13 and 3 (decimal bytes)"
+abbrev pub tapes : List ℕ
+tapes = 13 ∷ 3 ∷ []
+
+-- "m6 correction 1": into a lent byte that was 255
+abbrev pub m6 : Case
+m6 = working (prepareOp circuitK 2 tapes (255 ∷ [])) (done ((1 ∷ []) ∷ []))
+
+-- "m7 witness bits 1, 1: masked inputs byte 1, rows 2 and 0, output 1"
+abbrev pub m7 : Case
+m7 =
+    working (runOp circuitK 2 (3 ∷ []) tapes (1 ∷ []) (255 ∷ []) (255 ∷ 255 ∷ []) (255 ∷ []))
+    (done ((1 ∷ []) ∷ (2 ∷ 0 ∷ []) ∷ (1 ∷ []) ∷ []))
+
+-- "m8 witness 1, 0: masked inputs 3, row 0 is 3, output 0"; row 1 is then 1
+abbrev pub m8 : Case
+m8 =
+    working (runOp circuitK 2 (1 ∷ []) tapes (1 ∷ []) (255 ∷ []) (255 ∷ 255 ∷ []) (255 ∷ []))
+    (done ((3 ∷ []) ∷ (3 ∷ 1 ∷ []) ∷ (0 ∷ []) ∷ []))
+
+-- a lent showing
+abbrev pub lent : Showing
+lent = record { tapes = 255 ∷ 255 ∷ []; corrections = 255 ∷ []; maskedInputs = 255 ∷ []; row = 255 ∷ [] }
+
+-- what m8 shows with p = 0: the tapes with row 0 all zero, the correction, the masked inputs, row 0
+abbrev pub shown : Outcome
+shown = done ((0 ∷ 3 ∷ []) ∷ (1 ∷ []) ∷ (3 ∷ []) ∷ (3 ∷ []) ∷ [])
+
+abbrev pub m8Shown : Case
+m8Shown = working (showOp circuitK 2 0 1 (1 ∷ []) tapes lent) shown
+
+-- "m9 witness 0, 1 with row 0 = 14 and p = 0 shows the same as m8"
+abbrev pub m9 : Case
+m9 = working (showOp circuitK 2 0 1 (2 ∷ []) (14 ∷ 3 ∷ []) lent) shown
+
 -- the table
 abbrev pub cases : List Case
-cases = m1 ∷ m2 ∷ m3 ∷ m4 ∷ m5 ∷ []
+cases = m1 ∷ m2 ∷ m3 ∷ m4 ∷ m5 ∷ m6 ∷ m7 ∷ m8 ∷ m8Shown ∷ m9 ∷ []

@@ -13,9 +13,13 @@ use Rattle.circuit.specs.declared.ReadAnswer.the-variants as readAnswer
 use Rattle.circuit.specs.declared.EvaluateAnswer.{EvaluateAnswer}
 use Rattle.circuit.specs.declared.EvaluateAnswer.the-variants as evaluateAnswer
 use Rattle.circuit.proofs.Small.{read-small}
-use Rattle.shelf.specs.Operations.{Said, accepted, refused, said}
+use Rattle.shelf.specs.Operations.{Said, said}
 use Rattle.shelf.specs.declared.Answer.{Answer as ShelfAnswer}
 use Rattle.shelf.specs.declared.Answer.the-variants as shelfAnswer
+use Rattle.mpc.specs.Operations.{Outcome as MpcOutcome}
+use Rattle.mpc.specs.Answers.{outcome as mpcOutcome}
+use Rattle.mpc.specs.declared.Answer.{Answer as MpcAnswer}
+use Rattle.mpc.specs.declared.Answer.the-variants as mpcAnswer
 use Rattle.seeds.specs.Operations.{Outcome as SeedsOutcome, paper, outcome as seedsOutcome}
 use Rattle.seeds.specs.declared.Answer.{Answer as SeedsAnswer}
 use Rattle.seeds.specs.declared.Answer.the-variants as seedsAnswer
@@ -57,6 +61,22 @@ unfolding status
 evaluate-refused o r k n y e f h =
     let g : outcome (evaluateAnswer.Refused k) y ≡ o = ap (λ (x : EvaluateAnswer). outcome x y) (sym e) ∙ f in
     (h ∙ ap (λ (x : Outcome). status (x .answer)) g, ap (λ (x : Outcome). x .left) g)
+
+-- a run, or a part of one, that is done
+pub mpc-done : (o : MpcOutcome) (r : MpcAnswer) (bs : List (List ℕ)) → r ≡ mpcAnswer.Done → mpcOutcome r bs ≡ o
+    → (_≡_ {A = ℕ} 0 (status (o .answer))) × (bs ≡ o .left)
+unfolding status
+mpc-done o r bs e f =
+    let g : mpcOutcome mpcAnswer.Done bs ≡ o = ap (λ (x : MpcAnswer). mpcOutcome x bs) (sym e) ∙ f in
+    (ap (λ (x : MpcOutcome). status (x .answer)) g, ap (λ (x : MpcOutcome). x .left) g)
+
+-- one that is refused
+pub mpc-refused : (o : MpcOutcome) (r : MpcAnswer) (k : Refusal) (n : ℕ) (bs : List (List ℕ)) → r ≡ mpcAnswer.Refused k → mpcOutcome r bs ≡ o → n ≡ numberOf k
+    → (n ≡ status (o .answer)) × (bs ≡ o .left)
+unfolding status
+mpc-refused o r k n bs e f h =
+    let g : mpcOutcome (mpcAnswer.Refused k) bs ≡ o = ap (λ (x : MpcAnswer). mpcOutcome x bs) (sym e) ∙ f in
+    (h ∙ ap (λ (x : MpcOutcome). status (x .answer)) g, ap (λ (x : MpcOutcome). x .left) g)
 
 -- a stocking that is accepted
 pub stock-done : (o : Said × List ℕ) (r : ShelfAnswer) (p : List ℕ) → r ≡ shelfAnswer.Accepted → _≡_ {A = Said × List ℕ} (said r, p) o

@@ -1,6 +1,6 @@
 -- What the C functions return and leave: 0 for success or the refusal's number, and the lent buffers.
 -- Assumes nothing.
-use mathlib.Core.List.{List, [], _∷_}
+use mathlib.Core.List.{List}
 use Prim.Native.Nat.{ℕ}
 use Rattle.circuit.specs.Operations.{Answer, refusal, success}
 use Rattle.shelf.specs.Operations.{Said, accepted, refused}

@@ -1,8 +1,10 @@
 // The C interface, built as the static library libwivulameno.a; its header is include/wivulameno.h.
 // Each function returns 0 for success, or the number of a refusal. No logic of its own.
 ghost use mathlib.Core.Path.{_≡_};
+ghost use mathlib.Core.List.{[], _∷_};
 ghost use lib.ListN.{length};
 ghost use Rattle.circuit.specs.Operations.{readOp, evaluateOp};
+ghost use Rattle.mpc.specs.Operations.{prepareOp, runOp, showOp, replayOp};
 ghost use Rattle.shelf.specs.Operations.{stockOp, drawOp};
 ghost use Rattle.seeds.specs.Operations.{expandOp, openOp, challengeOp};
 ghost use Rattle.wivulameno.specs.Interface.{status, values, shelfStatus, rootLeft};
@@ -64,6 +66,95 @@ pub extern "C" fn wv_evaluate(circuit: &[u8], witness: &[u8], y: &mut [u8]) -> u
     match a {
         circuit::EvaluateAnswer::Done => 0,
         circuit::EvaluateAnswer::Refused(k) => refusal::number(k),
+    }
+}
+
+// Prepares the corrections from the tapes of n parties.
+#[no_mangle]
+pub extern "C" fn wv_prepare(circuit: &[u8], n: u32, tapes: &[u8], corrections: &mut [u8]) -> u32
+    ensures { λ r. ⌜ (r ≡ status (prepareOp (now (circuit .entry)) n (now (tapes .entry)) (now (corrections .entry)) .answer)) × (now (corrections .exit) ∷ [] ≡ prepareOp (now (circuit .entry)) n (now (tapes .entry)) (now (corrections .entry)) .left) ⌝ }
+{
+    let a = mpc::preparing::prepare(circuit, n, tapes, corrections);
+    match a {
+        mpc::Answer::Done => 0,
+        mpc::Answer::Refused(k) => refusal::number(k),
+    }
+}
+
+// Runs the circuit on a witness: masked inputs, n broadcast rows and y.
+#[no_mangle]
+pub extern "C" fn wv_run(
+    circuit: &[u8],
+    n: u32,
+    witness: &[u8],
+    tapes: &[u8],
+    corrections: &[u8],
+    masked: &mut [u8],
+    rows: &mut [u8],
+    y: &mut [u8],
+) -> u32
+    ensures { λ r. ⌜ (r ≡ status (runOp (now (circuit .entry)) n (now (witness .entry)) (now (tapes .entry)) (now (corrections .entry)) (now (masked .entry)) (now (rows .entry)) (now (y .entry)) .answer)) × (now (masked .exit) ∷ now (rows .exit) ∷ now (y .exit) ∷ [] ≡ runOp (now (circuit .entry)) n (now (witness .entry)) (now (tapes .entry)) (now (corrections .entry)) (now (masked .entry)) (now (rows .entry)) (now (y .entry)) .left) ⌝ }
+{
+    let a = mpc::running::run(circuit, n, witness, tapes, corrections, masked, rows, y);
+    match a {
+        mpc::Answer::Done => 0,
+        mpc::Answer::Refused(k) => refusal::number(k),
+    }
+}
+
+// Shows the run with party p hidden, cut after some gates: tapes, corrections, masked inputs and row p.
+#[no_mangle]
+pub extern "C" fn wv_show(
+    circuit: &[u8],
+    n: u32,
+    p: u32,
+    cut: u32,
+    witness: &[u8],
+    tapes: &[u8],
+    blanked: &mut [u8],
+    corrections: &mut [u8],
+    masked: &mut [u8],
+    row: &mut [u8],
+) -> u32
+    ensures { λ r. ⌜ (r ≡ status (showOp (now (circuit .entry)) n p cut (now (witness .entry)) (now (tapes .entry)) (record { tapes = now (blanked .entry); corrections = now (corrections .entry); maskedInputs = now (masked .entry); row = now (row .entry) }) .answer)) × (now (blanked .exit) ∷ now (corrections .exit) ∷ now (masked .exit) ∷ now (row .exit) ∷ [] ≡ showOp (now (circuit .entry)) n p cut (now (witness .entry)) (now (tapes .entry)) (record { tapes = now (blanked .entry); corrections = now (corrections .entry); maskedInputs = now (masked .entry); row = now (row .entry) }) .left) ⌝ }
+{
+    let a = showing::show(
+        circuit,
+        n,
+        p,
+        cut,
+        witness,
+        tapes,
+        blanked,
+        corrections,
+        masked,
+        row,
+    );
+    match a {
+        mpc::Answer::Done => 0,
+        mpc::Answer::Refused(k) => refusal::number(k),
+    }
+}
+
+// Replays an opened run: n broadcast rows, where its output is y.
+#[no_mangle]
+pub extern "C" fn wv_replay(
+    circuit: &[u8],
+    n: u32,
+    p: u32,
+    tapes: &[u8],
+    corrections: &[u8],
+    masked: &[u8],
+    row: &[u8],
+    y: &[u8],
+    rows: &mut [u8],
+) -> u32
+    ensures { λ r. ⌜ (r ≡ status (replayOp (now (circuit .entry)) n p (record { tapes = now (tapes .entry); corrections = now (corrections .entry); maskedInputs = now (masked .entry); row = now (row .entry) }) (now (y .entry)) (now (rows .entry)) .answer)) × (now (rows .exit) ∷ [] ≡ replayOp (now (circuit .entry)) n p (record { tapes = now (tapes .entry); corrections = now (corrections .entry); maskedInputs = now (masked .entry); row = now (row .entry) }) (now (y .entry)) (now (rows .entry)) .left) ⌝ }
+{
+    let a = replaying::replay(circuit, n, p, tapes, corrections, masked, row, y, rows);
+    match a {
+        mpc::Answer::Done => 0,
+        mpc::Answer::Refused(k) => refusal::number(k),
     }
 }
 

@@ -3,8 +3,8 @@
 use crate::bits::{get, oct, put, rest_is_zero};
 use crate::{u16_at, Refusal};
 
-const XOR: u8 = 1;
-const AND: u8 = 2;
+pub(crate) const XOR: u8 = 1;
+pub(crate) const AND: u8 = 2;
 const INV: u8 = 3;
 
 /// I, O, G and A.
@@ -17,31 +17,24 @@ pub struct Sizes {
 }
 
 /// One record of 8 bytes, as it stands.
-struct Record {
-    kind: u8,
+pub(crate) struct Record {
+    pub kind: u8,
     zero: u8,
-    a: usize,
-    b: usize,
+    pub a: usize,
+    pub b: usize,
     next: usize,
 }
 
 /// A circuit that was read: gates in chain order, each with the wire it writes.
-struct Circuit {
-    inputs: usize,
-    outputs: Vec<usize>,
-    gates: Vec<(Record, usize)>,
+pub(crate) struct Circuit {
+    pub inputs: usize,
+    pub outputs: Vec<usize>,
+    pub gates: Vec<(Record, usize)>,
 }
 
 /// Reads a circuit file: refusals 1 to 5.
 pub fn read(file: &[u8]) -> Result<Sizes, Refusal> {
-    let circuit = legal(file)?;
-    let ands = circuit.gates.iter().filter(|(gate, _)| gate.kind == AND);
-    Ok(Sizes {
-        inputs: circuit.inputs,
-        outputs: circuit.outputs.len(),
-        gates: circuit.gates.len(),
-        ands: ands.count(),
-    })
+    legal(file).map(|circuit| circuit.sizes())
 }
 
 /// Fills `y` with the outputs for `witness`: refusals 1 to 5, 6 and 7.
@@ -53,16 +46,12 @@ pub fn evaluate(file: &[u8], witness: &[u8], y: &mut [u8]) -> Result<(), Refusal
     if !rest_is_zero(witness, circuit.inputs) {
         return Err(7);
     }
-    let values = circuit.values(witness);
-    y.fill(0);
-    for (place, &wire) in circuit.outputs.iter().enumerate() {
-        put(y, place, values[wire]);
-    }
+    y.copy_from_slice(&circuit.output(witness));
     Ok(())
 }
 
 /// The circuit of a file. Each test is made over the whole file before the next.
-fn legal(file: &[u8]) -> Result<Circuit, Refusal> {
+pub(crate) fn legal(file: &[u8]) -> Result<Circuit, Refusal> {
     if file.len() < 8 {
         return Err(1);
     }
@@ -143,7 +132,17 @@ fn in_order(slots: &[usize], records: Vec<Record>, inputs: usize) -> Vec<(Record
 }
 
 impl Circuit {
-    fn wires(&self) -> usize {
+    pub fn sizes(&self) -> Sizes {
+        let ands = self.gates.iter().filter(|(gate, _)| gate.kind == AND);
+        Sizes {
+            inputs: self.inputs,
+            outputs: self.outputs.len(),
+            gates: self.gates.len(),
+            ands: ands.count(),
+        }
+    }
+
+    pub fn wires(&self) -> usize {
         self.inputs + self.gates.len()
     }
 
@@ -159,6 +158,16 @@ impl Circuit {
             written[*wire] = true;
         }
         self.outputs.iter().all(|&wire| wire < self.wires())
+    }
+
+    /// The output for a witness.
+    pub fn output(&self, witness: &[u8]) -> Vec<u8> {
+        let values = self.values(witness);
+        let mut y = vec![0; oct(self.outputs.len())];
+        for (place, &wire) in self.outputs.iter().enumerate() {
+            put(&mut y, place, values[wire]);
+        }
+        y
     }
 
     /// The value of every wire.

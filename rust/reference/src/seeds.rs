@@ -78,7 +78,7 @@ fn instance(j: u32) -> Result<u16, Refusal> {
 }
 
 /// 8 for a number of parties other than 2, 4, 8 and 16.
-fn parties(n: u32) -> Result<usize, Refusal> {
+pub(crate) fn parties(n: u32) -> Result<usize, Refusal> {
     match n {
         2 | 4 | 8 | 16 => Ok(n as usize),
         _ => Err(8),

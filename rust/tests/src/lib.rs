@@ -1,6 +1,7 @@
 //! What the tests share: random bytes, known answers, guarded buffers, and
-//! files and pages to try.
+//! files, pages and calls to try.
 
+pub mod calls;
 pub mod circuits;
 pub mod guarded;
 pub mod outcomes;

@@ -6,6 +6,7 @@
 mod ffi;
 
 pub mod circuit;
+pub mod mpc;
 pub mod seeds;
 pub mod shelf;
 

@@ -1,0 +1,132 @@
+// Bringing tapes, rows and witness into the work memory, and packing rows out of it.
+ghost use mathlib.Core.Path.{_≡_};
+ghost use Prim.Native.Nat.{_+_, _*_, _≤_, _<_};
+ghost use lib.ListN.{length, replicate};
+ghost use Rattle.engine.specs.Memory.{unpacked, packed, packedByte, loadedRow, loadedTapes, maskByte, maskedInputs, packedRows};
+ghost use Rattle.engine.specs.Fits.{Room};
+
+// Clears the memory.
+pub fn clear(memory: &mut [u8])
+    ensures { λ _. ⌜ now (memory .exit) ≡ replicate (length (now (memory .entry))) 0 ⌝ }
+{
+    let mut k = 0;
+    while k < memory.len() {
+        memory[k] = 0;
+        k += 1;
+    }
+}
+
+// Unpacks count bits of s, from bit `from` on, to every 16th byte of the memory from `to` on.
+pub fn unpack(s: &[u8], from: usize, count: usize, memory: &mut [u8], to: usize)
+    requires { ⌜ (from + count ≤ 8 * length (now s)) × ((from + count < 65536) × ((to < 4294967296) × (to + 16 * count ≤ length (now memory) + 15))) ⌝ }
+    ensures { λ _. ⌜ now (memory .exit) ≡ unpacked (now (s .entry)) from count to (now (memory .entry)) ⌝ }
+{
+    let mut t = 0;
+    while t < count {
+        memory[to + 16 * t] = bits::bit(s, from + t);
+        t += 1;
+    }
+}
+
+// Brings party i's tape row into the memory.
+pub fn load_row(row: &[u8], wires: usize, inputs: usize, ands: usize, i: usize, memory: &mut [u8])
+    requires { ⌜ Room wires (i + 1) (now memory) × ((inputs ≤ wires) × ((ands ≤ wires) × (inputs + 2 * ands ≤ 8 * length (now row)))) ⌝ }
+    ensures { λ _. ⌜ now (memory .exit) ≡ loadedRow wires inputs ands i (now (row .entry)) (now (memory .entry)) ⌝ }
+{
+    unpack(row, 0, inputs, memory, i);
+    unpack(row, inputs, ands, memory, 32 * wires + i);
+    unpack(row, inputs + ands, ands, memory, 48 * wires + i);
+}
+
+// Brings the tape rows of n parties, of len bytes each, into the memory.
+pub fn load_tapes(
+    tapes: &[u8],
+    len: usize,
+    n: usize,
+    wires: usize,
+    inputs: usize,
+    ands: usize,
+    memory: &mut [u8],
+)
+    requires { ⌜ Room wires n (now memory) × ((inputs ≤ wires) × ((ands ≤ wires) × ((inputs + 2 * ands ≤ 8 * len) × (length (now tapes) ≡ n * len)))) ⌝ }
+    ensures { λ _. ⌜ now (memory .exit) ≡ loadedTapes wires inputs ands len (now (tapes .entry)) n (now (memory .entry)) ⌝ }
+{
+    let mut i = 0;
+    while i < n {
+        let row = bits::row(tapes, len, i);
+        load_row(row, wires, inputs, ands, i, memory);
+        i += 1;
+    }
+}
+
+// The mask of wire w: the XOR of its n shares.
+pub(crate) fn mask(memory: &[u8], n: usize, w: usize) -> u8
+    requires { ⌜ (n ≤ 16) × ((w < 65536) × (16 * w + 16 ≤ length (now memory))) ⌝ }
+    ensures { λ r. ⌜ r ≡ maskByte n (now (memory .entry)) w ⌝ }
+{
+    let mut sum: u8 = 0;
+    let mut i = 0;
+    while i < n {
+        sum = sum ^ memory[16 * w + i];
+        i += 1;
+    }
+    sum
+}
+
+// Masks the inputs: the witness's bits XOR the masks of their wires.
+pub fn mask_inputs(witness: &[u8], inputs: usize, n: usize, wires: usize, memory: &mut [u8])
+    requires { ⌜ Room wires n (now memory) × ((inputs ≤ wires) × (inputs ≤ 8 * length (now witness))) ⌝ }
+    ensures { λ _. ⌜ now (memory .exit) ≡ maskedInputs wires n inputs (now (witness .entry)) (now (memory .entry)) ⌝ }
+{
+    let mut k = 0;
+    while k < inputs {
+        let x = bits::bit(witness, k) ^ mask(memory, n, k);
+        memory[16 * wires + 16 * k] = x;
+        k += 1;
+    }
+}
+
+// Byte j of the packed bits; zero from bit `shown` on.
+fn pack_byte(memory: &[u8], from: usize, shown: usize, j: usize) -> u8
+    requires { ⌜ (j < 4096) × ((from < 4294967296) × (from + 16 * shown ≤ length (now memory) + 15)) ⌝ }
+    ensures { λ r. ⌜ r ≡ packedByte (now (memory .entry)) from shown j ⌝ }
+{
+    let mut sum: usize = 0;
+    let mut weight: usize = 1;
+    let mut t = 0;
+    while t < 8 {
+        let k = 8 * j + t;
+        if k < shown {
+            sum += ((memory[from + 16 * k] % 2) as usize) * weight;
+        }
+        weight = weight * 2;
+        t += 1;
+    }
+    (sum % 256) as u8
+}
+
+// Packs the first `shown` bits at every 16th byte of the memory from `from` on; the rest of out is zero.
+pub fn pack(memory: &[u8], from: usize, shown: usize, out: &mut [u8])
+    requires { ⌜ (length (now out) ≤ 4096) × ((from < 4294967296) × (from + 16 * shown ≤ length (now memory) + 15)) ⌝ }
+    ensures { λ _. ⌜ now (out .exit) ≡ packed (now (memory .entry)) from shown (length (now (out .entry))) ⌝ }
+{
+    let mut j = 0;
+    while j < out.len() {
+        out[j] = pack_byte(memory, from, shown, j);
+        j += 1;
+    }
+}
+
+// Packs the broadcast rows of n parties, of len bytes each.
+pub fn pack_rows(memory: &[u8], wires: usize, n: usize, shown: usize, len: usize, rows: &mut [u8])
+    requires { ⌜ Room wires n (now memory) × ((shown ≤ wires + 256) × ((len ≤ 4096) × (length (now rows) ≡ n * len))) ⌝ }
+    ensures { λ _. ⌜ now (rows .exit) ≡ packedRows wires (now (memory .entry)) n shown len ⌝ }
+{
+    let mut i = 0;
+    while i < n {
+        let a = i * len;
+        let e = a + len;
+        pack(memory, 48 * wires + i, shown, &mut rows[a..e]);
+        i += 1;
+    }
+}

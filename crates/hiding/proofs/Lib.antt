@@ -1,0 +1,11 @@
+pub mod Columns
+pub mod Masked
+pub mod Flips
+pub mod Fixed
+pub mod Rows
+pub mod Shown
+pub mod Partner
+pub mod Unique
+pub mod Theorem
+pub mod RunLaws
+pub mod Replay

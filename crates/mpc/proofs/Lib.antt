@@ -1,0 +1,12 @@
+pub mod Holding
+pub mod StepBits
+pub mod WalkBits
+pub mod Correcting
+pub mod Loads
+pub mod Packs
+pub mod Agreement
+pub mod Opened
+pub mod Tested
+pub mod Asks
+pub mod Prepared
+pub mod Ran

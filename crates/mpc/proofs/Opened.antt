@@ -1,0 +1,133 @@
+-- A file that reads as legal: its circuit in the numbers that the code carries; and a file that is refused.
+-- Assumes nothing.
+use mathlib.Core.Path.{_≡_, refl, sym, ap, ap₂, _∙_}
+use mathlib.Core.Bool.{true}
+use mathlib.Core.List.{List, [], _∷_}
+use Prim.Native.Nat.{ℕ, _+_, _*_, _≤_}
+use native.Mathlib.Omega.{arith}
+use borrow.Author.Tests.{ltb-true}
+use lib.Dec.{ltb}
+use lib.ListN.{length, replicate, length-replicate}
+use Rattle.bits.specs.Bits.{oct}
+use Rattle.bits.proofs.Tabulate.{length-tabulate}
+use Rattle.bits.proofs.Tests.{and-true-left, and-true-right}
+use Rattle.refusal.specs.Refusal.{numberOf}
+use Rattle.refusal.specs.declared.Refusal.{Refusal}
+use Rattle.parties.specs.Parties.{heightOf}
+use Rattle.parties.proofs.Counts.{sizes}
+use Rattle.circuit.specs.Circuit.{Gate, xor, and, inv, ands}
+use Rattle.circuit.specs.File.{inputsOf, outputsOf, gatesOf, headOf, outputWire, walks, readsWritten, goodOutputs, goodWires, gatesInOrder, circuitOf, refused, legal, readCircuit}
+use Rattle.circuit.specs.Records.{gatesFrom}
+use Rattle.circuit.specs.Operations.{refusal, success, readOp}
+use Rattle.circuit.specs.Answers.{readPaper}
+use Rattle.circuit.specs.declared.Sizes.{Sizes}
+use Rattle.circuit.specs.declared.ReadAnswer.{ReadAnswer}
+use Rattle.circuit.specs.declared.ReadAnswer.the-variants as readAnswer
+use Rattle.circuit.proofs.Answered.{gates-count, read-legal, read-success, refusal-refused}
+use Rattle.circuit.proofs.Outcomes.{legal-passed, legal-sizes}
+use Rattle.circuit.proofs.Run.{wired-reads, goodChain-walks, gates-order}
+use Rattle.engine.specs.Fits.{Room, Ready, Ended}
+use Rattle.mpc.specs.Tapes.{andsOf, rowBytes}
+use Rattle.mpc.specs.Lent.{Known, Parties, Begun}
+
+-- a refused file
+pub opened-refused : (s : List ℕ) (k : Refusal) (r : ReadAnswer) → r ≡ readAnswer.Refused k → readPaper r ≡ readOp s → readCircuit s ≡ refused (numberOf k)
+opened-refused s k r p e =
+    let q : refusal (numberOf k) ≡ readOp s = sym (ap readPaper p) ∙ e in
+    refusal-refused s (numberOf k) q
+
+-- a file that reads as legal
+module _ (s : List ℕ) (z : Sizes) (r : ReadAnswer) (p : r ≡ readAnswer.Legal z) (e : readPaper r ≡ readOp s) where
+  -- its numbers are the circuit's
+  pub opened : Known s (z .inputs) (z .outputs) (z .gates) (z .ands)
+  opened =
+      let q : success (z .inputs ∷ z .outputs ∷ z .gates ∷ z .ands ∷ []) ≡ success (inputsOf s ∷ outputsOf s ∷ gatesOf s ∷ ands (gatesInOrder s) ∷ [])
+      = sym (ap readPaper p) ∙ e ∙ read-success s (legal-passed s z r p e) in
+      let a : z .ands ≡ ands (gatesInOrder s) = cc in
+      record { legal = legal-sizes s z r p e; ands = a }
+
+  -- it is read as its circuit
+  pub opened-legal : readCircuit s ≡ legal (circuitOf s)
+  opened-legal = read-legal s (legal-passed s z r p e)
+
+-- a party count
+pub counted : (n h : ℕ) → h ≡ heightOf n → (h ≡ 0 → ⊥) → Parties n
+counted n h e more = let z = sizes n (λ q. more (e ∙ q)) in record { some = omega (arith, z .some); few = z .few }
+
+-- a clear work memory of z bytes
+pub begun : (w n z : ℕ) (m : List ℕ) → Parties n → m ≡ replicate z 0 → 64 * w + 4096 ≤ z → Begun w n m
+begun w n z m p e l =
+    let q : length m ≡ z = ap length e ∙ length-replicate {A = ℕ} z 0 in
+    record { parties = p; room = omega (arith, q, l); clear = e ∙ ap (λ (j : ℕ). replicate j 0) (sym q) }
+
+-- AND gates are gates
+ands-le : (gs : List Gate) → ands gs ≤ length gs
+unfolding ands
+ands-le [] = omega arith
+ands-le (xor a b c ∷ gs) = omega (arith, ands-le gs)
+ands-le (and a b c ∷ gs) = omega (arith, ands-le gs)
+ands-le (inv a c ∷ gs) = omega (arith, ands-le gs)
+
+-- a legal file's circuit, by I, O, G and A
+module _ (s : List ℕ) (i o g a : ℕ) (k : Known s i o g a) where
+  pub circuit-inputs : circuitOf s .inputs ≡ i
+  unfolding circuitOf
+  circuit-inputs = sym (k .legal .laid .inputs)
+
+  pub circuit-outputs : length (circuitOf s .outputs) ≡ o
+  unfolding circuitOf
+  circuit-outputs = length-tabulate (outputsOf s) (outputWire s) ∙ sym (k .legal .laid .outputs)
+
+  pub circuit-gates : length (circuitOf s .gates) ≡ g
+  unfolding circuitOf
+  circuit-gates = gates-count s ∙ sym (k .legal .laid .gates)
+
+  pub circuit-ands : andsOf (circuitOf s) ≡ a
+  unfolding circuitOf
+  circuit-ands = sym (k .ands)
+
+  -- the bytes of its tape rows
+  pub circuit-row : rowBytes (circuitOf s) ≡ oct (i + 2 * a)
+  circuit-row = ap₂ (λ (x y : ℕ). oct (x + 2 * y)) circuit-inputs circuit-ands
+
+  -- A is at most G
+  pub ands-low : a ≤ g
+  ands-low = omega (arith, ands-le (gatesInOrder s), gates-count s, k .legal .laid .gates, k .ands)
+
+  -- the parts of the test of wires
+  wires-parts : (readsWritten (λ w. ltb w (inputsOf s)) (gatesInOrder s) ≡ true) × (goodOutputs s (outputsOf s) ≡ true)
+  unfolding goodWires
+  wires-parts =
+      let r = readsWritten (λ w. ltb w (inputsOf s)) (gatesInOrder s) in
+      (and-true-left r (goodOutputs s (outputsOf s)) (k .legal .wires), and-true-right r (goodOutputs s (outputsOf s)) (k .legal .wires))
+
+  -- what the engine's steps ask of a work memory m: for the planes
+  module _ (n : ℕ) (m : List ℕ) (parties : Parties n) (large : 64 * (i + g) + 4096 ≤ length m) where
+    pub room : Room (i + g) n m
+    room = record { wires = omega (arith, k .legal .laid .few-inputs, k .legal .laid .few-gates); some = parties .some; few = parties .few; room = large }
+
+    -- for the walk
+    pub ready : (h : ℕ) → h ≡ headOf s → Ready (i + g) n s i o g h m
+    ready h p =
+        let c : walks s g h ≡ true = ap₂ (walks s) (k .legal .laid .gates) p ∙ goodChain-walks s (k .legal .chain) in
+        let r : readsWritten (λ w. ltb w (inputsOf s)) (gatesFrom s g h) ≡ true
+        = ap (readsWritten (λ w. ltb w (inputsOf s))) (ap₂ (gatesFrom s) (k .legal .laid .gates) p ∙ gates-order s) ∙ wires-parts .0 in
+        let f : inputsOf s + gatesOf s ≤ i + g = omega (arith, k .legal .laid .inputs, k .legal .laid .gates) in
+        record {
+          memory = room;
+          wires = refl;
+          chained = record { laid = k .legal .laid; chain = c };
+          reads = wired-reads s (i + g) g h (λ w. ltb w (inputsOf s)) (λ w q. omega (arith, ltb-true w (inputsOf s) q, f)) f c r;
+        }
+
+    -- for the outputs
+    pub ended : (y : List ℕ) → 4096 ≤ length y → Ended (i + g) n a s i o g m y
+    ended y p =
+        record {
+          memory = room;
+          wires = refl;
+          laid = k .legal .laid;
+          ands = omega (arith, ands-low);
+          outputs = ap (goodOutputs s) (k .legal .laid .outputs) ∙ wires-parts .1;
+          room = p;
+        }

@@ -1,0 +1,8 @@
+pub mod Run
+pub mod Tapes
+pub mod Showing
+pub mod Operations
+pub mod Answers
+pub mod Lent
+pub mod Laws
+pub mod Hiding

@@ -1,0 +1,124 @@
+// Preparing the corrections of the AND gates from the tapes.
+ghost use mathlib.Core.Path.{_≡_};
+ghost use mathlib.Core.List.{[], _∷_};
+ghost use Prim.Native.Nat.{_+_};
+ghost use lib.ListN.{length};
+ghost use Rattle.bits.specs.Bits.{oct, pack};
+ghost use Rattle.circuit.specs.File.{circuitOf};
+ghost use Rattle.mpc.specs.Showing.{correctionBits};
+ghost use Rattle.mpc.specs.Operations.{prepareLegal, prepareOp};
+ghost use Rattle.mpc.specs.Answers.{outcome};
+ghost use Rattle.mpc.specs.Lent.{Known, Parties, Begun, TapesFit};
+use crate::Answer;
+use crate::tests::both;
+use crate::tests::holds;
+use crate::tests::holds_rows;
+use crate::tests::unused_rows;
+use circuit::ReadAnswer;
+use circuit::reading::read;
+use engine::chain::walk;
+use engine::memory::load_tapes;
+use engine::memory::pack;
+use refusal::Refusal;
+
+// Makes the corrections in a work memory.
+fn prepare_in(
+    s: &[u8],
+    inputs: usize,
+    outputs: usize,
+    gates: usize,
+    ands: usize,
+    n: usize,
+    tapes: &[u8],
+    corrections: &mut [u8],
+    memory: &mut [u8],
+)
+    requires { ⌜ Known (now s) inputs outputs gates ands × (Begun (inputs + gates) n (now memory) × (TapesFit inputs ands n (now tapes) × (length (now corrections) ≡ oct ands))) ⌝ }
+    ensures { λ _. ⌜ now (corrections .exit) ≡ pack (correctionBits (circuitOf (now (s .entry))) n (now (tapes .entry))) ⌝ }
+{
+    let head = bits::read_u16(s, 6) as usize;
+    let wires = inputs + gates;
+    let len = bits::oct(inputs + 2 * ands);
+    load_tapes(tapes, len, n, wires, inputs, ands, memory);
+    walk(s, inputs, outputs, gates, head, n, n, true, memory);
+    pack(memory, 16 * wires + 1, ands, corrections);
+}
+
+// The same with a work memory of its own.
+fn prepare_with(
+    s: &[u8],
+    inputs: usize,
+    outputs: usize,
+    gates: usize,
+    ands: usize,
+    n: usize,
+    tapes: &[u8],
+    corrections: &mut [u8],
+)
+    requires { ⌜ Known (now s) inputs outputs gates ands × (Parties n × (TapesFit inputs ands n (now tapes) × (length (now corrections) ≡ oct ands))) ⌝ }
+    ensures { λ _. ⌜ now (corrections .exit) ≡ pack (correctionBits (circuitOf (now (s .entry))) n (now (tapes .entry))) ⌝ }
+{
+    let mut memory = [0u8; 299008];
+    prepare_in(
+        s,
+        inputs,
+        outputs,
+        gates,
+        ands,
+        n,
+        tapes,
+        corrections,
+        &mut memory,
+    );
+}
+
+// Tests what is lent, and makes the corrections of a legal circuit.
+fn prepare_lent(
+    s: &[u8],
+    inputs: usize,
+    outputs: usize,
+    gates: usize,
+    ands: usize,
+    n: u32,
+    tapes: &[u8],
+    corrections: &mut [u8],
+) -> Answer
+    requires { ⌜ Known (now s) inputs outputs gates ands ⌝ }
+    ensures { λ r. ⌜ outcome r (now (corrections .exit) ∷ []) ≡ prepareLegal n (now (tapes .entry)) (now (corrections .entry)) (circuitOf (now (s .entry))) ⌝ }
+{
+    if parties::height(n) == 0 {
+        return Answer::Refused(Refusal::Parameter);
+    }
+    let k = n as usize;
+    if !both(
+        holds_rows(tapes, k, inputs + 2 * ands),
+        holds(corrections, ands),
+    ) {
+        return Answer::Refused(Refusal::BufferLength);
+    }
+    if !unused_rows(s, inputs, outputs, gates, ands, k, tapes) {
+        return Answer::Refused(Refusal::UnusedBits);
+    }
+    prepare_with(s, inputs, outputs, gates, ands, k, tapes, corrections);
+    Answer::Done
+}
+
+// Fills the corrections from the tapes of n parties, or refuses and leaves them as they were.
+pub fn prepare(s: &[u8], n: u32, tapes: &[u8], corrections: &mut [u8]) -> Answer
+    ensures { λ r. ⌜ outcome r (now (corrections .exit) ∷ []) ≡ prepareOp (now (s .entry)) n (now (tapes .entry)) (now (corrections .entry)) ⌝ }
+{
+    let answer = read(s);
+    match answer {
+        ReadAnswer::Refused(k) => Answer::Refused(k),
+        ReadAnswer::Legal(z) => prepare_lent(
+            s,
+            z.inputs,
+            z.outputs,
+            z.gates,
+            z.ands,
+            n,
+            tapes,
+            corrections,
+        ),
+    }
+}

@@ -1,0 +1,41 @@
+-- `replaying::replay` meets its contract.
+-- Assumes nothing.
+use mathlib.Core.Path.{_∙_}
+use borrow.Author.Needs.{needs}
+use Rattle.mpc.proofs.Opened.{opened}
+use Rattle.replaying.proofs.Replayed.{replay-refused, replay-read}
+use Rattle.replaying.proofs.replay.Statement.{statement}
+use Rattle.replaying.proofs.replay.Tie as tie
+
+read-requires : tie.Need-read-requires
+read-requires c κs = tt
+
+enum-known-answer : tie.Need-enum-known-answer
+enum-known-answer c = search needs
+
+enum-known-answer-2 : tie.Need-enum-known-answer-2
+enum-known-answer-2 c = search needs
+
+replay-lent-requires : tie.Need-replay-lent-requires
+replay-lent-requires c κs = opened _ _ _ (c .before .before .answer2 .given .1) (c .before .before .before .before .read .ensures)
+
+returns : tie.Need-returns
+returns c = replay-refused _ _ _ _ _ _ _ (c .before .before .before .read .ensures) _ (c .before .answer .given .1)
+
+same-length : tie.Need-same-length
+same-length c = c .before .before .replay-lent .kept .1 .1 .1 .1 .1 .1 .1 .1 .1 .1 .1 .1 .0
+
+returns-2 : tie.Need-returns-2
+returns-2 c = c .before .before .replay-lent .ensures ∙ replay-read _ _ _ _ _ _ _ (c .before .before .before .before .before .before .before .read .ensures) _ (c .before .before .before .before .before .answer2 .given .1)
+
+pub replay-spec : {M : Type 1} → statement M
+replay-spec =
+    tie.close
+    (tie.spec
+    read-requires
+    enum-known-answer
+    enum-known-answer-2
+    replay-lent-requires
+    returns
+    same-length
+    returns-2)

@@ -1,0 +1,293 @@
+// Replaying an opened run: the hidden party's broadcasts are those of its row as lent.
+ghost use mathlib.Core.Path.{_≡_};
+ghost use mathlib.Core.Bool.{cond, true, _&&_};
+ghost use mathlib.Core.List.{[], _∷_};
+ghost use Prim.Native.Nat.{_+_, _*_, _≤_, _<_};
+ghost use lib.Dec.{eqb};
+ghost use lib.ListN.{length};
+ghost use Rattle.bits.specs.Bits.{oct, pack, unusedZero};
+ghost use Rattle.bits.specs.Bytes.{sameBytes};
+ghost use Rattle.circuit.specs.File.{circuitOf};
+ghost use Rattle.engine.specs.Memory.{packed};
+ghost use Rattle.mpc.specs.Showing.{rowsOf, replayOf};
+ghost use Rattle.mpc.specs.Operations.{unusedShowing, replayLegal, replayOp};
+ghost use Rattle.mpc.specs.Answers.{outcome};
+ghost use Rattle.mpc.specs.Lent.{Known, Parties, Begun, ShowingFits};
+use circuit::ReadAnswer;
+use circuit::reading::read;
+use engine::chain::speak;
+use engine::chain::walk;
+use engine::memory::load_tapes;
+use engine::memory::pack;
+use engine::memory::pack_rows;
+use engine::memory::unpack;
+use mpc::Answer;
+use mpc::tests::both;
+use mpc::tests::either;
+use mpc::tests::holds;
+use mpc::tests::holds_rows;
+use mpc::tests::unused_rows;
+use refusal::Refusal;
+
+// Whether y is the first bits at every 16th byte of the values, packed.
+fn outputs_are(values: &[u8], outputs: usize, y: &[u8]) -> bool
+    requires { ⌜ (outputs ≤ 256) × (16 * outputs ≤ length (now values)) ⌝ }
+    ensures { λ r. ⌜ r ≡ sameBytes (packed (now (values .entry)) 0 outputs (oct outputs)) (now (y .entry)) ⌝ }
+{
+    let mut out = [0u8; 32];
+    let size = bits::oct(outputs);
+    pack(values, 0, outputs, &mut out[..size]);
+    bits::same(&out[..size], y)
+}
+
+// Replays in a work memory. Where the output is y, fills the rows and answers true; else answers false.
+fn replay_in(
+    s: &[u8],
+    inputs: usize,
+    outputs: usize,
+    gates: usize,
+    ands: usize,
+    n: usize,
+    p: usize,
+    tapes: &[u8],
+    corrections: &[u8],
+    masked: &[u8],
+    row: &[u8],
+    y: &[u8],
+    rows: &mut [u8],
+    memory: &mut [u8],
+) -> bool
+    requires { ⌜ Known (now s) inputs outputs gates ands × (Begun (inputs + gates) n (now memory) × ((p < n) × ((unusedZero inputs (now masked) ≡ true) × (ShowingFits inputs outputs ands n (now tapes) (now corrections) (now masked) (now row) × (length (now rows) ≡ n * oct (ands + outputs)))))) ⌝ }
+    ensures { λ r. ⌜ (r ≡ sameBytes (pack (replayOf (circuitOf (now (s .entry))) n p (record { tapes = now (tapes .entry); corrections = now (corrections .entry); maskedInputs = now (masked .entry); row = now (row .entry) }) .output)) (now (y .entry))) × (now (rows .exit) ≡ cond r (rowsOf n (replayOf (circuitOf (now (s .entry))) n p (record { tapes = now (tapes .entry); corrections = now (corrections .entry); maskedInputs = now (masked .entry); row = now (row .entry) }))) (now (rows .entry))) ⌝ }
+{
+    let head = bits::read_u16(s, 6) as usize;
+    let wires = inputs + gates;
+    let len = bits::oct(inputs + 2 * ands);
+    let said = ands + outputs;
+    load_tapes(tapes, len, n, wires, inputs, ands, memory);
+    unpack(corrections, 0, ands, memory, 48 * wires + (n - 1));
+    unpack(row, 0, said, memory, 48 * wires + p);
+    unpack(masked, 0, inputs, memory, 16 * wires);
+    walk(s, inputs, outputs, gates, head, n, p, false, memory);
+    let mut values = [0u8; 4096];
+    speak(s, inputs, outputs, gates, ands, n, p, memory, &mut values);
+    if !outputs_are(&values, outputs, y) {
+        return false;
+    }
+    pack_rows(memory, wires, n, said, bits::oct(said), rows);
+    true
+}
+
+// The same with a work memory of its own.
+fn replay_with(
+    s: &[u8],
+    inputs: usize,
+    outputs: usize,
+    gates: usize,
+    ands: usize,
+    n: usize,
+    p: usize,
+    tapes: &[u8],
+    corrections: &[u8],
+    masked: &[u8],
+    row: &[u8],
+    y: &[u8],
+    rows: &mut [u8],
+) -> bool
+    requires { ⌜ Known (now s) inputs outputs gates ands × (Parties n × ((p < n) × ((unusedZero inputs (now masked) ≡ true) × (ShowingFits inputs outputs ands n (now tapes) (now corrections) (now masked) (now row) × (length (now rows) ≡ n * oct (ands + outputs)))))) ⌝ }
+    ensures { λ r. ⌜ (r ≡ sameBytes (pack (replayOf (circuitOf (now (s .entry))) n p (record { tapes = now (tapes .entry); corrections = now (corrections .entry); maskedInputs = now (masked .entry); row = now (row .entry) }) .output)) (now (y .entry))) × (now (rows .exit) ≡ cond r (rowsOf n (replayOf (circuitOf (now (s .entry))) n p (record { tapes = now (tapes .entry); corrections = now (corrections .entry); maskedInputs = now (masked .entry); row = now (row .entry) }))) (now (rows .entry))) ⌝ }
+{
+    let mut memory = [0u8; 299008];
+    replay_in(
+        s,
+        inputs,
+        outputs,
+        gates,
+        ands,
+        n,
+        p,
+        tapes,
+        corrections,
+        masked,
+        row,
+        y,
+        rows,
+        &mut memory,
+    )
+}
+
+// Whether the lengths of what replay is lent are as stated.
+fn replay_lengths(
+    inputs: usize,
+    outputs: usize,
+    ands: usize,
+    n: usize,
+    tapes: &[u8],
+    corrections: &[u8],
+    masked: &[u8],
+    row: &[u8],
+    y: &[u8],
+    rows: &[u8],
+) -> bool
+    requires { ⌜ (n ≤ 16) × ((inputs ≤ 512) × ((outputs ≤ 256) × (ands ≤ 4096))) ⌝ }
+    ensures { λ r. ⌜ r ≡ (eqb (length (now (tapes .entry))) (n * oct (inputs + 2 * ands)) && eqb (length (now (corrections .entry))) (oct ands) && eqb (length (now (masked .entry))) (oct inputs) && eqb (length (now (row .entry))) (oct (ands + outputs))) && eqb (length (now (y .entry))) (oct outputs) && eqb (length (now (rows .entry))) (n * oct (ands + outputs)) ⌝ }
+{
+    let first = both(
+        both(
+            holds_rows(tapes, n, inputs + 2 * ands),
+            holds(corrections, ands),
+        ),
+        holds(masked, inputs),
+    );
+    let parts = both(first, holds(row, ands + outputs));
+    both(
+        both(parts, holds(y, outputs)),
+        holds_rows(rows, n, ands + outputs),
+    )
+}
+
+// Whether every bit of a showing that is not used is zero, row p of the tapes and a hidden party's corrections too.
+fn unused_showing(
+    s: &[u8],
+    inputs: usize,
+    outputs: usize,
+    gates: usize,
+    ands: usize,
+    n: usize,
+    p: usize,
+    tapes: &[u8],
+    corrections: &[u8],
+    masked: &[u8],
+    row: &[u8],
+) -> bool
+    requires { ⌜ Known (now s) inputs outputs gates ands × ((n ≤ 16) × (p < n)) ⌝ }
+    ensures { λ r. ⌜ r ≡ unusedShowing (circuitOf (now (s .entry))) n p (record { tapes = now (tapes .entry); corrections = now (corrections .entry); maskedInputs = now (masked .entry); row = now (row .entry) }) ⌝ }
+{
+    let len = bits::oct(inputs + 2 * ands);
+    let own = bits::row(tapes, len, p);
+    let lent = both(
+        unused_rows(s, inputs, outputs, gates, ands, n, tapes),
+        bits::unused_zero(corrections, ands),
+    );
+    let more = both(
+        both(lent, bits::unused_zero(masked, inputs)),
+        bits::unused_zero(row, ands + outputs),
+    );
+    let none = either(p + 1 != n, bits::unused_zero(corrections, 0));
+    both(both(more, bits::unused_zero(own, 0)), none)
+}
+
+// Tests what is lent, and replays a run of a legal circuit.
+fn replay_lent(
+    s: &[u8],
+    inputs: usize,
+    outputs: usize,
+    gates: usize,
+    ands: usize,
+    n: u32,
+    p: u32,
+    tapes: &[u8],
+    corrections: &[u8],
+    masked: &[u8],
+    row: &[u8],
+    y: &[u8],
+    rows: &mut [u8],
+) -> Answer
+    requires { ⌜ Known (now s) inputs outputs gates ands ⌝ }
+    ensures { λ r. ⌜ outcome r (now (rows .exit) ∷ []) ≡ replayLegal n p (record { tapes = now (tapes .entry); corrections = now (corrections .entry); maskedInputs = now (masked .entry); row = now (row .entry) }) (now (y .entry)) (now (rows .entry)) (circuitOf (now (s .entry))) ⌝ }
+{
+    if parties::height(n) == 0 {
+        return Answer::Refused(Refusal::Parameter);
+    }
+    if n <= p {
+        return Answer::Refused(Refusal::Index);
+    }
+    let k = n as usize;
+    let q = p as usize;
+    if !replay_lengths(
+        inputs,
+        outputs,
+        ands,
+        k,
+        tapes,
+        corrections,
+        masked,
+        row,
+        y,
+        rows,
+    ) {
+        return Answer::Refused(Refusal::BufferLength);
+    }
+    if !both(
+        unused_showing(
+            s,
+            inputs,
+            outputs,
+            gates,
+            ands,
+            k,
+            q,
+            tapes,
+            corrections,
+            masked,
+            row,
+        ),
+        bits::unused_zero(y, outputs),
+    ) {
+        return Answer::Refused(Refusal::UnusedBits);
+    }
+    if replay_with(
+        s,
+        inputs,
+        outputs,
+        gates,
+        ands,
+        k,
+        q,
+        tapes,
+        corrections,
+        masked,
+        row,
+        y,
+        rows,
+    ) {
+        Answer::Done
+    } else {
+        Answer::Refused(Refusal::Output)
+    }
+}
+
+// Replays an opened run: fills n broadcast rows where its output is y, or refuses and leaves them as they were.
+pub fn replay(
+    s: &[u8],
+    n: u32,
+    p: u32,
+    tapes: &[u8],
+    corrections: &[u8],
+    masked: &[u8],
+    row: &[u8],
+    y: &[u8],
+    rows: &mut [u8],
+) -> Answer
+    ensures { λ r. ⌜ outcome r (now (rows .exit) ∷ []) ≡ replayOp (now (s .entry)) n p (record { tapes = now (tapes .entry); corrections = now (corrections .entry); maskedInputs = now (masked .entry); row = now (row .entry) }) (now (y .entry)) (now (rows .entry)) ⌝ }
+{
+    let answer = read(s);
+    match answer {
+        ReadAnswer::Refused(k) => Answer::Refused(k),
+        ReadAnswer::Legal(z) => replay_lent(
+            s,
+            z.inputs,
+            z.outputs,
+            z.gates,
+            z.ands,
+            n,
+            p,
+            tapes,
+            corrections,
+            masked,
+            row,
+            y,
+            rows,
+        ),
+    }
+}

@@ -1,0 +1,216 @@
+//! Runs of a circuit by n parties, showings and replays.
+
+use crate::{answer, Refusal};
+
+extern "C" {
+    fn wv_prepare(
+        circuit: *const u8,
+        circuit_len: usize,
+        n: u32,
+        tapes: *const u8,
+        tapes_len: usize,
+        corrections: *mut u8,
+        corrections_len: usize,
+    ) -> u32;
+    fn wv_run(
+        circuit: *const u8,
+        circuit_len: usize,
+        n: u32,
+        witness: *const u8,
+        witness_len: usize,
+        tapes: *const u8,
+        tapes_len: usize,
+        corrections: *const u8,
+        corrections_len: usize,
+        masked_inputs: *mut u8,
+        masked_inputs_len: usize,
+        rows: *mut u8,
+        rows_len: usize,
+        y: *mut u8,
+        y_len: usize,
+    ) -> u32;
+    fn wv_show(
+        circuit: *const u8,
+        circuit_len: usize,
+        n: u32,
+        p: u32,
+        cut: u32,
+        witness: *const u8,
+        witness_len: usize,
+        tapes: *const u8,
+        tapes_len: usize,
+        shown_tapes: *mut u8,
+        shown_tapes_len: usize,
+        corrections: *mut u8,
+        corrections_len: usize,
+        masked_inputs: *mut u8,
+        masked_inputs_len: usize,
+        row: *mut u8,
+        row_len: usize,
+    ) -> u32;
+    fn wv_replay(
+        circuit: *const u8,
+        circuit_len: usize,
+        n: u32,
+        p: u32,
+        tapes: *const u8,
+        tapes_len: usize,
+        corrections: *const u8,
+        corrections_len: usize,
+        masked_inputs: *const u8,
+        masked_inputs_len: usize,
+        row: *const u8,
+        row_len: usize,
+        y: *const u8,
+        y_len: usize,
+        rows: *mut u8,
+        rows_len: usize,
+    ) -> u32;
+}
+
+/// The parts that a run fills.
+pub struct RunOut<'a> {
+    pub masked_inputs: &'a mut [u8],
+    pub rows: &'a mut [u8],
+    pub y: &'a mut [u8],
+}
+
+/// The four parts of a showing, to be read.
+#[derive(Clone, Copy)]
+pub struct Showing<'a> {
+    pub tapes: &'a [u8],
+    pub corrections: &'a [u8],
+    pub masked_inputs: &'a [u8],
+    pub row: &'a [u8],
+}
+
+/// The four parts of a showing, to be filled.
+pub struct ShowingOut<'a> {
+    pub tapes: &'a mut [u8],
+    pub corrections: &'a mut [u8],
+    pub masked_inputs: &'a mut [u8],
+    pub row: &'a mut [u8],
+}
+
+/// Fills `corrections` with those of the tapes of n parties.
+pub fn prepare(
+    circuit: &[u8],
+    n: u32,
+    tapes: &[u8],
+    corrections: &mut [u8],
+) -> Result<(), Refusal> {
+    // SAFETY: the slices are valid for their lengths and `corrections` overlaps
+    // no other.
+    answer(unsafe {
+        wv_prepare(
+            circuit.as_ptr(),
+            circuit.len(),
+            n,
+            tapes.as_ptr(),
+            tapes.len(),
+            corrections.as_mut_ptr(),
+            corrections.len(),
+        )
+    })
+}
+
+/// Runs the circuit for `witness` by n parties, with the corrections as lent.
+pub fn run(
+    circuit: &[u8],
+    n: u32,
+    witness: &[u8],
+    tapes: &[u8],
+    corrections: &[u8],
+    out: RunOut,
+) -> Result<(), Refusal> {
+    // SAFETY: the slices are valid for their lengths and no part of `out`
+    // overlaps another.
+    answer(unsafe {
+        wv_run(
+            circuit.as_ptr(),
+            circuit.len(),
+            n,
+            witness.as_ptr(),
+            witness.len(),
+            tapes.as_ptr(),
+            tapes.len(),
+            corrections.as_ptr(),
+            corrections.len(),
+            out.masked_inputs.as_mut_ptr(),
+            out.masked_inputs.len(),
+            out.rows.as_mut_ptr(),
+            out.rows.len(),
+            out.y.as_mut_ptr(),
+            out.y.len(),
+        )
+    })
+}
+
+/// Fills `out` with the showing that hides party p, cut after `cut` gates.
+pub fn show(
+    circuit: &[u8],
+    n: u32,
+    p: u32,
+    cut: u32,
+    witness: &[u8],
+    tapes: &[u8],
+    out: ShowingOut,
+) -> Result<(), Refusal> {
+    // SAFETY: the slices are valid for their lengths and no part of `out`
+    // overlaps another.
+    answer(unsafe {
+        wv_show(
+            circuit.as_ptr(),
+            circuit.len(),
+            n,
+            p,
+            cut,
+            witness.as_ptr(),
+            witness.len(),
+            tapes.as_ptr(),
+            tapes.len(),
+            out.tapes.as_mut_ptr(),
+            out.tapes.len(),
+            out.corrections.as_mut_ptr(),
+            out.corrections.len(),
+            out.masked_inputs.as_mut_ptr(),
+            out.masked_inputs.len(),
+            out.row.as_mut_ptr(),
+            out.row.len(),
+        )
+    })
+}
+
+/// Fills `rows` with the broadcasts of all parties in the run that is shown,
+/// whose output must be `y`.
+pub fn replay(
+    circuit: &[u8],
+    n: u32,
+    p: u32,
+    showing: Showing,
+    y: &[u8],
+    rows: &mut [u8],
+) -> Result<(), Refusal> {
+    // SAFETY: the slices are valid for their lengths and `rows` overlaps no
+    // other.
+    answer(unsafe {
+        wv_replay(
+            circuit.as_ptr(),
+            circuit.len(),
+            n,
+            p,
+            showing.tapes.as_ptr(),
+            showing.tapes.len(),
+            showing.corrections.as_ptr(),
+            showing.corrections.len(),
+            showing.masked_inputs.as_ptr(),
+            showing.masked_inputs.len(),
+            showing.row.as_ptr(),
+            showing.row.len(),
+            y.as_ptr(),
+            y.len(),
+            rows.as_mut_ptr(),
+            rows.len(),
+        )
+    })
+}
