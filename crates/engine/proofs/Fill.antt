@@ -5,7 +5,7 @@ use mathlib.Core.List.{List}
 use mathlib.Core.Logic.{⊎-elim, _≢_}
 use Prim.Native.Nat.{ℕ, zero, suc, _+_, _*_, _≤_, _<_}
 use native.Mathlib.Numerals.{add-one}
-use native.Mathlib.Nat.{eq-or-lt-of-le, le-of-suc-le-suc}
+use native.Mathlib.Nat.{add-zero, eq-or-lt-of-le, le-of-suc-le-suc}
 use native.Mathlib.Omega.{arith}
 use lib.ListN.{length, getD, set, length-set}
 use lib.Bits.{bitXor}
@@ -56,6 +56,18 @@ pub fill-cong : (pos f g : ℕ → ℕ) (w : List ℕ) (k : ℕ) → ((t : ℕ) 
 unfolding fill
 fill-cong pos f g w zero h = refl
 fill-cong pos f g w (suc k) h = ap₂ (λ (m : List ℕ) (v : ℕ). set m (pos k) v) (fill-cong pos f g w k (λ t l. h t (omega arith))) (h k (omega arith))
+
+-- a fill of n places that goes on where one of k places stopped
+pub fill-join : (pos f pos′ f′ : ℕ → ℕ) (w : List ℕ) (k n : ℕ) → ((z : ℕ) → z < n → pos′ z ≡ pos (k + z)) → ((z : ℕ) → z < n → f′ z ≡ f (k + z))
+    → fill pos′ f′ n (fill pos f k w) ≡ fill pos f (k + n) w
+unfolding fill
+fill-join pos f pos′ f′ w k zero p q = ap (λ (i : ℕ). fill pos f i w) (sym (add-zero k))
+fill-join pos f pos′ f′ w k (suc n) p q =
+    let e : suc (k + n) ≡ k + suc n = omega arith in
+    let i = fill-join pos f pos′ f′ w k n (λ z l. p z (omega arith)) (λ z l. q z (omega arith)) in
+    ap₂ (λ (m : List ℕ) (v : ℕ). set m (pos′ n) v) i (q n (omega arith))
+    ∙ ap (λ (j : ℕ). set (fill pos f (k + n) w) j (f (k + n))) (p n (omega arith))
+    ∙ ap (λ (j : ℕ). fill pos f j w) e
 
 pub xorBytes-none : (f : ℕ → ℕ) (z : ℕ) → z ≡ xorBytes f z 0
 unfolding xorBytes

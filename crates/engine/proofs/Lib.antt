@@ -1,3 +1,4 @@
 pub mod Fill
 pub mod Loading
+pub mod Eights
 pub mod Turns

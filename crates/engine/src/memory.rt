@@ -2,7 +2,8 @@
 ghost use mathlib.Core.Path.{_≡_};
 ghost use Prim.Native.Nat.{_+_, _*_, _≤_, _<_};
 ghost use lib.ListN.{length, replicate};
-ghost use Rattle.engine.specs.Memory.{unpacked, packed, packedByte, loadedRow, loadedTapes, maskByte, maskedInputs, packedRows};
+ghost use Rattle.bits.specs.Bits.{odd, bitVal, testBit, fromBits, bitAt};
+ghost use Rattle.engine.specs.Memory.{at, fill, unpacked, packed, packedByte, loadedRow, loadedTapes, maskByte, maskedInputs, packedRows};
 ghost use Rattle.engine.specs.Fits.{Room};
 
 // Clears the memory.
@@ -16,12 +17,42 @@ pub fn clear(memory: &mut [u8])
     }
 }
 
+// The 8 bits of s from bit k on; at least one bit follows them.
+fn window(s: &[u8], k: usize) -> u8
+    requires { ⌜ k + 8 < 8 * length (now s) ⌝ }
+    ensures { λ r. ⌜ r ≡ fromBits 8 (λ z. bitAt (now (s .entry)) (k + z)) ⌝ }
+{
+    let j = k / 8;
+    let x = (s[j] as u16) + (s[j + 1] as u16) * 256;
+    ((x >> ((k % 8) as u16)) % 256) as u8
+}
+
+// Unpacks the 8 bits of x to every 16th byte of the memory from `to` on.
+fn unpack8(x: u8, memory: &mut [u8], to: usize)
+    requires { ⌜ to + 112 < length (now memory) ⌝ }
+    ensures { λ _. ⌜ now (memory .exit) ≡ fill (λ z. to + 16 * z) (λ z. bitVal (testBit x z)) 8 (now (memory .entry)) ⌝ }
+{
+    memory[to] = x % 2;
+    memory[to + 16] = (x >> 1) % 2;
+    memory[to + 32] = (x >> 2) % 2;
+    memory[to + 48] = (x >> 3) % 2;
+    memory[to + 64] = (x >> 4) % 2;
+    memory[to + 80] = (x >> 5) % 2;
+    memory[to + 96] = (x >> 6) % 2;
+    memory[to + 112] = (x >> 7) % 2;
+}
+
 // Unpacks count bits of s, from bit `from` on, to every 16th byte of the memory from `to` on.
 pub fn unpack(s: &[u8], from: usize, count: usize, memory: &mut [u8], to: usize)
     requires { ⌜ (from + count ≤ 8 * length (now s)) × ((from + count < 65536) × ((to < 4294967296) × (to + 16 * count ≤ length (now memory) + 15))) ⌝ }
     ensures { λ _. ⌜ now (memory .exit) ≡ unpacked (now (s .entry)) from count to (now (memory .entry)) ⌝ }
 {
     let mut t = 0;
+    while t + 8 < count {
+        let x = window(s, from + t);
+        unpack8(x, memory, to + 16 * t);
+        t += 8;
+    }
     while t < count {
         memory[to + 16 * t] = bits::bit(s, from + t);
         t += 1;
@@ -86,11 +117,29 @@ pub fn mask_inputs(witness: &[u8], inputs: usize, n: usize, wires: usize, memory
     }
 }
 
+// The 8 bits at every 16th byte of the memory from `from` on, packed.
+fn pack8(memory: &[u8], from: usize) -> u8
+    requires { ⌜ from + 112 < length (now memory) ⌝ }
+    ensures { λ r. ⌜ r ≡ fromBits 8 (λ z. odd (at (now (memory .entry)) (from + 16 * z))) ⌝ }
+{
+    memory[from] % 2
+        + memory[from + 16] % 2 * 2
+        + memory[from + 32] % 2 * 4
+        + memory[from + 48] % 2 * 8
+        + memory[from + 64] % 2 * 16
+        + memory[from + 80] % 2 * 32
+        + memory[from + 96] % 2 * 64
+        + memory[from + 112] % 2 * 128
+}
+
 // Byte j of the packed bits; zero from bit `shown` on.
 fn pack_byte(memory: &[u8], from: usize, shown: usize, j: usize) -> u8
     requires { ⌜ (j < 4096) × ((from < 4294967296) × (from + 16 * shown ≤ length (now memory) + 15)) ⌝ }
     ensures { λ r. ⌜ r ≡ packedByte (now (memory .entry)) from shown j ⌝ }
 {
+    if 8 * j + 8 <= shown {
+        return pack8(memory, from + 128 * j);
+    }
     let mut sum: usize = 0;
     let mut weight: usize = 1;
     let mut t = 0;

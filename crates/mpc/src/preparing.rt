@@ -22,7 +22,7 @@ use engine::memory::pack;
 use refusal::Refusal;
 
 // Makes the corrections in a work memory.
-fn prepare_in(
+pub fn prepare_in(
     s: &[u8],
     inputs: usize,
     outputs: usize,

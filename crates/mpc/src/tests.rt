@@ -39,7 +39,7 @@ pub fn holds_rows(s: &[u8], n: usize, k: usize) -> bool
 }
 
 // The bits that party i of n uses of its row.
-fn used_bits(inputs: usize, ands: usize, n: usize, i: usize) -> usize
+pub fn used_bits(inputs: usize, ands: usize, n: usize, i: usize) -> usize
     requires { ⌜ (inputs ≤ 65536) × ((ands ≤ 65536) × (i ≤ 65536)) ⌝ }
     ensures { λ r. ⌜ r ≡ cond (eqb (suc i) n) (inputs + ands) (inputs + 2 * ands) ⌝ }
 {

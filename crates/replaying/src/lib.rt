@@ -30,7 +30,7 @@ use mpc::tests::unused_rows;
 use refusal::Refusal;
 
 // Whether y is the first bits at every 16th byte of the values, packed.
-fn outputs_are(values: &[u8], outputs: usize, y: &[u8]) -> bool
+pub fn outputs_are(values: &[u8], outputs: usize, y: &[u8]) -> bool
     requires { ⌜ (outputs ≤ 256) × (16 * outputs ≤ length (now values)) ⌝ }
     ensures { λ r. ⌜ r ≡ sameBytes (packed (now (values .entry)) 0 outputs (oct outputs)) (now (y .entry)) ⌝ }
 {

@@ -1,4 +1,4 @@
--- `engine::memory::pack_byte` meets its contract. The loop's invariant: the sum is the number of the first t bits.
+-- `engine::memory::pack_byte` meets its contract: eight bits that are all shown are packed at once. The loop's invariant: the sum is the number of the first t bits.
 -- Assumes nothing.
 use mathlib.Core.Bool.{Bool, _&&_}
 use mathlib.Core.Path.{_≡_, refl, _∙_}
@@ -14,6 +14,7 @@ use Rattle.bits.proofs.Numbers.{fromBits-lt}
 use Rattle.circuit.proofs.Run.{byte-turn, byte-room}
 use Rattle.engine.specs.Memory.{at, packedByte}
 use Rattle.engine.proofs.Loading.{bit-shown, byte-rest}
+use Rattle.engine.proofs.Eights.{whole-byte}
 use Rattle.engine.proofs.memory.pack_byte.Statement.{statement}
 use Rattle.engine.proofs.memory.pack_byte.Tie as tie
 
@@ -23,6 +24,26 @@ Inv-loop memory from shown j sum₀ weight₀ t₀ sum weight t =
 
 abbrev μ-loop : tie.MeasureT-loop
 μ-loop memory from shown j sum₀ weight₀ t₀ sum weight t = 8 - t
+
+mul-if1 : tie.Need-mul-if1 Inv-loop μ-loop
+mul-if1 c = omega arith
+
+add-if1 : tie.Need-add-if1 Inv-loop μ-loop
+add-if1 c = omega arith
+
+mul-pack8 : tie.Need-mul-pack8 Inv-loop μ-loop
+mul-pack8 c = omega arith
+
+add-pack8 : tie.Need-add-pack8 Inv-loop μ-loop
+add-pack8 c = omega arith
+
+pack8-requires : tie.Need-pack8-requires Inv-loop μ-loop
+pack8-requires c κs = omega arith
+
+returns : tie.Need-returns Inv-loop μ-loop
+returns c =
+    let x = c .before .before .before .args in
+    c .pack8 .ensures ∙ whole-byte (x .memory .now) (x .from) (x .shown) (x .j) (c .before .if1 .taken)
 
 loop-holds : tie.Need-loop-holds Inv-loop μ-loop
 unfolding fromBits
@@ -47,16 +68,16 @@ cast-sum : tie.Need-cast-sum Inv-loop μ-loop
 cast-sum c = omega arith
 
 -- the byte that the code reads
-abbrev byte : (c : tie.After-shared-slice-known Inv-loop μ-loop) → ℕ
+abbrev byte : (c : tie.After-shared-slice-known2 Inv-loop μ-loop) → ℕ
 byte c =
-    let x = c .before .before .before .before .args in
+    let x = c .before .before .before .before .before .before .args in
     at (x .memory .now) (x .from + 16 * (8 * x .j + c .before .before .before .loop .t))
 
 -- the sum stays a byte
-room : (c : tie.After-shared-slice-known Inv-loop μ-loop) → c .before .before .before .loop .sum + byte c % 2 * c .before .before .before .loop .weight < 256
+room : (c : tie.After-shared-slice-known2 Inv-loop μ-loop) → c .before .before .before .loop .sum + byte c % 2 * c .before .before .before .loop .weight < 256
 room c =
     let l = c .before .before .before .loop in
-    byte-room _ _ _ _ _ (c .before .before .loop-test .taken) (l .inv .1 .1) (l .inv .1 .0) (bit-shown _ _ (byte c) (c .before .if1 .taken))
+    byte-room _ _ _ _ _ (c .before .before .loop-test .taken) (l .inv .1 .1) (l .inv .1 .0) (bit-shown _ _ (byte c) (c .before .if2 .taken))
 
 mul-sum-2 : tie.Need-mul-sum-2 Inv-loop μ-loop
 mul-sum-2 c = omega (arith, room c)
@@ -78,7 +99,7 @@ loop-less c = omega arith
 loop-again : tie.Need-loop-again Inv-loop μ-loop
 loop-again c =
     let l = c .before .before .loop in
-    let x = c .before .before .before .args in
+    let x = c .before .before .before .before .before .args in
     let bit : ℕ → Bool = λ k. odd (at (x .memory .now) (x .from + 16 * (8 * x .j + k))) in (
       omega arith,
       (
@@ -86,19 +107,19 @@ loop-again c =
         ⊎-elim
             (λ w. w .2 ∙ byte-turn _ _ _ _ _ (l .inv .1 .1) (l .inv .1 .0) (bit-shown _ _ (at (x .memory .now) (x .from + 16 * (8 * x .j + l .t))) (w .0 .taken)))
             (λ w. w .1 ∙ byte-rest bit (x .j) (x .shown) (l .t) (l .sum) (l .weight) (w .0 .left) (l .inv .1 .0) (l .inv .1 .1))
-            (c .if1 .came),
+            (c .if2 .came),
       ),
     )
 
 cast-result : tie.Need-cast-result Inv-loop μ-loop
 cast-result c = omega arith
 
-returns : tie.Need-returns Inv-loop μ-loop
+returns-2 : tie.Need-returns-2 Inv-loop μ-loop
 unfolding packedByte
-returns c =
+returns-2 c =
     let l = c .before .loop in
     let e : l .t ≡ 8 = omega arith in
-    let x = c .before .before .args in
+    let x = c .before .before .before .before .args in
     let f : ℕ → Bool = λ k. ltb (8 * x .j + k) (x .shown) && odd (at (x .memory .now) (x .from + 16 * (8 * x .j + k))) in
     let q : l .sum ≡ fromBits 8 f = rw e at (l .inv .1 .1) in
     mod-eq-of-lt (omega (arith, fromBits-lt 8 f)) ∙ q
@@ -109,6 +130,12 @@ pack-byte-spec =
     (tie.spec
     Inv-loop
     μ-loop
+    mul-if1
+    add-if1
+    mul-pack8
+    add-pack8
+    pack8-requires
+    returns
     loop-holds
     mul-k
     add-k
@@ -123,4 +150,4 @@ pack-byte-spec =
     loop-less
     loop-again
     cast-result
-    returns)
+    returns-2)

@@ -1,0 +1,52 @@
+-- The header of a proof, read back.
+-- Assumes nothing.
+use mathlib.Core.Path.{_≡_, refl}
+use mathlib.Core.Bool.{true}
+use mathlib.Core.List.{List, _++_}
+use Prim.Native.Nat.{ℕ, _<_, _≤_}
+use native.Mathlib.Omega.{arith}
+use borrow.Author.Tests.{le-leb}
+use lib.ListN.{length, length-append}
+use lib.Seq.{take-at}
+use Rattle.bits.specs.Bytes.{leAt, leBytes}
+use Rattle.parties.specs.Parties.{isPartyCount}
+use Rattle.seeds.specs.Operations.{areCounts}
+use Rattle.proof.specs.File.{headerOf, headerM, headerTau, headerN, headerZero, headerHstar, goodHeader}
+
+-- a header with its h* of 32 bytes, and what follows it
+module _ (M tau n : ℕ) (hstar rest : List ℕ) (size : length hstar ≡ 32) where
+  abbrev file : List ℕ
+  file = headerOf M tau n hstar ++ rest
+
+  -- its length
+  pub length-header : length (headerOf M tau n hstar) ≡ 38
+  unfolding headerOf leBytes
+  length-header = omega (arith, size)
+
+  -- M, tau, n, the zero byte and h* are read back
+  pub header-M : M < 65536 → headerM file ≡ M
+  unfolding headerOf leBytes leAt
+  header-M h = omega arith
+
+  pub header-tau : tau < 65536 → headerTau file ≡ tau
+  unfolding headerOf leBytes leAt
+  header-tau h = omega arith
+
+  pub header-n : headerN file ≡ n
+  unfolding headerOf leBytes
+  header-n = refl
+
+  header-zero : headerZero file ≡ 0
+  unfolding headerOf leBytes
+  header-zero = refl
+
+  pub header-hstar : headerHstar file ≡ hstar
+  unfolding headerOf leBytes
+  header-hstar = take-at hstar rest 32 size
+
+  -- it is good where the counts are
+  pub header-good : M < 65536 → tau < 65536 → areCounts M tau ≡ true → isPartyCount n ≡ true → goodHeader file ≡ true
+  unfolding goodHeader
+  header-good a b h i =
+      let l : 38 ≤ length file = rw (length-append (headerOf M tau n hstar) rest) (omega (arith, length-header)) in
+      rw (le-leb 38 (length file) l, header-M a, header-tau b, h, header-n, i, header-zero)

@@ -1,0 +1,15 @@
+pub mod Passing
+pub mod Published
+pub mod Places
+pub mod Parts
+pub mod Derived
+pub mod Opened
+pub mod Asking
+pub mod Header
+pub mod Stretches
+pub mod Written
+pub mod Proved
+pub mod Complete
+pub mod Inside
+pub mod Room
+pub mod Kept

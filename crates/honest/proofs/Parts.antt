@@ -1,0 +1,152 @@
+-- The parts of a stretch, read back from it.
+-- Assumes nothing.
+use mathlib.Core.Path.{_≡_, refl, ap, _∙_}
+use mathlib.Core.Bool.{Bool, true, false, cond}
+use mathlib.Core.List.{List, [], _++_, append-assoc}
+use Prim.Native.Nat.{ℕ, suc, _+_, _*_}
+use native.Mathlib.Omega.{arith}
+use lib.Dec.{eqb}
+use lib.ListN.{length, length-append}
+use lib.Seq.{take-at, drop-at}
+use Rattle.bits.specs.Bits.{oct, pack}
+use Rattle.bits.proofs.Packing.{length-pack}
+use Rattle.bits.proofs.Tabulate.{length-tabulate}
+use Rattle.keccak.proofs.Lengths.{length-sha3-256}
+use Rattle.parties.specs.Parties.{heightOf}
+use Rattle.circuit.specs.Circuit.{Circuit}
+use Rattle.mpc.specs.Tapes.{andsOf}
+use Rattle.mpc.specs.Showing.{correctionBits, maskedInputs, rowBits}
+use Rattle.hiding.proofs.Shown.{length-corrections, length-honest}
+use Rattle.seeds.specs.Tree.{siblingsBelow}
+use Rattle.seeds.specs.Derive.{commitmentOf}
+use Rattle.seeds.proofs.Lengths.{length-siblings}
+use Rattle.instance.specs.Instance.{Asked, opened, hiding, onlineDigest, masterSeeds, masterTapes, masterCorrections, masterRun, masterMasked, masterOnline, sentCorrections, stretchOf}
+use Rattle.instance.specs.Stretch.{correctionBytes, stretchBytes, sentMaster, sentOnline, siblingsPart, correctionsPart, commitmentPart, maskedPart, rowPart}
+use Rattle.honest.proofs.Places.{middle}
+
+-- instance j of the protocol by n parties, from a master
+module _ (c : Circuit) (n j : ℕ) (witness master : List ℕ) where
+  -- a digest has 32 bytes
+  length-online : length (masterOnline c n j witness master) ≡ 32
+  unfolding masterOnline onlineDigest
+  length-online = length-sha3-256 _
+
+  -- so has a commitment
+  length-commitment : (p : ℕ) → length (commitmentOf j n p (masterSeeds n j master) (masterCorrections c n j master)) ≡ 32
+  unfolding commitmentOf
+  length-commitment p = length-sha3-256 _
+
+  -- a correction for each AND gate
+  pub length-bits : length (correctionBits c n (masterTapes c n j master)) ≡ andsOf c
+  unfolding correctionBits
+  length-bits = length-corrections n (c .gates) _ _ _
+
+  -- the corrections that are sent
+  length-sent : (p : ℕ) → length (sentCorrections n p (masterCorrections c n j master)) ≡ correctionBytes c n p
+  unfolding sentCorrections correctionBytes masterCorrections
+  length-sent p = go (eqb (suc p) n)
+    where
+      go : (b : Bool) → length (cond b [] (pack (correctionBits c n (masterTapes c n j master)))) ≡ cond b 0 (oct (andsOf c))
+      go true = refl
+      go false = length-pack _ ∙ ap oct length-bits
+
+  -- a bit for each input
+  length-masked : length (masterMasked c n j witness master) ≡ oct (c .inputs)
+  unfolding masterMasked maskedInputs
+  length-masked = length-pack _ ∙ ap oct (length-tabulate (c .inputs) _)
+
+  -- a bit for each AND gate and each output
+  pub length-rowBits : (p : ℕ) → length (rowBits (masterRun c n j witness master) p) ≡ andsOf c + length (c .outputs)
+  unfolding masterRun
+  length-rowBits p = length-honest c n p witness (masterTapes c n j master)
+
+  -- an instance that is not chosen
+  module _ (size : length master ≡ 16) where
+    abbrev shut : List ℕ
+    shut = stretchOf c n j witness master opened
+
+    -- it has 48 bytes: the master and h'_j
+    length-shut : length shut ≡ 48
+    unfolding stretchOf
+    length-shut = length-append master _ ∙ omega (arith, length-online)
+
+    pub master-back : sentMaster shut ≡ master
+    unfolding stretchOf
+    master-back = take-at master _ 16 size
+
+    pub online-back : sentOnline shut ≡ masterOnline c n j witness master
+    unfolding stretchOf
+    online-back = drop-at master _ 16 size
+
+  -- a chosen one, with p hidden
+  module _ (p : ℕ) where
+    -- its five parts
+    abbrev siblings : List ℕ
+    siblings = siblingsBelow j (heightOf n) 1 p master
+
+    abbrev sent : List ℕ
+    sent = sentCorrections n p (masterCorrections c n j master)
+
+    abbrev committed : List ℕ
+    committed = commitmentOf j n p (masterSeeds n j master) (masterCorrections c n j master)
+
+    abbrev masked : List ℕ
+    masked = masterMasked c n j witness master
+
+    abbrev row : List ℕ
+    row = pack (rowBits (masterRun c n j witness master) p)
+
+    abbrev part : List ℕ
+    part = stretchOf c n j witness master (hiding p)
+
+    -- the parts in order
+    parts : part ≡ siblings ++ (sent ++ (committed ++ (masked ++ row)))
+    unfolding stretchOf
+    parts = simp append-assoc
+
+    -- where the third, the fourth and the last part begin
+    length-two : length (siblings ++ sent) ≡ 16 * heightOf n + correctionBytes c n p
+    length-two = length-append siblings sent ∙ omega (arith, length-siblings j (heightOf n) 1 p master, length-sent p)
+
+    length-three : length ((siblings ++ sent) ++ committed) ≡ 16 * heightOf n + correctionBytes c n p + 32
+    length-three = length-append (siblings ++ sent) committed ∙ omega (arith, length-two, length-commitment p)
+
+    length-four : length (((siblings ++ sent) ++ committed) ++ masked) ≡ 16 * heightOf n + correctionBytes c n p + 32 + oct (c .inputs)
+    length-four = length-append ((siblings ++ sent) ++ committed) masked ∙ omega (arith, length-three, length-masked)
+
+    -- where the last one ends
+    length-chosen : length part ≡ stretchBytes c n (hiding p)
+    unfolding stretchOf stretchBytes
+    length-chosen =
+        length-append (((siblings ++ sent) ++ committed) ++ masked) row
+        ∙ omega (arith, length-four, length-pack (rowBits (masterRun c n j witness master) p), ap oct (length-rowBits p))
+
+    -- each of them is read back
+    pub siblings-back : siblingsPart n part ≡ siblings
+    unfolding siblingsPart
+    siblings-back = rw parts (take-at siblings _ (16 * heightOf n) (length-siblings j (heightOf n) 1 p master))
+
+    pub corrections-back : correctionsPart c n p part ≡ sent
+    unfolding correctionsPart
+    corrections-back = rw parts (middle siblings sent _ (16 * heightOf n) (correctionBytes c n p) (length-siblings j (heightOf n) 1 p master) (length-sent p))
+
+    pub commitment-back : commitmentPart c n p part ≡ committed
+    unfolding commitmentPart
+    commitment-back =
+        rw (parts, ← append-assoc siblings sent) (middle (siblings ++ sent) committed _ (16 * heightOf n + correctionBytes c n p) 32 length-two (length-commitment p))
+
+    pub masked-back : maskedPart c n p part ≡ masked
+    unfolding maskedPart
+    masked-back =
+        rw (parts, ← append-assoc siblings sent, ← append-assoc (siblings ++ sent) committed)
+        (middle ((siblings ++ sent) ++ committed) masked _ (16 * heightOf n + correctionBytes c n p + 32) (oct (c .inputs)) length-three length-masked)
+
+    pub row-back : rowPart c n p part ≡ row
+    unfolding rowPart stretchOf
+    row-back = drop-at (((siblings ++ sent) ++ committed) ++ masked) row (16 * heightOf n + correctionBytes c n p + 32 + oct (c .inputs)) length-four
+
+  -- the stretch has the bytes that are asked
+  pub length-stretch : length master ≡ 16 → (a : Asked) → length (stretchOf c n j witness master a) ≡ stretchBytes c n a
+  unfolding stretchBytes
+  length-stretch size opened = length-shut size
+  length-stretch size (hiding p) = length-chosen p

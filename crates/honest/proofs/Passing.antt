@@ -1,0 +1,65 @@
+-- Tests that an operation has passed.
+-- Assumes nothing.
+use mathlib.Core.Path.{_≡_, refl, ap}
+use mathlib.Core.Bool.{Bool, true, false, _&&_}
+use mathlib.Core.List.{List}
+use mathlib.Core.Logic.{⊎-elim}
+use Prim.Native.Nat.{ℕ, zero, suc, _<_}
+use native.Mathlib.Omega.{arith}
+use Rattle.bits.proofs.Numbers.{lt-or-le}
+use Rattle.bits.proofs.Tests.{and-true-left, and-true-right}
+use Rattle.circuit.specs.Operations.{Answer, refusal, success}
+use Rattle.mpc.specs.Operations.{Outcome, unless}
+use Rattle.proof.specs.Check.{every, elseRefuse}
+
+-- the outcome of a success
+abbrev pub succeeded : List ℕ → List (List ℕ) → Outcome
+succeeded vs left = record { answer = success vs; left = left }
+
+-- a refusal is no success
+pub refused-not : (k : ℕ) (lent : List (List ℕ)) (vs : List ℕ) (left : List (List ℕ)) → record { answer = refusal k; left = lent } ≡ succeeded vs left → ⊥
+refused-not k lent vs left e =
+    let a : _≡_ {A = Answer} (refusal k) (success vs) = ap (λ (o : Outcome). o .answer) e in
+    let z : _≡_ {A = ℕ} 0 1 = cc in
+    omega arith
+
+-- an operation that succeeds has passed its first test
+pub unless-test : (b : Bool) (k : ℕ) (lent : List (List ℕ)) (o : Outcome) (vs : List ℕ) (left : List (List ℕ))
+    → unless b k lent o ≡ succeeded vs left → b ≡ true
+unless-test true k lent o vs left e = refl
+unless-test false k lent o vs left e = absurd (refused-not k lent vs left e)
+
+-- and succeeds by what follows
+pub unless-rest : (b : Bool) (k : ℕ) (lent : List (List ℕ)) (o : Outcome) (vs : List ℕ) (left : List (List ℕ))
+    → unless b k lent o ≡ succeeded vs left → o ≡ succeeded vs left
+unless-rest true k lent o vs left e = e
+unless-rest false k lent o vs left e = absurd (refused-not k lent vs left e)
+
+-- an accepting check has passed its first test
+pub refuse-test : (b : Bool) (k : ℕ) (rest : Answer) (vs : List ℕ) → elseRefuse b k rest ≡ success vs → b ≡ true
+refuse-test true k rest vs e = refl
+refuse-test false k rest vs e = cc
+
+-- and accepts by what follows
+pub refuse-rest : (b : Bool) (k : ℕ) (rest : Answer) (vs : List ℕ) → elseRefuse b k rest ≡ success vs → rest ≡ success vs
+refuse-rest true k rest vs e = e
+refuse-rest false k rest vs e = cc
+
+-- both tests of an AND hold
+pub and-true : (a b : Bool) → a ≡ true → b ≡ true → a && b ≡ true
+and-true a b p q = rw (p, q)
+
+-- a test passed by all of the first m instances
+pub every-at : (m : ℕ) (test : ℕ → Bool) → every m test ≡ true → (j : ℕ) → j < m → test j ≡ true
+unfolding every
+every-at zero test e j h = absurd (omega arith)
+every-at (suc m) test e j h =
+    ⊎-elim (λ l. every-at m test (and-true-left (every m test) (test m) e) j l)
+    (λ l. let q : j ≡ m = omega arith in rw q (and-true-right (every m test) (test m) e))
+    (lt-or-le j m)
+
+-- and the other way round
+pub all-every : (m : ℕ) (test : ℕ → Bool) → ((j : ℕ) → j < m → test j ≡ true) → every m test ≡ true
+unfolding every
+all-every zero test h = refl
+all-every (suc m) test h = and-true (every m test) (test m) (all-every m test (λ j l. h j (omega arith))) (h m (omega arith))

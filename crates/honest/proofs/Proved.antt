@@ -1,0 +1,113 @@
+-- What a prove that succeeds has tested, and what it has written.
+-- Assumes nothing.
+use mathlib.Core.Path.{_≡_, refl, sym, ap, _∙_}
+use mathlib.Core.Bool.{Bool, true, false, _&&_}
+use mathlib.Core.List.{List, [], _∷_, _++_}
+use Prim.Native.Nat.{ℕ}
+use native.Mathlib.Omega.{arith}
+use lib.Dec.{eqb, leb}
+use lib.ListN.{length, drop}
+use Rattle.bits.specs.Bits.{unusedZero}
+use Rattle.bits.proofs.Tests.{and-true-left, and-true-right}
+use Rattle.parties.specs.Parties.{heightOf, isPartyCount}
+use Rattle.parties.proofs.Counts.{count-no}
+use Rattle.circuit.specs.Circuit.{Circuit}
+use Rattle.circuit.specs.File.{Reading, refused, legal, readCircuit}
+use Rattle.circuit.specs.Operations.{Answer, success}
+use Rattle.mpc.specs.Operations.{Outcome, unless, onLegal, holds}
+use Rattle.seeds.specs.Operations.{areCounts}
+use Rattle.proof.specs.File.{proofRoom}
+use Rattle.proof.specs.Prove.{proofOf, witnesses, written, proveLegal, proveOp}
+use Rattle.honest.proofs.Passing.{succeeded, refused-not, unless-test, unless-rest}
+
+-- a party count has a height
+pub has-height : (n : ℕ) → isPartyCount n ≡ true → heightOf n ≡ 0 → ⊥
+has-height n h e = let z : _≡_ {A = Bool} true false = sym h ∙ count-no n e in let o : _≡_ {A = ℕ} 0 1 = cc in omega arith
+
+-- the outcome is a success that says k and leaves `left` in the buffer
+module _ (s witness y message root buffer left : List ℕ) (M tau n k : ℕ) where
+  -- what was read and tested, and what is left
+  pub record Proved : Type 0 where
+    pub circuit : Circuit
+    pub read : readCircuit s ≡ legal circuit
+    pub counts : areCounts M tau ≡ true
+    pub parties : isPartyCount n ≡ true
+    pub inputs : holds (circuit .inputs) witness ≡ true
+    pub outputs : holds (length (circuit .outputs)) y ≡ true
+    pub short : leb (length message) 4096 ≡ true
+    pub room : leb (proofRoom circuit M tau n) (length buffer) ≡ true
+    pub unused-inputs : unusedZero (circuit .inputs) witness ≡ true
+    pub unused-outputs : unusedZero (length (circuit .outputs)) y ≡ true
+    pub gives : witnesses circuit witness y ≡ true
+    pub size : length (proofOf circuit M tau n witness message root) ≡ k
+    pub content : proofOf circuit M tau n witness message root ++ drop k buffer ≡ left
+
+  -- what is written
+  module _ (proof : List ℕ) (e : written proof buffer ≡ succeeded (k ∷ []) (left ∷ [])) where
+    -- its length is k
+    wrote-size : length proof ≡ k
+    unfolding written
+    wrote-size = let a : _≡_ {A = Answer} (success (length proof ∷ [])) (success (k ∷ [])) = ap (λ (o : Outcome). o .answer) e in cc
+
+    -- the bytes beyond it stay
+    wrote-content : proof ++ drop k buffer ≡ left
+    unfolding written
+    wrote-content =
+        let b : _≡_ {A = List (List ℕ)} ((proof ++ drop (length proof) buffer) ∷ []) (left ∷ []) = ap (λ (o : Outcome). o .left) e in
+        let d : proof ++ drop (length proof) buffer ≡ left = cc in
+        rw wrote-size at d
+
+  -- of a legal circuit
+  proved-legal : (c : Circuit) → readCircuit s ≡ legal c → proveLegal witness y message root M tau n buffer c ≡ succeeded (k ∷ []) (left ∷ []) → Proved
+  unfolding proveLegal
+  proved-legal c r e =
+      let lent : List (List ℕ) = buffer ∷ [] in
+      let a1 : Bool = areCounts M tau in
+      let a2 : Bool = isPartyCount n in
+      let b1 : Bool = holds (c .inputs) witness in
+      let b2 : Bool = holds (length (c .outputs)) y in
+      let b3 : Bool = leb (length message) 4096 in
+      let b4 : Bool = eqb (length root) 16 in
+      let b5 : Bool = leb (proofRoom c M tau n) (length buffer) in
+      let d1 : Bool = unusedZero (c .inputs) witness in
+      let d2 : Bool = unusedZero (length (c .outputs)) y in
+      let f : Bool = witnesses c witness y in
+      let o4 : Outcome = written (proofOf c M tau n witness message root) buffer in
+      let o3 : Outcome = unless f 10 lent o4 in
+      let o2 : Outcome = unless (d1 && d2) 7 lent o3 in
+      let o1 : Outcome = unless (b1 && b2 && b3 && b4 && b5) 6 lent o2 in
+      let t1 : a1 && a2 ≡ true = unless-test (a1 && a2) 8 lent o1 (k ∷ []) (left ∷ []) e in
+      let e1 = unless-rest (a1 && a2) 8 lent o1 (k ∷ []) (left ∷ []) e in
+      let t2 : b1 && b2 && b3 && b4 && b5 ≡ true = unless-test (b1 && b2 && b3 && b4 && b5) 6 lent o2 (k ∷ []) (left ∷ []) e1 in
+      let e2 = unless-rest (b1 && b2 && b3 && b4 && b5) 6 lent o2 (k ∷ []) (left ∷ []) e1 in
+      let t3 : d1 && d2 ≡ true = unless-test (d1 && d2) 7 lent o3 (k ∷ []) (left ∷ []) e2 in
+      let e3 = unless-rest (d1 && d2) 7 lent o3 (k ∷ []) (left ∷ []) e2 in
+      let e4 = unless-rest f 10 lent o4 (k ∷ []) (left ∷ []) e3 in
+      let u3 : b1 && b2 && b3 ≡ true = and-true-left (b1 && b2 && b3) b4 (and-true-left (b1 && b2 && b3 && b4) b5 t2) in
+      let u2 : b1 && b2 ≡ true = and-true-left (b1 && b2) b3 u3 in
+      record {
+        circuit = c;
+        read = r;
+        counts = and-true-left a1 a2 t1;
+        parties = and-true-right a1 a2 t1;
+        inputs = and-true-left b1 b2 u2;
+        outputs = and-true-right b1 b2 u2;
+        short = and-true-right (b1 && b2) b3 u3;
+        room = and-true-right (b1 && b2 && b3 && b4) b5 t2;
+        unused-inputs = and-true-left d1 d2 t3;
+        unused-outputs = and-true-right d1 d2 t3;
+        gives = unless-test f 10 lent o4 (k ∷ []) (left ∷ []) e3;
+        size = wrote-size (proofOf c M tau n witness message root) e4;
+        content = wrote-content (proofOf c M tau n witness message root) e4;
+      }
+
+  -- of what was read
+  proved-read : (r : Reading) → readCircuit s ≡ r
+      → onLegal r (buffer ∷ []) (proveLegal witness y message root M tau n buffer) ≡ succeeded (k ∷ []) (left ∷ []) → Proved
+  proved-read (refused x) r e = absurd (refused-not x (buffer ∷ []) (k ∷ []) (left ∷ []) e)
+  proved-read (legal c) r e = proved-legal c r e
+
+  -- all of it follows from the outcome
+  pub proved : proveOp s witness y message root M tau n buffer ≡ succeeded (k ∷ []) (left ∷ []) → Proved
+  unfolding proveOp
+  proved e = proved-read (readCircuit s) refl e

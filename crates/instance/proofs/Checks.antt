@@ -1,0 +1,206 @@
+-- What a checker makes of a stretch, in the numbers that the code carries: its parts, their unused bits, the tapes and corrections shown.
+-- Assumes nothing.
+use mathlib.Core.Path.{_≡_, refl, sym, ap, ap₂, _∙_}
+use mathlib.Core.Bool.{Bool, true, false, cond, _&&_}
+use mathlib.Core.List.{List, _++_, append-assoc}
+use Prim.Native.Nat.{ℕ, suc, _+_, _-_, _*_, _≤_, _<_}
+use native.Mathlib.Omega.{arith}
+use native.Mathlib.Numerals.{add-one}
+use borrow.Author.Tests.{eq-eqb, ne-eqb}
+use borrow.Rule.Slice.PartMut.{midOf, postOf, putMid, mid-len, post-is}
+use lib.Dec.{eqb}
+use lib.ListN.{length, take, drop, replicate, length-drop}
+use lib.Seq.{take-all}
+use Rattle.bits.specs.Bits.{oct, unusedZero}
+use Rattle.bits.proofs.Rows.{row-fits}
+use Rattle.bits.proofs.Tests.{and-true-left, and-true-right}
+use Rattle.parties.specs.Parties.{heightOf}
+use Rattle.parties.proofs.Counts.{sizes, count-no, height-small}
+use Rattle.circuit.specs.File.{circuitOf}
+use Rattle.mpc.specs.Tapes.{andsOf, withRow}
+use Rattle.mpc.specs.Lent.{Known, Parties}
+use Rattle.mpc.proofs.Opened.{circuit-inputs, circuit-outputs, circuit-ands, circuit-row}
+use Rattle.seeds.specs.Tree.{openedBelow}
+use Rattle.instance.specs.Instance.{hiding, seedsOf, tapesOf}
+use Rattle.instance.specs.Stretch.{correctionBytes, stretchBytes, siblingsPart, correctionsPart, commitmentPart, maskedPart, rowPart}
+use Rattle.instance.specs.Opened.{openedSeeds, openedShowing, stretchUnused}
+use Rattle.instance.specs.Worked.{Tree}
+
+-- the last party sends no corrections
+pub sent-none : (p n x : ℕ) → p + 1 ≡ n → 0 ≡ cond (eqb (suc p) n) 0 x
+sent-none p n x e = rw (eq-eqb (suc p) n (sym (add-one p) ∙ e)) refl
+
+-- any other sends them
+pub sent-all : (p n x r : ℕ) → (p + 1 ≡ n → ⊥) → r ≡ x → r ≡ cond (eqb (suc p) n) 0 x
+sent-all p n x r e q = rw (ne-eqb (suc p) n (λ t. e (add-one p ∙ t))) q
+
+-- false is not true
+never : false ≡ true → ⊥
+never e = let z : _≡_ {A = ℕ} 0 1 = cc in omega arith
+
+-- a tree is that of a party count
+pub tree-parties : (n h : ℕ) → Tree n h → Parties n
+tree-parties n h t = let z = sizes n (λ e. never (sym (count-no n e) ∙ t .parties)) in record { some = omega (arith, z .some); few = z .few }
+
+-- it is low
+pub tree-low : (n h : ℕ) → Tree n h → h ≤ 4
+tree-low n h t = omega (arith, height-small n, t .height)
+
+-- a part is what lies from its start on
+part-is : (m a b : ℕ) (s : List ℕ) → b ≡ a + m → take (b - a) (drop a s) ≡ take m (drop a s)
+part-is m a b s e = let d : b - a ≡ m = omega (arith, e) in ap (λ (k : ℕ). take k (drop a s)) d
+
+-- the part to the end
+part-rest : (a : ℕ) (s : List ℕ) → take (length s - a) (drop a s) ≡ drop a s
+part-rest a s = take-all (length s - a) (drop a s) (omega (arith, length-drop a s))
+
+-- the bytes sent are few
+sent-few : (b : Bool) (x y : ℕ) → x ≡ cond b 0 y → x ≤ y
+sent-few true x y e = omega (arith, e)
+sent-few false x y e = omega (arith, e)
+
+-- the stretch of a chosen instance, of a legal file's circuit
+module _ (s : List ℕ) (i o g a : ℕ) (k : Known s i o g a) (n h p : ℕ) (tree : Tree n h) (part : List ℕ)
+    (size : length part ≡ stretchBytes (circuitOf s) n (hiding p)) (x : ℕ) (sent : x ≡ cond (eqb (suc p) n) 0 (oct a)) where
+  -- the corrections in it
+  pub sent-bytes : correctionBytes (circuitOf s) n p ≡ x
+  unfolding correctionBytes
+  sent-bytes = ap (λ (y : ℕ). cond (eqb (suc p) n) 0 (oct y)) (circuit-ands s i o g a k) ∙ sym sent
+
+  -- the start of the commitment
+  first-two : 16 * heightOf n + correctionBytes (circuitOf s) n p ≡ 16 * h + x
+  first-two = omega (arith, tree .height, sent-bytes)
+
+  -- its bytes
+  pub stretch-size : length part ≡ 16 * h + x + 32 + oct i + oct (a + o)
+  unfolding stretchBytes
+  stretch-size =
+      size ∙ omega (
+        arith,
+        first-two,
+        ap oct (circuit-inputs s i o g a k),
+        ap₂ (λ (y z : ℕ). oct (y + z)) (circuit-ands s i o g a k) (circuit-outputs s i o g a k),
+      )
+
+  -- the corrections sent are few
+  pub sent-small : x ≤ oct a
+  sent-small = sent-few (eqb (suc p) n) x (oct a) sent
+
+  -- its parts: the corrections
+  corrections-are : take (16 * h + x - 16 * h) (drop (16 * h) part) ≡ correctionsPart (circuitOf s) n p part
+  unfolding correctionsPart
+  corrections-are =
+      part-is x (16 * h) (16 * h + x) part refl
+      ∙ ap₂ (λ (y z : ℕ). take y (drop (16 * z) part)) (sym sent-bytes) (tree .height)
+
+  -- the commitment
+  pub commitment-is : take (16 * h + x + 32 - (16 * h + x)) (drop (16 * h + x) part) ≡ commitmentPart (circuitOf s) n p part
+  unfolding commitmentPart
+  commitment-is = part-is 32 (16 * h + x) (16 * h + x + 32) part refl ∙ ap (λ (y : ℕ). take 32 (drop y part)) (sym first-two)
+
+  -- with the bytes of the masked inputs
+  module _ (y : ℕ) (ins : y ≡ oct i) where
+    -- the masked inputs
+    pub masked-are : take (16 * h + x + 32 + y - (16 * h + x + 32)) (drop (16 * h + x + 32) part) ≡ maskedPart (circuitOf s) n p part
+    unfolding maskedPart
+    masked-are =
+        part-is y (16 * h + x + 32) (16 * h + x + 32 + y) part refl
+        ∙ ap₂ (λ (u v : ℕ). take u (drop (v + 32) part)) (ins ∙ ap oct (sym (circuit-inputs s i o g a k))) (sym first-two)
+
+    -- the row
+    pub row-is : take (length part - (16 * h + x + 32 + y)) (drop (16 * h + x + 32 + y) part) ≡ rowPart (circuitOf s) n p part
+    unfolding rowPart
+    row-is =
+        part-rest (16 * h + x + 32 + y) part
+        ∙ ap₂ (λ (u v : ℕ). drop (v + 32 + u) part) (ins ∙ ap oct (sym (circuit-inputs s i o g a k))) (sym first-two)
+
+    -- the test of the unused bits
+    pub unused-made : (b1 b2 b3 b4 b : Bool) → b1 ≡ unusedZero a (take (16 * h + x - 16 * h) (drop (16 * h) part))
+        → b2 ≡ unusedZero i (take (16 * h + x + 32 + y - (16 * h + x + 32)) (drop (16 * h + x + 32) part))
+        → b3 ≡ unusedZero (a + o) (take (length part - (16 * h + x + 32 + y)) (drop (16 * h + x + 32 + y) part))
+        → b4 ≡ b2 && b3 → b ≡ b1 && b4 → b ≡ stretchUnused (circuitOf s) n part (hiding p)
+    unfolding stretchUnused
+    unused-made b1 b2 b3 b4 b e1 e2 e3 e4 e5 =
+        let ca = circuit-ands s i o g a k in
+        let ci = circuit-inputs s i o g a k in
+        let co = circuit-outputs s i o g a k in
+        let f1 : b1 ≡ unusedZero (andsOf (circuitOf s)) (correctionsPart (circuitOf s) n p part) = e1 ∙ ap₂ unusedZero (sym ca) corrections-are in
+        let f2 : b2 ≡ unusedZero (circuitOf s .inputs) (maskedPart (circuitOf s) n p part) = e2 ∙ ap₂ unusedZero (sym ci) masked-are in
+        let f3 : b3 ≡ unusedZero (andsOf (circuitOf s) + length (circuitOf s .outputs)) (rowPart (circuitOf s) n p part)
+        = e3 ∙ ap₂ unusedZero (ap₂ _+_ (sym ca) (sym co)) row-is in
+        e5 ∙ ap₂ _&&_ f1 (e4 ∙ ap₂ _&&_ f2 f3)
+
+    -- where it holds, the masked inputs have no unused bits
+    pub masked-unused : stretchUnused (circuitOf s) n part (hiding p) ≡ true
+        → unusedZero i (take (16 * h + x + 32 + y - (16 * h + x + 32)) (drop (16 * h + x + 32) part)) ≡ true
+    unfolding stretchUnused
+    masked-unused e =
+        let c1 : Bool = unusedZero (andsOf (circuitOf s)) (correctionsPart (circuitOf s) n p part) in
+        let c2 : Bool = unusedZero (circuitOf s .inputs) (maskedPart (circuitOf s) n p part) in
+        let c3 : Bool = unusedZero (andsOf (circuitOf s) + length (circuitOf s .outputs)) (rowPart (circuitOf s) n p part) in
+        ap₂ unusedZero (sym (circuit-inputs s i o g a k)) masked-are ∙ and-true-left c2 c3 (and-true-right c1 (c2 && c3) e)
+
+-- a row lies inside
+pub row-room : (n p len m t : ℕ) → p < n → len ≡ m → t ≡ n * m → p * len + len ≤ t
+row-room n p len m t l e f = omega (arith, row-fits n len p l, ap (λ (x : ℕ). n * x) e, f)
+
+-- the tapes are few bytes
+pub row-few : (n p len i a : ℕ) → n ≤ 16 → p < n → len ≡ oct (i + 2 * a) → i ≤ 512 → a ≤ 4096 → p * len + len ≤ 65536
+row-few n p len i a f l e hi ha = omega (arith, row-fits 16 len p (omega (arith, f, l)), e)
+
+-- the length of a part
+pub part-length : (a u m t : ℕ) (s : List ℕ) → a + u ≤ length s → u ≡ m → t ≡ m → t ≡ length (take (a + u - a) (drop a s))
+part-length a u m t s h e f = f ∙ sym (mid-len a (a + u) s h ∙ omega (arith, e))
+
+-- of the part to the end
+pub rest-length : (a m : ℕ) (s : List ℕ) → length s ≡ a + m → length (take (length s - a) (drop a s)) ≡ m
+rest-length a m s e = mid-len a (length s) s (omega arith) ∙ omega (arith, e)
+
+-- a part is cleared
+part-cleared : (s d z : List ℕ) (a len : ℕ) → a + len ≤ length d → d ≡ s → z ≡ replicate (length (midOf a (a + len - a) d)) 0
+    → putMid a (a + len - a) d z ≡ take a s ++ replicate len 0 ++ drop (a + len) s
+part-cleared s d z a len h e q =
+    let l : length (midOf a (a + len - a) d) ≡ len = mid-len a (a + len) d h ∙ omega arith in
+    sym (append-assoc (take a d) z (postOf a (a + len - a) d))
+    ∙ ap₂ _++_ (ap₂ _++_ (ap (take a) e) (q ∙ ap (λ (n : ℕ). replicate n 0) l)) (post-is a (a + len) d (omega arith) ∙ ap (drop (a + len)) e)
+
+-- what stands for the last party
+last-is : (p n : ℕ) (y x z : List ℕ) → p + 1 ≡ n → y ≡ x → y ≡ cond (eqb (suc p) n) x z
+last-is p n y x z e q = rw (eq-eqb (suc p) n (sym (add-one p) ∙ e)) q
+
+-- and for any other
+other-is : (p n : ℕ) (y x z : List ℕ) → (p + 1 ≡ n → ⊥) → y ≡ z → y ≡ cond (eqb (suc p) n) x z
+other-is p n y x z e q = rw (ne-eqb (suc p) n (λ t. e (add-one p ∙ t))) q
+
+-- the seeds that follow from a stretch
+pub seeds-opened : (n h j p : ℕ) → Tree n h → (part x : List ℕ) → x ≡ seedsOf n j (openedBelow j h 1 p (take (16 * h) part)) → x ≡ openedSeeds n j p part
+unfolding openedSeeds siblingsPart
+seeds-opened n h j p tree part x q = q ∙ ap (λ (y : ℕ). seedsOf n j (openedBelow j y 1 p (take (16 * y) part))) (tree .height)
+
+-- what is shown of it
+module _ (s : List ℕ) (i o g a : ℕ) (k : Known s i o g a) (n h j p : ℕ) (tree : Tree n h) (part : List ℕ)
+    (size : length part ≡ stretchBytes (circuitOf s) n (hiding p)) where
+  -- the tapes, with row p hidden
+  pub tapes-shown : (len : ℕ) (seeds tapes z : List ℕ) → len ≡ oct (i + 2 * a) → p * len + len ≤ length tapes → seeds ≡ openedSeeds n j p part
+      → tapes ≡ tapesOf (circuitOf s) n j seeds → z ≡ replicate (length (midOf (p * len) (p * len + len - p * len) tapes)) 0
+      → putMid (p * len) (p * len + len - p * len) tapes z ≡ openedShowing (circuitOf s) n j p part .tapes
+  unfolding openedShowing withRow
+  tapes-shown len seeds tapes z e l f q t =
+      let all : List ℕ = tapesOf (circuitOf s) n j (openedSeeds n j p part) in
+      part-cleared all tapes z (p * len) len l (q ∙ ap (tapesOf (circuitOf s) n j) f) t
+      ∙ ap (λ (y : ℕ). take (p * y) all ++ replicate y 0 ++ drop (p * y + y) all) (e ∙ sym (circuit-row s i o g a k))
+
+  -- the corrections, all zero where they are the hidden party's
+  pub corrections-zero : (t : ℕ) (y : List ℕ) → p + 1 ≡ n → t ≡ oct a → y ≡ replicate t 0 → y ≡ openedShowing (circuitOf s) n j p part .corrections
+  unfolding openedShowing
+  corrections-zero t y e l q =
+      last-is p n y (replicate (oct (andsOf (circuitOf s))) 0) (correctionsPart (circuitOf s) n p part) e
+      (q ∙ ap (λ (m : ℕ). replicate m 0) (l ∙ ap oct (sym (circuit-ands s i o g a k))))
+
+  -- else as they are sent
+  pub corrections-sent : (u : ℕ) (y : List ℕ) → (p + 1 ≡ n → ⊥) → u ≡ oct a → y ≡ take (16 * h + u - 16 * h) (drop (16 * h) part)
+      → y ≡ openedShowing (circuitOf s) n j p part .corrections
+  unfolding openedShowing
+  corrections-sent u y e l q =
+      other-is p n y (replicate (oct (andsOf (circuitOf s))) 0) (correctionsPart (circuitOf s) n p part) e
+      (q ∙ corrections-are s i o g a k n h p tree part size u (sent-all p n (oct a) u e l))

@@ -1,0 +1,140 @@
+-- The commitments of an instance, taken in one after the other.
+-- Assumes nothing.
+use mathlib.Core.Path.{_≡_, sym, ap, _∙_}
+use mathlib.Core.Bool.{Bool, true, false, cond}
+use mathlib.Core.List.{List, [], _∷_, _++_, flatten, append-assoc}
+use Prim.Native.Nat.{ℕ, zero, suc, _+_, _<_}
+use native.Mathlib.Nat.{mod-lt}
+use native.Mathlib.Numerals.{add-one}
+use native.Mathlib.Omega.{arith}
+use borrow.Author.Tests.{eq-eqb, ne-eqb}
+use lib.Dec.{eqb}
+use lib.ListN.{length, take, drop}
+use lib.Seq.{getD-drop}
+use Rattle.bits.specs.Bits.{tabulate}
+use Rattle.bits.specs.Bytes.{leBytes, rowOf}
+use Rattle.bits.proofs.Little.{leBytes-lt}
+use Rattle.bits.proofs.Rows.{row-lt}
+use Rattle.keccak.specs.declared.sponge.Sponge.{Sponge}
+use Rattle.keccak.specs.Steps.{turned, byteAt, absorbs, padded, squeezeByte, squeezes}
+use Rattle.keccak.specs.Sponge.{sha3-256}
+use Rattle.keccak.proofs.Absorbing.{Bytes}
+use Rattle.keccak.proofs.Lengths.{length-sha3-256}
+use Rattle.seeds.specs.Inputs.{commitmentInput, ownCorrections, commitmentsInput}
+use Rattle.seeds.specs.Derive.{commitmentOf}
+use Rattle.seeds.specs.Digest.{taken, given}
+use Rattle.seeds.proofs.Hashes.{bytes-append, bytes-one}
+use Rattle.seeds.proofs.Digests.{taken-more, taken-room, given-taken}
+use Rattle.instance.specs.Instance.{commitmentsDigest}
+use Rattle.instance.proofs.Seeded.{flatten-more}
+
+-- a part of bytes is bytes
+bytes-take : (k : ℕ) (M : List ℕ) → Bytes M → Bytes (take k M)
+bytes-take zero M h i = omega arith
+bytes-take (suc k) [] h i = omega arith
+bytes-take (suc k) (x ∷ M) h zero = h 0
+bytes-take (suc k) (x ∷ M) h (suc i) = bytes-take k M (λ j. h (suc j)) i
+
+bytes-drop : (k : ℕ) (M : List ℕ) → Bytes M → Bytes (drop k M)
+bytes-drop k M h i = rw (getD-drop k M i 0) (h (k + i))
+
+-- either of two strings of bytes
+bytes-either : (b : Bool) (x y : List ℕ) → Bytes x → Bytes y → Bytes (cond b x y)
+bytes-either true x y h k = h
+bytes-either false x y h k = k
+
+-- a sponge gives bytes
+byte-low : (l : List ℕ) (k : ℕ) → byteAt l k < 256
+unfolding byteAt
+byte-low l k = mod-lt _ (omega arith)
+
+bytes-squeezed : (r d : ℕ) (s : Sponge) → Bytes (squeezes r d s)
+unfolding squeezes squeezeByte
+bytes-squeezed r zero s i = omega arith
+bytes-squeezed r (suc d) s zero = byte-low (turned r s .lanes) (turned r s .fill)
+bytes-squeezed r (suc d) s (suc i) = bytes-squeezed r d _ i
+
+-- and so a digest is bytes
+bytes-digest : (M : List ℕ) → Bytes M → Bytes (sha3-256 M)
+unfolding given
+bytes-digest M h = rw (← given-taken M h) (bytes-squeezed 136 32 (padded 136 0x06 (taken M)))
+
+-- what party i commits to is bytes
+module _ (j n i : ℕ) (seeds corrections : List ℕ) where
+  input-bytes : Bytes seeds → Bytes corrections
+      → Bytes (commitmentInput j n i (take 16 (rowOf seeds 32 i)) corrections (drop 16 (rowOf seeds 32 i)))
+  unfolding commitmentInput ownCorrections
+  input-bytes p q =
+      let head : List ℕ = 1 ∷ leBytes 2 j ++ leBytes 1 i in
+      let row : List ℕ = rowOf seeds 32 i in
+      let R : Bytes row = row-lt seeds 32 i p in
+      let H : Bytes head = bytes-append (1 ∷ leBytes 2 j) (leBytes 1 i) (bytes-append (1 ∷ []) (leBytes 2 j) (bytes-one 1 (omega arith)) (leBytes-lt 2 j)) (leBytes-lt 1 i) in
+      let own : List ℕ = cond (eqb (i + 1) n) corrections [] in
+      let O : Bytes own = bytes-either (eqb (i + 1) n) corrections [] q (λ k. omega arith) in
+      bytes-append ((head ++ take 16 row) ++ own) (drop 16 row) (bytes-append (head ++ take 16 row) own (bytes-append head (take 16 row) H (bytes-take 16 row R)) O) (bytes-drop 16 row R)
+
+  -- its commitment is 32 bytes
+  commitment-bytes : Bytes seeds → Bytes corrections → Bytes (commitmentOf j n i seeds corrections)
+  unfolding commitmentOf
+  commitment-bytes p q = bytes-digest (commitmentInput j n i (take 16 (rowOf seeds 32 i)) corrections (drop 16 (rowOf seeds 32 i))) (input-bytes p q)
+
+  pub commitment-length : length (commitmentOf j n i seeds corrections) ≡ 32
+  unfolding commitmentOf
+  commitment-length = length-sha3-256 _
+
+-- rows of bytes are bytes
+bytes-rows : (n : ℕ) (f : ℕ → List ℕ) → ((i : ℕ) → Bytes (f i)) → Bytes (flatten (tabulate n f))
+unfolding flatten
+bytes-rows zero f h k = omega arith
+bytes-rows (suc n) f h k = bytes-append (f 0) (flatten (tabulate n (λ i. f (suc i)))) (h 0) (bytes-rows n (λ i. f (suc i)) (λ i. h (suc i))) k
+
+-- the input is bytes
+bytes-input : (j : ℕ) (N : List ℕ) → Bytes N → Bytes (commitmentsInput j N)
+unfolding commitmentsInput
+bytes-input j N h = bytes-append (7 ∷ leBytes 2 j) N (bytes-append (7 ∷ []) (leBytes 2 j) (bytes-one 7 (omega arith)) (leBytes-lt 2 j)) h
+
+-- one more at its end
+input-more : (j : ℕ) (M N : List ℕ) → commitmentsInput j M ++ N ≡ commitmentsInput j (M ++ N)
+unfolding commitmentsInput
+input-more j M N = append-assoc (7 ∷ leBytes 2 j) M N
+
+-- nothing is taken in yet
+pub coms-none : (j : ℕ) (f : ℕ → List ℕ) (s : Sponge) → s ≡ taken (commitmentsInput j []) → s ≡ taken (commitmentsInput j (flatten (tabulate 0 f)))
+unfolding flatten
+coms-none j f s e = e
+
+-- f 0 to f (i - 1) are taken in
+module _ (j i : ℕ) (f : ℕ → List ℕ) (s : Sponge) (e : s ≡ taken (commitmentsInput j (flatten (tabulate i f)))) where
+  -- there is room for the next byte
+  pub coms-room : s .fill < 136
+  coms-room = rw e (taken-room (commitmentsInput j (flatten (tabulate i f))))
+
+  -- one more
+  pub coms-turn : (N : List ℕ) (r : Sponge) → N ≡ f i → r ≡ absorbs 136 s N → r ≡ taken (commitmentsInput j (flatten (tabulate (i + 1) f)))
+  coms-turn N r q a =
+      let M : List ℕ = flatten (tabulate i f) in
+      taken-more (commitmentsInput j M) N s r e a
+      ∙ ap taken (input-more j M N ∙ ap (commitmentsInput j) (ap (λ (t : List ℕ). M ++ t) q ∙ (flatten-more i f ∙ ap (λ (k : ℕ). flatten (tabulate k f)) (sym (add-one i)))))
+
+  -- the end is their digest
+  pub coms-end : (n : ℕ) (r : List ℕ) → i ≡ n → ((k : ℕ) → Bytes (f k)) → r ≡ given s → r ≡ commitmentsDigest j (flatten (tabulate n f))
+  unfolding commitmentsDigest
+  coms-end n r q h g =
+      g ∙ (ap given e
+      ∙ (given-taken (commitmentsInput j (flatten (tabulate i f))) (bytes-input j (flatten (tabulate i f)) (bytes-rows i f h))
+      ∙ ap (λ (k : ℕ). sha3-256 (commitmentsInput j (flatten (tabulate k f)))) q))
+
+-- the commitments, with `theirs` as party p's
+module _ (j n p : ℕ) (theirs seeds corrections : List ℕ) where
+  abbrev pub comAt : ℕ → List ℕ
+  comAt i = cond (eqb i p) theirs (commitmentOf j n i seeds corrections)
+
+  pub com-theirs : (i : ℕ) → i ≡ p → theirs ≡ comAt i
+  com-theirs i e = rw (eq-eqb i p e)
+
+  pub com-own : (i : ℕ) (c : List ℕ) → (i ≡ p → ⊥) → c ≡ commitmentOf j n i seeds corrections → c ≡ comAt i
+  com-own i c e q = rw (ne-eqb i p e) q
+
+  pub com-bytes : Bytes theirs → Bytes seeds → Bytes corrections → (i : ℕ) → Bytes (comAt i)
+  com-bytes h k m i =
+      bytes-either (eqb i p) theirs (commitmentOf j n i seeds corrections) h (commitment-bytes j n i seeds corrections k m)

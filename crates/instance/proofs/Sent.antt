@@ -1,0 +1,181 @@
+-- What an instance's digests and stretch are made of: seeds, corrections and rows as the steps leave them; the stretch, part by part.
+-- Assumes nothing.
+use mathlib.Core.Path.{_≡_, refl, sym, ap, ap₂, _∙_}
+use mathlib.Core.Bool.{Bool, true, false, cond, _&&_}
+use mathlib.Core.List.{List, [], _∷_, _++_, flatten}
+use Prim.Native.Nat.{ℕ, suc, _+_, _*_, _≤_, _<_}
+use native.Mathlib.Nat.{suc-add, zero-add}
+use native.Mathlib.Omega.{arith}
+use borrow.Author.Tests.{lt-ltb, ne-eqb}
+use lib.Dec.{eqb, ltb}
+use lib.ListN.{length, getD, take, drop, replicate, length-replicate}
+use lib.Seq.{length-take-le, take-at, length-front}
+use Rattle.bits.specs.Bits.{tabulate, oct, pack, unusedZero}
+use Rattle.bits.proofs.Tabulate.{tabulate-cong, tabulate-getD}
+use Rattle.parties.proofs.Counts.{Sizes, sizes, count-no}
+use Rattle.circuit.specs.Circuit.{Gate, xor, and, inv, Circuit, ands}
+use Rattle.circuit.specs.File.{inputsOf, outputsOf, headOf, circuitOf}
+use Rattle.engine.specs.Fits.{Room}
+use Rattle.engine.specs.Memory.{packed, packedRows, loadedTapes, maskedInputs}
+use Rattle.engine.specs.Steps.{walked, spoken}
+use Rattle.mpc.specs.Run.{Column, next, Hearing, outputs, run}
+use Rattle.mpc.specs.Tapes.{andsOf}
+use Rattle.mpc.specs.Showing as shown
+use Rattle.mpc.specs.Showing.{correctionBits, runWith, runOn, honestRun, rowBits, rowsOf, firstBits}
+use Rattle.mpc.specs.Lent.{Known, Parties}
+use Rattle.mpc.proofs.Agreement.{show-corrections-agree, show-row-agrees, show-rows-agree}
+use Rattle.mpc.proofs.Opened.{circuit-outputs, circuit-ands, ands-low, room}
+use Rattle.mpc.proofs.Asks.{ands-few}
+use Rattle.seeds.specs.Derive.{commitmentOf}
+use Rattle.instance.specs.Instance.{tapesOf, commitmentsDigest, onlineDigest, commitmentsOf, masterSeeds, masterTapes, masterCorrections, masterCommitments, masterRun, masterMasked, masterOnline}
+use Rattle.instance.specs.Worked.{broughtIn, worked, Tree}
+
+-- a party count
+false-true : false ≡ true → ⊥
+false-true e = let z : _≡_ {A = ℕ} 0 1 = cc in omega arith
+
+pub tree-sizes : (n h : ℕ) → Tree n h → Sizes n
+tree-sizes n h t = sizes n (λ e. false-true (sym (count-no n e) ∙ t .parties))
+
+pub tree-parties : (n h : ℕ) → Tree n h → Parties n
+tree-parties n h t = let z = tree-sizes n h t in record { some = omega (arith, z .some); few = z .few }
+
+-- a bit for each output
+length-outputs : (n : ℕ) (ws : List ℕ) (h : Hearing) (s : ℕ → Column) (m : ℕ → Bool) (i : ℕ) → length (rowBits (outputs n ws h s m) i) ≡ length ws
+unfolding outputs rowBits
+length-outputs n [] h s m i = refl
+length-outputs n (w ∷ ws) h s m i = ap suc (length-outputs n ws (next h) s m i)
+
+-- "A broadcast row holds A + O bits"
+length-row : (n : ℕ) (outs : List ℕ) (gs : List Gate) (o z : ℕ → Column) (h : Hearing) (s : ℕ → Column) (m : ℕ → Bool) (i : ℕ)
+    → length (rowBits (run n outs gs o z h s m) i) ≡ ands gs + length outs
+unfolding run rowBits ands
+length-row n outs [] o z h s m i = length-outputs n outs h s m i ∙ sym (zero-add (length outs))
+length-row n outs (xor a b c ∷ gs) o z h s m i = length-row n outs gs o z h _ _ i
+length-row n outs (and a b c ∷ gs) o z h s m i = ap suc (length-row n outs gs (next o) (next z) (next h) _ _ i) ∙ sym (suc-add (ands gs) (length outs))
+length-row n outs (inv a c ∷ gs) o z h s m i = length-row n outs gs o z h _ _ i
+
+-- all bits of a list
+first-all : (k : ℕ) (bs : List Bool) → length bs ≡ k → firstBits k bs ≡ bs
+unfolding firstBits
+first-all k bs e =
+    tabulate-cong (length bs) (λ t. ltb t k && getD bs t false) (λ t. getD bs t false) (λ t h. rw (lt-ltb t k (omega arith)))
+    ∙ tabulate-getD bs false
+
+-- an honest run's row
+length-honest : (c : Circuit) (n p : ℕ) (w tapes : List ℕ) → length (rowBits (honestRun c n w tapes) p) ≡ andsOf c + length (c .outputs)
+unfolding honestRun runOn runWith
+length-honest c n p w tapes = length-row n (c .outputs) (c .gates) _ _ _ _ _ p
+
+-- the work memory of Z bytes after the run
+module _ (s : List ℕ) (i o g a n Z : ℕ) (w tapes : List ℕ) (k : Known s i o g a) (parties : Parties n) (room : 64 * (i + g) + 4096 ≤ Z)
+    (unused : unusedZero i w ≡ true) where
+  -- in the numbers that the code carries
+  abbrev made : ℕ → ℕ → ℕ → ℕ → List ℕ
+  made i o g a =
+      spoken (i + g) n n a s o
+      (walked (i + g) n n true s g (headOf s) 0 (maskedInputs (i + g) n i w (loadedTapes (i + g) i a (oct (i + 2 * a)) tapes n (replicate Z 0))))
+
+  worked-is : worked s n w tapes Z ≡ made i o g a
+  unfolding worked broughtIn
+  worked-is =
+      sym
+      (ap₂ (λ (x y : ℕ). made x y g a) (k .legal .laid .inputs) (k .legal .laid .outputs)
+      ∙ ap₂ (made (inputsOf s) (outputsOf s)) (k .legal .laid .gates) (k .ands))
+
+  -- its corrections
+  corrections-made : packed (worked s n w tapes Z) (16 * (i + g) + 1) a (oct a) ≡ pack (correctionBits (circuitOf s) n tapes)
+  corrections-made =
+      ap (λ (m : List ℕ). packed m (16 * (i + g) + 1) a (oct a)) worked-is
+      ∙ show-corrections-agree s i o g a (headOf s) n Z (k .legal) refl (k .ands) (parties .some) (parties .few) room tapes w unused
+
+  -- its broadcast rows
+  pub rows-made : packedRows (i + g) (worked s n w tapes Z) n (a + o) (oct (a + o)) ≡ rowsOf n (honestRun (circuitOf s) n w tapes)
+  rows-made =
+      ap (λ (m : List ℕ). packedRows (i + g) m n (a + o) (oct (a + o))) worked-is
+      ∙ show-rows-agree s i o g a (headOf s) n Z (k .legal) refl (k .ands) (parties .some) (parties .few) room tapes w unused
+
+  -- one of them
+  pub row-made : (p : ℕ) → p < n → packed (worked s n w tapes Z) (48 * (i + g) + p) (a + o) (oct (a + o)) ≡ pack (rowBits (honestRun (circuitOf s) n w tapes) p)
+  row-made p l =
+      ap (λ (m : List ℕ). packed m (48 * (i + g) + p) (a + o) (oct (a + o))) worked-is
+      ∙ show-row-agrees s i o g a (headOf s) n Z (k .legal) refl (k .ands) (parties .some) (parties .few) room tapes w unused p (a + o) l (omega arith)
+      ∙ ap pack
+      (first-all (a + o) (rowBits (honestRun (circuitOf s) n w tapes) p)
+      (length-honest (circuitOf s) n p w tapes ∙ ap₂ (λ (x y : ℕ). x + y) (circuit-ands s i o g a k) (circuit-outputs s i o g a k)))
+
+  -- what an instance leaves: seeds sd, tapes, masked inputs mk, memory m, corrections x
+  pub instance-made : (j : ℕ) (master sd mk m x : List ℕ) (l : ℕ) → sd ≡ masterSeeds n j master → tapes ≡ tapesOf (circuitOf s) n j sd
+      → mk ≡ shown.maskedInputs (circuitOf s) n w tapes → m ≡ worked s n w tapes Z → l ≡ oct a → x ≡ packed m (16 * (i + g) + 1) a l
+      → (sd ≡ masterSeeds n j master) × ((x ≡ masterCorrections (circuitOf s) n j master) × ((mk ≡ masterMasked (circuitOf s) n j w master) × (m ≡ worked s n w (masterTapes (circuitOf s) n j master) Z)))
+  unfolding masterTapes masterCorrections masterMasked
+  instance-made j master sd mk m x l e1 e2 e3 e4 e5 e6 =
+      let t : tapes ≡ tapesOf (circuitOf s) n j (masterSeeds n j master) = e2 ∙ ap (tapesOf (circuitOf s) n j) e1 in (
+        e1,
+        (
+          e6 ∙ ap₂ (λ (y : List ℕ) (q : ℕ). packed y (16 * (i + g) + 1) a q) e4 e5 ∙ corrections-made
+              ∙ ap (λ (y : List ℕ). pack (correctionBits (circuitOf s) n y)) t,
+          (e3 ∙ ap (shown.maskedInputs (circuitOf s) n w) t, e4 ∙ ap (λ (y : List ℕ). worked s n w y Z) t),
+        ),
+      )
+
+-- what the digests are made of: the fronts S, C and M of the arrays are what the instance leaves
+module _ (s : List ℕ) (i o g a n Z j : ℕ) (w master : List ℕ) (k : Known s i o g a) (parties : Parties n) (room : 64 * (i + g) + 4096 ≤ Z)
+    (unused : unusedZero i w ≡ true) where
+  pub digests-made : (theirs S C M m x y : List ℕ) → S ≡ masterSeeds n j master → C ≡ masterCorrections (circuitOf s) n j master
+      → M ≡ masterMasked (circuitOf s) n j w master → m ≡ worked s n w (masterTapes (circuitOf s) n j master) Z
+      → x ≡ commitmentsDigest j (flatten (tabulate n (λ t. cond (eqb t n) theirs (commitmentOf j n t S C))))
+      → y ≡ onlineDigest j M (packedRows (i + g) m n (a + o) (oct (a + o)))
+      → (x ≡ masterCommitments (circuitOf s) n j master) × (y ≡ masterOnline (circuitOf s) n j w master)
+  unfolding masterCommitments commitmentsOf masterOnline masterRun
+  digests-made theirs S C M m x y e1 e2 e3 e4 e5 e6 =
+      let z : tabulate n (λ t. cond (eqb t n) theirs (commitmentOf j n t S C))
+      ≡ tabulate n (λ t. commitmentOf j n t (masterSeeds n j master) (masterCorrections (circuitOf s) n j master))
+      = tabulate-cong n (λ t. cond (eqb t n) theirs (commitmentOf j n t S C))
+      (λ t. commitmentOf j n t (masterSeeds n j master) (masterCorrections (circuitOf s) n j master))
+      (λ t l. rw (ne-eqb t n (λ e. omega arith)) (ap₂ (commitmentOf j n t) e1 e2)) in (
+        e5 ∙ ap (λ (t : List (List ℕ)). commitmentsDigest j (flatten t)) z,
+        e6
+            ∙ ap₂ (onlineDigest j) e3
+            (ap (λ (t : List ℕ). packedRows (i + g) t n (a + o) (oct (a + o))) e4
+            ∙ rows-made s i o g a n Z w (masterTapes (circuitOf s) n j master) k parties room unused),
+      )
+
+-- the sizes of an instance's arrays
+pub few-seeds : (n h : ℕ) → Tree n h → 32 * n ≤ 512
+few-seeds n h t = omega (arith, tree-sizes n h t .few)
+
+pub few-corrections : (s : List ℕ) (i o g a r : ℕ) → Known s i o g a → r ≡ oct a → r ≤ 512
+few-corrections s i o g a r k e = omega (arith, e, ands-few s i o g a k)
+
+pub few-masked : (s : List ℕ) (i o g a r : ℕ) → Known s i o g a → r ≡ oct i → r ≤ 64
+few-masked s i o g a r k e = omega (arith, e, k .legal .laid .few-inputs)
+
+-- the front of an array of N zero bytes
+pub front-length : (N k : ℕ) → k ≤ N → length (take k (replicate {A = ℕ} N 0)) ≡ k
+front-length N k l = length-take-le k (replicate {A = ℕ} N 0) (omega (arith, length-replicate {A = ℕ} N 0))
+
+-- z in its place
+module _ (N k : ℕ) (z : List ℕ) (l : k ≤ N) (e : length z ≡ length (take k (replicate {A = ℕ} N 0))) where
+  pub front-inside : k ≤ length (z ++ drop k (replicate {A = ℕ} N 0))
+  front-inside = omega (arith, length-front (replicate {A = ℕ} N 0) z k e, length-replicate {A = ℕ} N 0)
+
+  pub front-back : take k (z ++ drop k (replicate {A = ℕ} N 0)) ≡ z
+  front-back = take-at z (drop k (replicate {A = ℕ} N 0)) k (e ∙ front-length N k l)
+
+  pub front-taken : k ≡ length (take k (z ++ drop k (replicate {A = ℕ} N 0)))
+  front-taken = sym (length-take-le k (z ++ drop k (replicate {A = ℕ} N 0)) front-inside)
+
+  -- less of it
+  module _ (v : ℕ) (f : v ≤ k) where
+    pub front-less : v ≤ length (z ++ drop k (replicate {A = ℕ} N 0))
+    front-less = omega (arith, front-inside, f)
+
+    pub front-some : length (take v (z ++ drop k (replicate {A = ℕ} N 0))) ≡ v
+    front-some = length-take-le v (z ++ drop k (replicate {A = ℕ} N 0)) front-less
+
+-- what the digest of the rows asks
+pub online-asks : (s : List ℕ) (i o g a n : ℕ) (m : List ℕ) → Known s i o g a → Parties n → 64 * (i + g) + 4096 ≤ length m
+    → Room (i + g) n m × (a + o ≤ i + g + 256)
+online-asks s i o g a n m k parties l =
+    (room s i o g a k n m parties l, omega (arith, ands-low s i o g a k, k .legal .laid .few-outputs))

@@ -1,0 +1,91 @@
+-- One instance of the protocol: what its master gives, its digests, and what is sent of it (source document 001, Figure 2; document
+-- 01, "Seeds and digests").
+-- Assumes nothing.
+use mathlib.Core.Bool.{cond}
+use mathlib.Core.List.{List, [], _++_, flatten}
+use Prim.Native.Nat.{ℕ, suc, _+_}
+use lib.Dec.{eqb}
+use lib.ListN.{take}
+use Rattle.bits.specs.Bits.{tabulate, pack}
+use Rattle.bits.specs.Bytes.{rowOf}
+use Rattle.keccak.specs.Sponge.{sha3-256}
+use Rattle.parties.specs.Parties.{heightOf}
+use Rattle.circuit.specs.Circuit.{Circuit}
+use Rattle.mpc.specs.Run.{Transcript}
+use Rattle.mpc.specs.Tapes.{rowBytes, usedBits}
+use Rattle.mpc.specs.Showing.{correctionBits, maskedInputs, honestRun, rowBits, rowsOf}
+use Rattle.seeds.specs.Inputs.{commitmentsInput, onlineInput}
+use Rattle.seeds.specs.Tree.{leavesBelow, siblingsBelow}
+use Rattle.seeds.specs.Derive.{seedRow, commitmentOf}
+use Rattle.seeds.specs.Derive as derive
+
+-- "Leaf i is node n + i": the n leaves of instance j
+unfoldable pub leavesOf : ℕ → ℕ → List ℕ → List ℕ
+leavesOf n j master = leavesBelow j (heightOf n) 1 master
+
+-- the seed and r of each party, from the leaves, in rows of 32 bytes
+unfoldable pub seedsOf : ℕ → ℕ → List ℕ → List ℕ
+seedsOf n j leaves = flatten (tabulate n (λ i. seedRow j i (rowOf leaves 16 i)))
+
+-- party i's seed
+abbrev pub seedOf : List ℕ → ℕ → List ℕ
+seedOf seeds i = take 16 (rowOf seeds 32 i)
+
+-- the tape rows of the parties, from their seeds
+unfoldable pub tapesOf : Circuit → ℕ → ℕ → List ℕ → List ℕ
+tapesOf c n j seeds = flatten (tabulate n (λ i. derive.tapeRow j i (seedOf seeds i) (usedBits c n i) (rowBytes c)))
+
+-- "h_j over (7, j, all com)"
+unfoldable pub commitmentsDigest : ℕ → List ℕ → List ℕ
+commitmentsDigest j coms = sha3-256 (commitmentsInput j coms)
+
+-- "h'_j over (8, j, masked inputs, all broadcast rows)"
+unfoldable pub onlineDigest : ℕ → List ℕ → List ℕ → List ℕ
+onlineDigest j masked rows = sha3-256 (onlineInput j masked rows)
+
+-- the commitments of all parties to their seeds, and of party n − 1 to the corrections
+unfoldable pub commitmentsOf : ℕ → ℕ → List ℕ → List ℕ → List ℕ
+commitmentsOf n j seeds corrections = flatten (tabulate n (λ i. commitmentOf j n i seeds corrections))
+
+-- what a master gives: seeds, tapes and corrections
+unfoldable pub masterSeeds : ℕ → ℕ → List ℕ → List ℕ
+masterSeeds n j master = seedsOf n j (leavesOf n j master)
+
+unfoldable pub masterTapes : Circuit → ℕ → ℕ → List ℕ → List ℕ
+masterTapes c n j master = tapesOf c n j (masterSeeds n j master)
+
+unfoldable pub masterCorrections : Circuit → ℕ → ℕ → List ℕ → List ℕ
+masterCorrections c n j master = pack (correctionBits c n (masterTapes c n j master))
+
+-- "An instance not chosen gives its h_j from its master"
+unfoldable pub masterCommitments : Circuit → ℕ → ℕ → List ℕ → List ℕ
+masterCommitments c n j master = commitmentsDigest j (commitmentsOf n j (masterSeeds n j master) (masterCorrections c n j master))
+
+-- Round 1, step 3: the run on a witness, and its h'_j
+unfoldable pub masterRun : Circuit → ℕ → ℕ → List ℕ → List ℕ → Transcript
+masterRun c n j witness master = honestRun c n witness (masterTapes c n j master)
+
+unfoldable pub masterMasked : Circuit → ℕ → ℕ → List ℕ → List ℕ → List ℕ
+masterMasked c n j witness master = maskedInputs c n witness (masterTapes c n j master)
+
+unfoldable pub masterOnline : Circuit → ℕ → ℕ → List ℕ → List ℕ → List ℕ
+masterOnline c n j witness master =
+    onlineDigest j (masterMasked c n j witness master) (rowsOf n (masterRun c n j witness master))
+
+-- what the challenge asks of an instance: its master if it is not chosen, all parties but p if it is
+pub data Asked : Type 0 where
+  opened : Asked
+  hiding : ℕ → Asked
+
+-- "corrections unless p = n − 1"
+unfoldable pub sentCorrections : ℕ → ℕ → List ℕ → List ℕ
+sentCorrections n p corrections = cond (eqb (suc p) n) [] corrections
+
+-- Round 3: "Not chosen: master (16), h'_j (32). Chosen: log2 n siblings of 16 bytes, corrections unless p = n − 1, com_p, masked inputs,
+-- broadcast row p."
+unfoldable pub stretchOf : Circuit → ℕ → ℕ → List ℕ → List ℕ → Asked → List ℕ
+stretchOf c n j witness master opened = master ++ masterOnline c n j witness master
+stretchOf c n j witness master (hiding p) =
+    siblingsBelow j (heightOf n) 1 p master ++ sentCorrections n p (masterCorrections c n j master)
+    ++ commitmentOf j n p (masterSeeds n j master) (masterCorrections c n j master) ++ masterMasked c n j witness master
+    ++ pack (rowBits (masterRun c n j witness master) p)

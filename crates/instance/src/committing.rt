@@ -1,0 +1,33 @@
+// The digest over the commitments of an instance.
+ghost use mathlib.Core.Path.{_≡_};
+ghost use mathlib.Core.Bool.{cond};
+ghost use mathlib.Core.List.{flatten};
+ghost use Prim.Native.Nat.{_*_, _≤_};
+ghost use lib.Dec.{eqb};
+ghost use lib.ListN.{length};
+ghost use Rattle.bits.specs.Bits.{tabulate};
+ghost use Rattle.seeds.specs.Derive.{commitmentOf};
+ghost use Rattle.instance.specs.Instance.{commitmentsDigest};
+use keccak::SHA3_256_RATE;
+use seeds::digest::finish;
+use seeds::digest::start_commitments;
+use seeds::party::commitment;
+
+// h_j over the commitments of n parties; `theirs` stands for party p's (n for none).
+pub fn commit(j: u32, n: u32, p: u32, theirs: &[u8], seeds: &[u8], corrections: &[u8]) -> [u8; 32]
+    requires { ⌜ (n ≤ 16) × (length (now seeds) ≡ 32 * n) ⌝ }
+    ensures { λ r. ⌜ r ≡ commitmentsDigest j (flatten (tabulate n (λ i. cond (eqb i p) (now (theirs .entry)) (commitmentOf j n i (now (seeds .entry)) (now (corrections .entry)))))) ⌝ }
+{
+    let mut s = start_commitments(j);
+    let mut i = 0;
+    while i < n {
+        if i == p {
+            s = s.absorb(SHA3_256_RATE, theirs);
+        } else {
+            let c = commitment(j, n, i, seeds, corrections);
+            s = s.absorb(SHA3_256_RATE, &c);
+        }
+        i += 1;
+    }
+    finish(s)
+}

@@ -1,0 +1,193 @@
+// What a prover makes of an instance: its digests, and its stretch of the proof.
+ghost use mathlib.Core.Path.{_≡_};
+ghost use mathlib.Core.List.{_++_};
+ghost use Prim.Native.Nat.{_+_, _*_, _≤_, _<_};
+ghost use lib.ListN.{length, take, drop};
+ghost use Rattle.bits.specs.Bits.{oct};
+ghost use Rattle.circuit.specs.File.{circuitOf};
+ghost use Rattle.mpc.specs.Lent.{WitnessFits};
+ghost use Rattle.instance.specs.Instance.{masterSeeds, masterTapes, masterCorrections, masterMasked, masterCommitments, masterOnline, hiding, stretchOf};
+ghost use Rattle.instance.specs.Stretch.{stretchBytes};
+ghost use Rattle.instance.specs.Worked.{worked, Lent};
+use crate::Digests;
+use crate::committing::commit;
+use crate::seeding::master_seeds;
+use crate::seeding::tape_rows;
+use crate::working::online;
+use crate::working::work;
+use engine::memory::pack;
+use seeds::party::commitment;
+use seeds::tree::siblings_below;
+
+// Runs instance j on the witness from its master: its seeds, corrections and masked inputs, and its work memory.
+pub fn instance(
+    s: &[u8],
+    inputs: usize,
+    outputs: usize,
+    gates: usize,
+    ands: usize,
+    j: u32,
+    n: u32,
+    h: u32,
+    witness: &[u8],
+    master: &[u8],
+    seeds: &mut [u8],
+    corrections: &mut [u8],
+    masked: &mut [u8],
+    tapes: &mut [u8],
+    memory: &mut [u8],
+)
+    requires { ⌜ Lent (now s) inputs outputs gates ands n h (now tapes) (now memory) × (WitnessFits inputs (now witness) × ((length (now master) ≡ 16) × ((length (now seeds) ≡ 32 * n) × ((length (now corrections) ≡ oct ands) × (length (now masked) ≡ oct inputs))))) ⌝ }
+    ensures { λ _. ⌜ now (seeds .exit) ≡ masterSeeds n j (now (master .entry)) ⌝ }
+    ensures { λ _. ⌜ now (corrections .exit) ≡ masterCorrections (circuitOf (now (s .entry))) n j (now (master .entry)) ⌝ }
+    ensures { λ _. ⌜ now (masked .exit) ≡ masterMasked (circuitOf (now (s .entry))) n j (now (witness .entry)) (now (master .entry)) ⌝ }
+    ensures { λ _. ⌜ now (memory .exit) ≡ worked (now (s .entry)) n (now (witness .entry)) (masterTapes (circuitOf (now (s .entry))) n j (now (master .entry))) (length (now (memory .entry))) ⌝ }
+{
+    master_seeds(j, n, h, master, seeds);
+    tape_rows(s, inputs, outputs, gates, ands, j, n, seeds, tapes);
+    work(
+        s,
+        inputs,
+        outputs,
+        gates,
+        ands,
+        n as usize,
+        witness,
+        tapes,
+        masked,
+        memory,
+    );
+    pack(memory, 16 * (inputs + gates) + 1, ands, corrections);
+}
+
+// The digests of instance j, from its master and the witness.
+pub fn digests(
+    s: &[u8],
+    inputs: usize,
+    outputs: usize,
+    gates: usize,
+    ands: usize,
+    j: u32,
+    n: u32,
+    h: u32,
+    witness: &[u8],
+    master: &[u8],
+    tapes: &mut [u8],
+    memory: &mut [u8],
+) -> Digests
+    requires { ⌜ Lent (now s) inputs outputs gates ands n h (now tapes) (now memory) × (WitnessFits inputs (now witness) × (length (now master) ≡ 16)) ⌝ }
+    ensures { λ r. ⌜ (r .commitments ≡ masterCommitments (circuitOf (now (s .entry))) n j (now (master .entry))) × (r .online ≡ masterOnline (circuitOf (now (s .entry))) n j (now (witness .entry)) (now (master .entry))) ⌝ }
+{
+    let k = n as usize;
+    let size = 32 * k;
+    let a = bits::oct(ands);
+    let m = bits::oct(inputs);
+    let mut seeds = [0u8; 512];
+    let mut corrections = [0u8; 512];
+    let mut masked = [0u8; 64];
+    instance(
+        s,
+        inputs,
+        outputs,
+        gates,
+        ands,
+        j,
+        n,
+        h,
+        witness,
+        master,
+        &mut seeds[..size],
+        &mut corrections[..a],
+        &mut masked[..m],
+        tapes,
+        memory,
+    );
+    // no party's commitment is given: what stands for it is not read
+    let commitments = commit(j, n, n, master, &seeds[..size], &corrections[..a]);
+    let online = online(j, &masked[..m], memory, inputs + gates, k, ands + outputs);
+    Digests {
+        commitments,
+        online,
+    }
+}
+
+// Copies from into out, of the same length.
+pub fn copy(from: &[u8], out: &mut [u8])
+    requires { ⌜ length (now out) ≡ length (now «from») ⌝ }
+    ensures { λ _. ⌜ now (out .exit) ≡ now («from» .entry) ⌝ }
+{
+    let mut k = 0;
+    while k < out.len() {
+        out[k] = from[k];
+        k += 1;
+    }
+}
+
+// Writes from into part at `at`, and gives the place after it.
+pub(crate) fn put(from: &[u8], at: usize, part: &mut [u8]) -> usize
+    requires { ⌜ at + length (now «from») ≤ length (now part) ⌝ }
+    ensures { λ r. ⌜ r ≡ at + length (now («from» .entry)) ⌝ }
+    ensures { λ _. ⌜ now (part .exit) ≡ take at (now (part .entry)) ++ now («from» .entry) ++ drop (at + length (now («from» .entry))) (now (part .entry)) ⌝ }
+{
+    let to = at + from.len();
+    copy(from, &mut part[at..to]);
+    to
+}
+
+// The stretch of a chosen instance: siblings, corrections unless p = n − 1, com_p, masked inputs, broadcast row p.
+pub fn send(
+    s: &[u8],
+    inputs: usize,
+    outputs: usize,
+    gates: usize,
+    ands: usize,
+    j: u32,
+    n: u32,
+    h: u32,
+    p: u32,
+    witness: &[u8],
+    master: &[u8],
+    part: &mut [u8],
+    tapes: &mut [u8],
+    memory: &mut [u8],
+)
+    requires { ⌜ Lent (now s) inputs outputs gates ands n h (now tapes) (now memory) × (WitnessFits inputs (now witness) × ((length (now master) ≡ 16) × ((p < n) × (length (now part) ≡ stretchBytes (circuitOf (now s)) n (hiding p))))) ⌝ }
+    ensures { λ _. ⌜ now (part .exit) ≡ stretchOf (circuitOf (now (s .entry))) n j (now (witness .entry)) (now (master .entry)) (hiding p) ⌝ }
+{
+    let size = 32 * (n as usize);
+    let a = bits::oct(ands);
+    let m = bits::oct(inputs);
+    let mut seeds = [0u8; 512];
+    let mut corrections = [0u8; 512];
+    let mut masked = [0u8; 64];
+    instance(
+        s,
+        inputs,
+        outputs,
+        gates,
+        ands,
+        j,
+        n,
+        h,
+        witness,
+        master,
+        &mut seeds[..size],
+        &mut corrections[..a],
+        &mut masked[..m],
+        tapes,
+        memory,
+    );
+    let sent = if p + 1 == n { 0 } else { a };
+    let com = commitment(j, n, p, &seeds[..size], &corrections[..a]);
+    let first = 16 * (h as usize);
+    siblings_below(j, 1, h, p, master, &mut part[..first]);
+    let second = put(&corrections[..sent], first, part);
+    let third = put(&com, second, part);
+    let fourth = put(&masked[..m], third, part);
+    pack(
+        memory,
+        48 * (inputs + gates) + (p as usize),
+        ands + outputs,
+        &mut part[fourth..],
+    );
+}

@@ -1,0 +1,101 @@
+// The run of an instance in the work memory, and the digest over its broadcasts.
+ghost use mathlib.Core.Path.{_≡_};
+ghost use mathlib.Core.Bool.{true};
+ghost use Prim.Native.Nat.{_+_, _*_, _≤_, _<_};
+ghost use lib.ListN.{length, replicate};
+ghost use Rattle.bits.specs.Bits.{oct, unusedZero};
+ghost use Rattle.circuit.specs.File.{circuitOf};
+ghost use Rattle.engine.specs.Memory.{packedRows};
+ghost use Rattle.engine.specs.Fits.{Room};
+ghost use Rattle.mpc.specs.Showing.{maskedInputs};
+ghost use Rattle.mpc.specs.Lent.{Known, Parties, WitnessFits, TapesFit, ShowingFits};
+ghost use Rattle.instance.specs.Instance.{onlineDigest};
+ghost use Rattle.instance.specs.Worked.{worked, replayed as «replayed-memory», replayedValues};
+use engine::chain::speak;
+use engine::chain::walk;
+use engine::memory::clear;
+use engine::memory::load_tapes;
+use engine::memory::mask_inputs;
+use engine::memory::pack;
+use engine::memory::unpack;
+use keccak::SHA3_256_RATE;
+use seeds::digest::finish;
+use seeds::digest::start_online;
+
+// Runs the circuit on the witness, its corrections made, and packs the masked inputs.
+pub fn work(
+    s: &[u8],
+    inputs: usize,
+    outputs: usize,
+    gates: usize,
+    ands: usize,
+    n: usize,
+    witness: &[u8],
+    tapes: &[u8],
+    masked: &mut [u8],
+    memory: &mut [u8],
+)
+    requires { ⌜ Known (now s) inputs outputs gates ands × (Parties n × (WitnessFits inputs (now witness) × (TapesFit inputs ands n (now tapes) × ((length (now masked) ≡ oct inputs) × (64 * (inputs + gates) + 4096 ≤ length (now memory)))))) ⌝ }
+    ensures { λ _. ⌜ now (masked .exit) ≡ maskedInputs (circuitOf (now (s .entry))) n (now (witness .entry)) (now (tapes .entry)) ⌝ }
+    ensures { λ _. ⌜ now (memory .exit) ≡ worked (now (s .entry)) n (now (witness .entry)) (now (tapes .entry)) (length (now (memory .entry))) ⌝ }
+{
+    let head = bits::read_u16(s, 6) as usize;
+    let wires = inputs + gates;
+    let len = bits::oct(inputs + 2 * ands);
+    clear(memory);
+    load_tapes(tapes, len, n, wires, inputs, ands, memory);
+    mask_inputs(witness, inputs, n, wires, memory);
+    pack(memory, 16 * wires, inputs, masked);
+    walk(s, inputs, outputs, gates, head, n, n, true, memory);
+    let mut values = [0u8; 4096];
+    speak(s, inputs, outputs, gates, ands, n, n, memory, &mut values);
+}
+
+// Replays a run with party p hidden; `values` is lent clear and takes the outputs' values.
+pub fn rework(
+    s: &[u8],
+    inputs: usize,
+    outputs: usize,
+    gates: usize,
+    ands: usize,
+    n: usize,
+    p: usize,
+    tapes: &[u8],
+    corrections: &[u8],
+    masked: &[u8],
+    row: &[u8],
+    values: &mut [u8],
+    memory: &mut [u8],
+)
+    requires { ⌜ Known (now s) inputs outputs gates ands × (Parties n × ((p < n) × (ShowingFits inputs outputs ands n (now tapes) (now corrections) (now masked) (now row) × ((now values ≡ replicate 4096 0) × (64 * (inputs + gates) + 4096 ≤ length (now memory)))))) ⌝ }
+    ensures { λ _. ⌜ now (values .exit) ≡ replayedValues (now (s .entry)) n p (now (tapes .entry)) (now (corrections .entry)) (now (masked .entry)) (now (row .entry)) (length (now (memory .entry))) ⌝ }
+    ensures { λ _. ⌜ now (memory .exit) ≡ «replayed-memory» (now (s .entry)) n p (now (tapes .entry)) (now (corrections .entry)) (now (masked .entry)) (now (row .entry)) (length (now (memory .entry))) ⌝ }
+{
+    let head = bits::read_u16(s, 6) as usize;
+    let wires = inputs + gates;
+    let len = bits::oct(inputs + 2 * ands);
+    clear(memory);
+    load_tapes(tapes, len, n, wires, inputs, ands, memory);
+    unpack(corrections, 0, ands, memory, 48 * wires + (n - 1));
+    unpack(row, 0, ands + outputs, memory, 48 * wires + p);
+    unpack(masked, 0, inputs, memory, 16 * wires);
+    walk(s, inputs, outputs, gates, head, n, p, false, memory);
+    speak(s, inputs, outputs, gates, ands, n, p, memory, values);
+}
+
+// h'_j over the masked inputs and the broadcast rows in the memory.
+pub fn online(j: u32, masked: &[u8], memory: &[u8], wires: usize, n: usize, said: usize) -> [u8; 32]
+    requires { ⌜ Room wires n (now memory) × (said ≤ wires + 256) ⌝ }
+    ensures { λ r. ⌜ r ≡ onlineDigest j (now (masked .entry)) (packedRows wires (now (memory .entry)) n said (oct said)) ⌝ }
+{
+    let len = bits::oct(said);
+    let mut row = [0u8; 608];
+    let mut s = start_online(j).absorb(SHA3_256_RATE, masked);
+    let mut i = 0;
+    while i < n {
+        pack(memory, 48 * wires + i, said, &mut row[..len]);
+        s = s.absorb(SHA3_256_RATE, &row[..len]);
+        i += 1;
+    }
+    finish(s)
+}

@@ -1,0 +1,57 @@
+-- The proof file: its header, its length, and the place of each stretch (document 01, "Proof file").
+-- Assumes nothing.
+use mathlib.Core.Bool.{Bool, not, _&&_}
+use mathlib.Core.List.{List, [], _∷_, _++_}
+use Prim.Native.Nat.{ℕ, zero, suc, _+_, _-_, _*_}
+use lib.Dec.{eqb, leb}
+use lib.ListN.{length, getD, take, drop}
+use Rattle.bits.specs.Bits.{oct}
+use Rattle.bits.specs.Bytes.{leAt, leBytes}
+use Rattle.parties.specs.Parties.{heightOf, isPartyCount}
+use Rattle.circuit.specs.Circuit.{Circuit}
+use Rattle.mpc.specs.Tapes.{andsOf}
+use Rattle.seeds.specs.Operations.{areCounts}
+use Rattle.instance.specs.Instance.{Asked}
+use Rattle.instance.specs.Stretch.{stretchBytes}
+
+-- "M u16, τ u16, n u8, zero u8, h* (32): 38 bytes"
+unfoldable pub headerOf : ℕ → ℕ → ℕ → List ℕ → List ℕ
+headerOf M tau n hstar = leBytes 2 M ++ leBytes 2 tau ++ (n ∷ 0 ∷ []) ++ hstar
+
+abbrev pub headerM : List ℕ → ℕ
+headerM proof = leAt 2 proof 0
+
+abbrev pub headerTau : List ℕ → ℕ
+headerTau proof = leAt 2 proof 2
+
+abbrev pub headerN : List ℕ → ℕ
+headerN proof = getD proof 4 0
+
+abbrev pub headerZero : List ℕ → ℕ
+headerZero proof = getD proof 5 0
+
+abbrev pub headerHstar : List ℕ → List ℕ
+headerHstar proof = take 32 (drop 6 proof)
+
+-- refusal 11: "a header under 38 bytes, out of limits or with its zero byte not 0"
+unfoldable pub goodHeader : List ℕ → Bool
+goodHeader proof =
+    leb 38 (length proof) && (areCounts (headerM proof) (headerTau proof) && (isPartyCount (headerN proof) && eqb (headerZero proof) 0))
+
+-- where the stretch of instance j starts: after the header and the stretches before it
+unfoldable pub stretchStart : Circuit → ℕ → (ℕ → Asked) → ℕ → ℕ
+stretchStart c n ask zero = 38
+stretchStart c n ask (suc j) = stretchStart c n ask j + stretchBytes c n (ask j)
+
+-- the length of a proof of M instances
+abbrev pub proofBytes : Circuit → ℕ → ℕ → (ℕ → Asked) → ℕ
+proofBytes c M n ask = stretchStart c n ask M
+
+-- the stretch of instance j
+unfoldable pub stretchAt : Circuit → ℕ → (ℕ → Asked) → List ℕ → ℕ → List ℕ
+stretchAt c n ask proof j = take (stretchBytes c n (ask j)) (drop (stretchStart c n ask j) proof)
+
+-- "the proof buffer must hold 38 + 48(M−τ) + τ(16·log2 n + oct(A) + 32 + oct(I) + oct(A+O)) or more"
+unfoldable pub proofRoom : Circuit → ℕ → ℕ → ℕ → ℕ
+proofRoom c M tau n =
+    38 + 48 * (M - tau) + tau * (16 * heightOf n + oct (andsOf c) + 32 + oct (c .inputs) + oct (andsOf c + length (c .outputs)))

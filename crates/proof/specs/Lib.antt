@@ -1,0 +1,5 @@
+pub mod Protocol
+pub mod File
+pub mod Prove
+pub mod Check
+pub mod Theorems

@@ -1,0 +1,39 @@
+-- The three-move protocol (source document 001, Figure 2), with the challenge drawn from the first message.
+-- Assumes nothing.
+use mathlib.Core.Bool.{cond}
+use mathlib.Core.List.{List, [], _∷_, flatten}
+use Prim.Native.Nat.{ℕ}
+use lib.Dec.{eqb}
+use Rattle.bits.specs.Bits.{tabulate}
+use Rattle.keccak.specs.Sponge.{sha3-256}
+use Rattle.circuit.specs.Circuit.{Circuit}
+use Rattle.seeds.specs.Inputs.{allCommitmentsInput, allOnlineInput}
+use Rattle.seeds.specs.Derive.{masterOf}
+use Rattle.seeds.specs.Digest.{transcriptOf}
+use Rattle.seeds.specs.Challenge.{streamOf, instances, hiddenParties}
+use Rattle.instance.specs.Instance.{Asked, opened, hiding, masterCommitments, masterOnline, stretchOf}
+
+-- "9: h over (9, all h_j). 10: h' over (10, all h'_j). 11: h* over (11, h, h')", of M instances
+unfoldable pub hstarOf : ℕ → (ℕ → List ℕ) → (ℕ → List ℕ) → List ℕ
+hstarOf M commitments online =
+    transcriptOf (sha3-256 (allCommitmentsInput (flatten (tabulate M commitments)))) (sha3-256 (allOnlineInput (flatten (tabulate M online))))
+
+-- Round 1: the first message, from the root
+unfoldable pub firstMessage : Circuit → ℕ → ℕ → List ℕ → List ℕ → List ℕ
+firstMessage c M n witness root =
+    hstarOf M (λ j. masterCommitments c n j (masterOf j root)) (λ j. masterOnline c n j witness (masterOf j root))
+
+-- what is asked of instance j, where the instances is are chosen and hide the parties ps
+unfoldable pub asked : List ℕ → List ℕ → ℕ → Asked
+asked [] ps j = opened
+asked (i ∷ is) [] j = opened
+asked (i ∷ is) (p ∷ ps) j = cond (eqb i j) (hiding p) (asked is ps j)
+
+-- Round 2: the challenge, from the first message and the message to be signed
+unfoldable pub challenged : ℕ → ℕ → ℕ → List ℕ → List ℕ → ℕ → Asked
+challenged M tau n hstar message =
+    asked (instances M tau (streamOf tau hstar message)) (hiddenParties tau n (streamOf tau hstar message))
+
+-- Round 3: the response
+unfoldable pub responseOf : Circuit → ℕ → ℕ → List ℕ → List ℕ → (ℕ → Asked) → List ℕ
+responseOf c M n witness root ask = flatten (tabulate M (λ j. stretchOf c n j witness (masterOf j root) (ask j)))

@@ -1,0 +1,48 @@
+-- The operation prove: answer and buffer (document 01, "Prove").
+-- Assumes nothing.
+use mathlib.Core.Bool.{Bool, _&&_}
+use mathlib.Core.List.{List, [], _∷_, _++_}
+use Prim.Native.Nat.{ℕ}
+use lib.Dec.{eqb, leb}
+use lib.ListN.{length, drop}
+use Rattle.bits.specs.Bits.{pack, bitAt, unusedZero}
+use Rattle.bits.specs.Bytes.{sameBytes}
+use Rattle.parties.specs.Parties.{isPartyCount}
+use Rattle.circuit.specs.Circuit.{Circuit, evaluate}
+use Rattle.circuit.specs.File.{readCircuit}
+use Rattle.circuit.specs.Operations.{success}
+use Rattle.mpc.specs.Operations.{Outcome, unless, onLegal, holds}
+use Rattle.seeds.specs.Operations.{areCounts}
+use Rattle.proof.specs.Protocol.{firstMessage, challenged, responseOf}
+use Rattle.proof.specs.File.{headerOf, proofRoom}
+
+-- the proof: the header with the first message, and the response to its challenge
+unfoldable pub proofOf : Circuit → ℕ → ℕ → ℕ → List ℕ → List ℕ → List ℕ → List ℕ
+proofOf c M tau n witness message root =
+    let hstar : List ℕ = firstMessage c M n witness root in
+    headerOf M tau n hstar ++ responseOf c M n witness root (challenged M tau n hstar message)
+
+-- the witness gives y
+unfoldable pub witnesses : Circuit → List ℕ → List ℕ → Bool
+witnesses c witness y = sameBytes (pack (evaluate c (bitAt witness))) y
+
+-- "Success gives the length written; bytes beyond it stay."
+unfoldable pub written : List ℕ → List ℕ → Outcome
+written proof buffer = record { answer = success (length proof ∷ []); left = (proof ++ drop (length proof) buffer) ∷ [] }
+
+-- "8 for M, τ, n; 6 ..; 7; 10 if the witness does not give y"
+unfoldable pub proveLegal : List ℕ → List ℕ → List ℕ → List ℕ → ℕ → ℕ → ℕ → List ℕ → Circuit → Outcome
+proveLegal witness y message root M tau n buffer c =
+    let lent : List (List ℕ) = buffer ∷ [] in
+    unless (areCounts M tau && isPartyCount n) 8 lent
+    (unless
+    (holds (c .inputs) witness && holds (length (c .outputs)) y && leb (length message) 4096 && eqb (length root) 16
+    && leb (proofRoom c M tau n) (length buffer))
+    6 lent
+    (unless (unusedZero (c .inputs) witness && unusedZero (length (c .outputs)) y) 7 lent
+    (unless (witnesses c witness y) 10 lent (written (proofOf c M tau n witness message root) buffer))))
+
+-- "Prove: 1 to 5", then these
+unfoldable pub proveOp : List ℕ → List ℕ → List ℕ → List ℕ → List ℕ → ℕ → ℕ → ℕ → List ℕ → Outcome
+proveOp s witness y message root M tau n buffer =
+    onLegal (readCircuit s) (buffer ∷ []) (proveLegal witness y message root M tau n buffer)

@@ -1,0 +1,1 @@
+// The proof file: the definitions of prove and check.
