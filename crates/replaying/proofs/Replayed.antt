@@ -74,6 +74,15 @@ values-length z e = e ∙ length-replicate {A = ℕ} 4096 0
 pub values-room : 4096 ≤ length (replicate {A = ℕ} 4096 0)
 values-room = omega (arith, length-replicate {A = ℕ} 4096 0)
 
+-- the rows packed where good
+module _ (good : Bool) (w : ℕ) (m : List ℕ) (n said : ℕ) (rows : List ℕ) where
+  pub packed-good : good ≡ true → (len : ℕ) (x : List ℕ) → len ≡ oct said → x ≡ packedRows w m n said len
+      → x ≡ cond good (packedRows w m n said (oct said)) rows
+  packed-good t len x e z = z ∙ ap (packedRows w m n said) e ∙ sym (ap (λ (j : Bool). cond j (packedRows w m n said (oct said)) rows) t)
+
+  pub packed-not : good ≡ false → rows ≡ cond good (packedRows w m n said (oct said)) rows
+  packed-not t = sym (ap (λ (j : Bool). cond j (packedRows w m n said (oct said)) rows) t)
+
 -- what the unpacking into a work memory m asks
 module _ (s : List ℕ) (i o g a : ℕ) (k : Known s i o g a) (n : ℕ) (parties : Parties n) (m : List ℕ) (large : 64 * (i + g) + 4096 ≤ length m) where
   pub corrections-fit : (corr : List ℕ) → length corr ≡ oct a
@@ -135,20 +144,20 @@ module _ (s : List ℕ) (i o g a h n len p : ℕ) (tapes corr masked row m0 m1 m
       ap (λ (x : List ℕ). packed x 0 o (oct o)) (v ∙ ap (λ (m : List ℕ). outputValues (i + g) n p a s o m (replicate 4096 0)) walked-right)
       ∙ replay-output-agrees s i o g a h n (length m0) (k .legal) q (k .ands) (b .parties .some) (b .parties .few) (b .room) tapes p corr masked row hp unused
 
-  -- the output differs from y, and is y
-  module _ (values y : List ℕ) (r : Bool) (v : values ≡ outputValues (i + g) n p a s o m5 (replicate 4096 0)) (t : r ≡ sameBytes (packed values 0 o (oct o)) y) where
-    pub output-differs : not r ≡ true → false ≡ sameBytes (pack (again .output)) y
-    output-differs z = sym (fell _ r (t ∙ ap (λ (x : List ℕ). sameBytes x y) (output-right values v)) z)
-
-    pub output-same : not r ≡ false → true ≡ sameBytes (pack (again .output)) y
-    output-same z = sym (held _ r (t ∙ ap (λ (x : List ℕ). sameBytes x y) (output-right values v)) z)
-
   -- the rows
-  pub rows-right : (m6 x : List ℕ) (size : ℕ) → m6 ≡ spoken (i + g) n p a s o m5 → size ≡ oct (a + o) → x ≡ packedRows (i + g) m6 n (a + o) size → x ≡ rowsOf n again
+  rows-right : (m6 : List ℕ) → m6 ≡ spoken (i + g) n p a s o m5 → packedRows (i + g) m6 n (a + o) (oct (a + o)) ≡ rowsOf n again
   unfolding replayOf
-  rows-right m6 x size e6 e z =
-      z ∙ ap₂ (λ (m : List ℕ) (j : ℕ). packedRows (i + g) m n (a + o) j) (e6 ∙ ap (spoken (i + g) n p a s o) walked-right) e
+  rows-right m6 e6 =
+      ap (λ (m : List ℕ). packedRows (i + g) m n (a + o) (oct (a + o))) (e6 ∙ ap (spoken (i + g) n p a s o) walked-right)
       ∙ replay-rows-agree s i o g a h n (length m0) (k .legal) q (k .ands) (b .parties .some) (b .parties .few) (b .room) tapes p corr masked row hp unused
+
+  -- the answer, and the rows x that are left
+  pub replayed-right : (values y m6 x rows : List ℕ) (r : Bool) → values ≡ outputValues (i + g) n p a s o m5 (replicate 4096 0)
+      → r ≡ sameBytes (packed values 0 o (oct o)) y → m6 ≡ spoken (i + g) n p a s o m5
+      → x ≡ cond r (packedRows (i + g) m6 n (a + o) (oct (a + o))) rows
+      → (r ≡ sameBytes (pack (again .output)) y) × (x ≡ cond r (rowsOf n again) rows)
+  replayed-right values y m6 x rows r v t e6 z =
+      (t ∙ ap (λ (j : List ℕ). sameBytes j y) (output-right values v), z ∙ ap (λ (j : List ℕ). cond r j rows) (rows-right m6 e6))
 
 -- the lengths in the numbers that the code carries
 abbrev lengthsHold : ℕ → ℕ → ℕ → ℕ → List ℕ → List ℕ → List ℕ → List ℕ → List ℕ → List ℕ → Bool

@@ -8,7 +8,8 @@ ghost use lib.ListN.{length};
 ghost use Rattle.bits.specs.Bits.{oct, pack, unusedZero};
 ghost use Rattle.bits.specs.Bytes.{sameBytes};
 ghost use Rattle.circuit.specs.File.{circuitOf};
-ghost use Rattle.engine.specs.Memory.{packed};
+ghost use Rattle.engine.specs.Fits.{Room};
+ghost use Rattle.engine.specs.Memory.{packed, packedRows};
 ghost use Rattle.mpc.specs.Showing.{rowsOf, replayOf};
 ghost use Rattle.mpc.specs.Operations.{unusedShowing, replayLegal, replayOp};
 ghost use Rattle.mpc.specs.Answers.{outcome};
@@ -38,6 +39,16 @@ pub fn outputs_are(values: &[u8], outputs: usize, y: &[u8]) -> bool
     let size = bits::oct(outputs);
     pack(values, 0, outputs, &mut out[..size]);
     bits::same(&out[..size], y)
+}
+
+// Packs the broadcast rows of n parties where good; else leaves them as they were.
+fn pack_if(good: bool, memory: &[u8], wires: usize, n: usize, said: usize, rows: &mut [u8])
+    requires { ⌜ Room wires n (now memory) × ((said ≤ wires + 256) × (length (now rows) ≡ n * oct said)) ⌝ }
+    ensures { λ _. ⌜ now (rows .exit) ≡ cond good (packedRows wires (now (memory .entry)) n said (oct said)) (now (rows .entry)) ⌝ }
+{
+    if good {
+        pack_rows(memory, wires, n, said, bits::oct(said), rows);
+    }
 }
 
 // Replays in a work memory. Where the output is y, fills the rows and answers true; else answers false.
@@ -71,11 +82,9 @@ fn replay_in(
     walk(s, inputs, outputs, gates, head, n, p, false, memory);
     let mut values = [0u8; 4096];
     speak(s, inputs, outputs, gates, ands, n, p, memory, &mut values);
-    if !outputs_are(&values, outputs, y) {
-        return false;
-    }
-    pack_rows(memory, wires, n, said, bits::oct(said), rows);
-    true
+    let good = outputs_are(&values, outputs, y);
+    pack_if(good, memory, wires, n, said, rows);
+    good
 }
 
 // The same with a work memory of its own.

@@ -4,7 +4,7 @@ use mathlib.Core.Path.{refl, sym, ap, _∙_}
 use native.Mathlib.Omega.{arith}
 use Prim.Native.Nat.{ℕ, _*_}
 use Rattle.mpc.proofs.Opened.{ands-low, room, ready, ended}
-use Rattle.replaying.proofs.Replayed.{corrections-fit, row-fits, masked-fit, values-length, values-room, output-differs, output-same, rows-right}
+use Rattle.replaying.proofs.Replayed.{corrections-fit, row-fits, masked-fit, values-length, values-room, replayed-right}
 use Rattle.replaying.proofs.replay_in.Statement.{statement}
 use Rattle.replaying.proofs.replay_in.Tie as tie
 
@@ -103,99 +103,46 @@ outputs-are-requires c κs =
     let f = c .before .before .before .before .before .before .before .before .before .before .before .before .before .before .before .before .before .before .before .before .before .before .before .before .before .before .before .before .before .before .before .before .before .before .before .before .before .pre .0 .legal .laid .few-outputs in
     (f, omega (arith, f, values-length (c .before .before .before .before .speak .last .1 .1 .1 .1 .1 .1 .1 .1 .0) (c .before .before .before .before .speak .kept .1 .1 .1 .1 .1 .1 .1 .1 .0)))
 
+pack-if-requires : tie.Need-pack-if-requires
+pack-if-requires c κs =
+    let p = c .before .before .before .before .before .before .before .before .before .before .before .before .before .before .before .before .before .before .before .before .before .before .before .before .before .before .before .before .before .before .before .before .before .before .before .before .before .before .before .before .pre in
+    let a = ands-low _ _ _ _ _ (p .0) in
+    let l = p .0 .legal .laid in
+    let k6 = c .before .before .before .before .before .before .before .speak .kept .1 .1 .1 .1 .1 .1 .1 .0 ∙ c .before .before .before .before .before .before .before .before .before .before .before .before .walk .kept .1 .1 .1 .1 .1 .1 .1 .1 .0 ∙ c .before .before .before .before .before .before .before .before .before .before .before .before .before .before .before .before .unpack3 .kept .1 .1 .1 .0 ∙ c .before .before .before .before .before .before .before .before .before .before .before .before .before .before .before .before .before .before .before .before .unpack2 .kept .1 .1 .1 .0 ∙ c .before .before .before .before .before .before .before .before .before .before .before .before .before .before .before .before .before .before .before .before .before .before .before .before .unpack .kept .1 .1 .1 .0 ∙ c .before .before .before .before .before .before .before .before .before .before .before .before .before .before .before .before .before .before .before .before .before .before .before .before .before .before .before .before .load-tapes .kept .1 .1 .1 .1 .1 .1 .0 in
+    (room _ _ _ _ _ (p .0) _ _ (p .1 .0 .parties) (omega (arith, k6, p .1 .0 .room)), (omega (arith, a, l .few-outputs), p .1 .1 .1 .1 .1))
+
 same-length : tie.Need-same-length
-same-length c =
-    c .before .before .before .before .before .before .speak .kept .1 .1 .1 .1 .1 .1 .1 .0 ∙ c .before .before .before .before .before .before .before .before .before .before .before .walk .kept .1 .1 .1 .1 .1 .1 .1 .1 .0 ∙ c .before .before .before .before .before .before .before .before .before .before .before .before .before .before .before .unpack3 .kept .1 .1 .1 .0 ∙ c .before .before .before .before .before .before .before .before .before .before .before .before .before .before .before .before .before .before .before .unpack2 .kept .1 .1 .1 .0
-    ∙ c .before .before .before .before .before .before .before .before .before .before .before .before .before .before .before .before .before .before .before .before .before .before .before .unpack .kept .1 .1 .1 .0 ∙ c .before .before .before .before .before .before .before .before .before .before .before .before .before .before .before .before .before .before .before .before .before .before .before .before .before .before .before .load-tapes .kept .1 .1 .1 .1 .1 .1 .0
+same-length c = c .before .before .pack-if .kept .1 .1 .1 .1 .1 .0
+
+same-length-2 : tie.Need-same-length-2
+same-length-2 c =
+    c .before .before .before .before .before .before .before .before .before .before .speak .kept .1 .1 .1 .1 .1 .1 .1 .0 ∙ c .before .before .before .before .before .before .before .before .before .before .before .before .before .before .before .walk .kept .1 .1 .1 .1 .1 .1 .1 .1 .0 ∙ c .before .before .before .before .before .before .before .before .before .before .before .before .before .before .before .before .before .before .before .unpack3 .kept .1 .1 .1 .0 ∙ c .before .before .before .before .before .before .before .before .before .before .before .before .before .before .before .before .before .before .before .before .before .before .before .unpack2 .kept .1 .1 .1 .0 ∙ c .before .before .before .before .before .before .before .before .before .before .before .before .before .before .before .before .before .before .before .before .before .before .before .before .before .before .before .unpack .kept .1 .1 .1 .0 ∙ c .before .before .before .before .before .before .before .before .before .before .before .before .before .before .before .before .before .before .before .before .before .before .before .before .before .before .before .before .before .before .before .load-tapes .kept .1 .1 .1 .1 .1 .1 .0
 
 returns : tie.Need-returns
 returns c =
-    let x = c .before .before .before .before .before .before .before .before .before .before .before .before .before .before .before .before .before .before .before .before .before .before .before .before .before .before .before .before .before .before .before .before .before .before .before .before .before .before .before .args in
-    let p = c .before .before .before .before .before .before .before .before .before .before .before .before .before .before .before .before .before .before .before .before .before .before .before .before .before .before .before .before .before .before .before .before .before .before .before .before .before .before .before .pre in (
-      output-differs _ _ _ _ _ _ _ _ _ (x .tapes .now) (x .corrections .now) (x .masked .now) (x .row .now) (x .memory .now) _ _ _ _ _ (p .0)
-          (c .before .before .before .before .before .before .before .before .before .before .before .before .before .before .before .before .before .before .before .before .before .before .before .before .before .before .before .before .before .before .read-u16 .ensures)
-          (p .1 .0)
-          (p .1 .1 .0)
-          (p .1 .1 .1 .0)
-          (c .before .before .before .before .before .before .before .before .before .before .before .before .before .before .before .before .before .before .before .before .before .before .before .before .before .before .before .before .before .oct .ensures)
-          (c .before .before .before .before .before .before .before .before .before .before .before .before .before .before .before .before .before .before .before .before .before .before .before .before .before .before .before .load-tapes .ensures)
-          (c .before .before .before .before .before .before .before .before .before .before .before .before .before .before .before .before .before .before .before .before .before .before .before .unpack .ensures)
-          (c .before .before .before .before .before .before .before .before .before .before .before .before .before .before .before .before .before .before .before .unpack2 .ensures)
-          (c .before .before .before .before .before .before .before .before .before .before .before .before .before .before .before .unpack3 .ensures)
-          (c .before .before .before .before .before .before .before .before .before .before .before .walk .ensures)
-          _
-          (x .y .now)
-          _
-          (c .before .before .before .before .before .before .speak .ensures .1)
-          (c .before .outputs-are .ensures)
-          (c .if1 .taken),
-      refl,
-    )
-
-oct-requires-2 : tie.Need-oct-requires-2
-oct-requires-2 c κs = tt
-
-pack-rows-requires : tie.Need-pack-rows-requires
-pack-rows-requires c κs =
-    let x = c .before .before .before .before .before .before .before .before .before .before .before .before .before .before .before .before .before .before .before .before .before .before .before .before .before .before .before .before .before .before .before .before .before .before .before .before .before .before .before .before .before .before .args in
-    let p = c .before .before .before .before .before .before .before .before .before .before .before .before .before .before .before .before .before .before .before .before .before .before .before .before .before .before .before .before .before .before .before .before .before .before .before .before .before .before .before .before .before .before .pre in
-    let a = ands-low _ _ _ _ _ (p .0) in
-    let l = p .0 .legal .laid in
-    let k6 = c .before .before .before .before .before .before .before .before .before .speak .kept .1 .1 .1 .1 .1 .1 .1 .0 ∙ c .before .before .before .before .before .before .before .before .before .before .before .before .before .before .walk .kept .1 .1 .1 .1 .1 .1 .1 .1 .0 ∙ c .before .before .before .before .before .before .before .before .before .before .before .before .before .before .before .before .before .before .unpack3 .kept .1 .1 .1 .0 ∙ c .before .before .before .before .before .before .before .before .before .before .before .before .before .before .before .before .before .before .before .before .before .before .unpack2 .kept .1 .1 .1 .0 ∙ c .before .before .before .before .before .before .before .before .before .before .before .before .before .before .before .before .before .before .before .before .before .before .before .before .before .before .unpack .kept .1 .1 .1 .0 ∙ c .before .before .before .before .before .before .before .before .before .before .before .before .before .before .before .before .before .before .before .before .before .before .before .before .before .before .before .before .before .before .load-tapes .kept .1 .1 .1 .1 .1 .1 .0 in (
-      room _ _ _ _ _ (p .0) _ _ (p .1 .0 .parties) (omega (arith, k6, p .1 .0 .room)),
-      (
-        omega (arith, a, l .few-outputs),
-        (omega (arith, c .before .oct2 .ensures, a, l .few-outputs, l .few-gates), p .1 .1 .1 .1 .1 ∙ ap (λ (k : ℕ). x .n * k) (sym (c .before .oct2 .ensures))),
-      ),
-    )
-
-same-length-2 : tie.Need-same-length-2
-same-length-2 c = c .before .before .pack-rows .kept .1 .1 .1 .1 .1 .0
-
-same-length-3 : tie.Need-same-length-3
-same-length-3 c =
-    c .before .before .before .before .before .before .before .before .before .before .before .before .speak .kept .1 .1 .1 .1 .1 .1 .1 .0 ∙ c .before .before .before .before .before .before .before .before .before .before .before .before .before .before .before .before .before .walk .kept .1 .1 .1 .1 .1 .1 .1 .1 .0 ∙ c .before .before .before .before .before .before .before .before .before .before .before .before .before .before .before .before .before .before .before .before .before .unpack3 .kept .1 .1 .1 .0 ∙ c .before .before .before .before .before .before .before .before .before .before .before .before .before .before .before .before .before .before .before .before .before .before .before .before .before .unpack2 .kept .1 .1 .1 .0
-    ∙ c .before .before .before .before .before .before .before .before .before .before .before .before .before .before .before .before .before .before .before .before .before .before .before .before .before .before .before .before .before .unpack .kept .1 .1 .1 .0 ∙ c .before .before .before .before .before .before .before .before .before .before .before .before .before .before .before .before .before .before .before .before .before .before .before .before .before .before .before .before .before .before .before .before .before .load-tapes .kept .1 .1 .1 .1 .1 .1 .0
-
-returns-2 : tie.Need-returns-2
-returns-2 c =
-    let x = c .before .before .before .before .before .before .before .before .before .before .before .before .before .before .before .before .before .before .before .before .before .before .before .before .before .before .before .before .before .before .before .before .before .before .before .before .before .before .before .before .before .before .before .before .before .args in
-    let p = c .before .before .before .before .before .before .before .before .before .before .before .before .before .before .before .before .before .before .before .before .before .before .before .before .before .before .before .before .before .before .before .before .before .before .before .before .before .before .before .before .before .before .before .before .before .pre in (
-      output-same _ _ _ _ _ _ _ _ _ (x .tapes .now) (x .corrections .now) (x .masked .now) (x .row .now) (x .memory .now) _ _ _ _ _ (p .0)
-          (c .before .before .before .before .before .before .before .before .before .before .before .before .before .before .before .before .before .before .before .before .before .before .before .before .before .before .before .before .before .before .before .before .before .before .before .before .read-u16 .ensures)
-          (p .1 .0)
-          (p .1 .1 .0)
-          (p .1 .1 .1 .0)
-          (c .before .before .before .before .before .before .before .before .before .before .before .before .before .before .before .before .before .before .before .before .before .before .before .before .before .before .before .before .before .before .before .before .before .before .before .oct .ensures)
-          (c .before .before .before .before .before .before .before .before .before .before .before .before .before .before .before .before .before .before .before .before .before .before .before .before .before .before .before .before .before .before .before .before .before .load-tapes .ensures)
-          (c .before .before .before .before .before .before .before .before .before .before .before .before .before .before .before .before .before .before .before .before .before .before .before .before .before .before .before .before .before .unpack .ensures)
-          (c .before .before .before .before .before .before .before .before .before .before .before .before .before .before .before .before .before .before .before .before .before .before .before .before .before .unpack2 .ensures)
-          (c .before .before .before .before .before .before .before .before .before .before .before .before .before .before .before .before .before .before .before .before .before .unpack3 .ensures)
-          (c .before .before .before .before .before .before .before .before .before .before .before .before .before .before .before .before .before .walk .ensures)
-          _
-          (x .y .now)
-          _
-          (c .before .before .before .before .before .before .before .before .before .before .before .before .speak .ensures .1)
-          (c .before .before .before .before .before .before .before .outputs-are .ensures)
-          (c .before .before .before .before .before .before .if1 .left),
-      rows-right _ _ _ _ _ _ _ _ _ (x .tapes .now) (x .corrections .now) (x .masked .now) (x .row .now) (x .memory .now) _ _ _ _ _ (p .0)
-          (c .before .before .before .before .before .before .before .before .before .before .before .before .before .before .before .before .before .before .before .before .before .before .before .before .before .before .before .before .before .before .before .before .before .before .before .before .read-u16 .ensures)
-          (p .1 .0)
-          (p .1 .1 .0)
-          (p .1 .1 .1 .0)
-          (c .before .before .before .before .before .before .before .before .before .before .before .before .before .before .before .before .before .before .before .before .before .before .before .before .before .before .before .before .before .before .before .before .before .before .before .oct .ensures)
-          (c .before .before .before .before .before .before .before .before .before .before .before .before .before .before .before .before .before .before .before .before .before .before .before .before .before .before .before .before .before .before .before .before .before .load-tapes .ensures)
-          (c .before .before .before .before .before .before .before .before .before .before .before .before .before .before .before .before .before .before .before .before .before .before .before .before .before .before .before .before .before .unpack .ensures)
-          (c .before .before .before .before .before .before .before .before .before .before .before .before .before .before .before .before .before .before .before .before .before .before .before .before .before .unpack2 .ensures)
-          (c .before .before .before .before .before .before .before .before .before .before .before .before .before .before .before .before .before .before .before .before .before .unpack3 .ensures)
-          (c .before .before .before .before .before .before .before .before .before .before .before .before .before .before .before .before .before .walk .ensures)
-          _
-          _
-          _
-          (c .before .before .before .before .before .before .before .before .before .before .before .before .speak .ensures .0)
-          (c .before .before .before .before .oct2 .ensures)
-          (c .before .before .pack-rows .ensures),
-    )
+    let x = c .before .before .before .before .before .before .before .before .before .before .before .before .before .before .before .before .before .before .before .before .before .before .before .before .before .before .before .before .before .before .before .before .before .before .before .before .before .before .before .before .before .before .before .args in
+    let p = c .before .before .before .before .before .before .before .before .before .before .before .before .before .before .before .before .before .before .before .before .before .before .before .before .before .before .before .before .before .before .before .before .before .before .before .before .before .before .before .before .before .before .before .pre in
+    replayed-right _ _ _ _ _ _ _ _ _ (x .tapes .now) (x .corrections .now) (x .masked .now) (x .row .now) (x .memory .now) _ _ _ _ _ (p .0)
+    (c .before .before .before .before .before .before .before .before .before .before .before .before .before .before .before .before .before .before .before .before .before .before .before .before .before .before .before .before .before .before .before .before .before .before .read-u16 .ensures)
+    (p .1 .0)
+    (p .1 .1 .0)
+    (p .1 .1 .1 .0)
+    (c .before .before .before .before .before .before .before .before .before .before .before .before .before .before .before .before .before .before .before .before .before .before .before .before .before .before .before .before .before .before .before .before .before .oct .ensures)
+    (c .before .before .before .before .before .before .before .before .before .before .before .before .before .before .before .before .before .before .before .before .before .before .before .before .before .before .before .before .before .before .before .load-tapes .ensures)
+    (c .before .before .before .before .before .before .before .before .before .before .before .before .before .before .before .before .before .before .before .before .before .before .before .before .before .before .before .unpack .ensures)
+    (c .before .before .before .before .before .before .before .before .before .before .before .before .before .before .before .before .before .before .before .before .before .before .before .unpack2 .ensures)
+    (c .before .before .before .before .before .before .before .before .before .before .before .before .before .before .before .before .before .before .before .unpack3 .ensures)
+    (c .before .before .before .before .before .before .before .before .before .before .before .before .before .before .before .walk .ensures)
+    _
+    (x .y .now)
+    _
+    _
+    (x .rows .now)
+    _
+    (c .before .before .before .before .before .before .before .before .before .before .speak .ensures .1)
+    (c .before .before .before .before .before .outputs-are .ensures)
+    (c .before .before .before .before .before .before .before .before .before .before .speak .ensures .0)
+    (c .before .before .pack-if .ensures)
 
 pub replay-in-spec : {M : Type 1} → statement M
 replay-in-spec =
@@ -223,10 +170,7 @@ replay-in-spec =
     speak-requires
     slice-aggregate-outputs-are
     outputs-are-requires
+    pack-if-requires
     same-length
-    returns
-    oct-requires-2
-    pack-rows-requires
     same-length-2
-    same-length-3
-    returns-2)
+    returns)
