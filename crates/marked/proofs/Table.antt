@@ -20,7 +20,10 @@ use Rattle.mpc.specs.Run.{corrections, corrected, says, outputs, run}
 use Rattle.mpc.specs.Tapes.{inputMasks, outputMasks, productShares, usedBits, unusedRows, withRow}
 use Rattle.mpc.specs.Showing.{correctionBits, maskedInput, maskedInputs, runWith, runOn, honestRun, rowBits, rowsOf, shownBits, firstBits, showing}
 use Rattle.mpc.specs.Operations.{Outcome, prepareLegal, prepareOp, ran, runLegal, runOp, holdsShowing, showLegal, showOp}
-use Rattle.marked.specs.Marked.{Case, reading, working, Right, sameAnswer, sameBuffers, sameOutcome, holds, cases}
+use Rattle.instance.specs.Stretch.{correctionBytes, stretchBytes}
+use Rattle.proof.specs.Protocol.{asked}
+use Rattle.proof.specs.File.{stretchStart}
+use Rattle.marked.specs.Marked.{Case, reading, working, counting, Right, sameAnswer, sameBuffers, sameOutcome, holds, cases}
 
 -- answers that pass the test are equal
 same-answer : (a b : Answer) → sameAnswer a b ≡ true → a ≡ b
@@ -53,6 +56,7 @@ row-right : (c : Case) → holds c ≡ true → Right c
 unfolding holds Right
 row-right (reading file answer) t = same-answer (readOp file) answer t
 row-right (working a b) t = same-outcome a b t
+row-right (counting a b) t = same-eq a b t
 
 -- all rows of a table pass
 every : List Case → Bool
@@ -71,7 +75,7 @@ every-row (d ∷ cs) t c m =
 
 -- the marked cases pass
 table-passes : every cases ≡ true
-unfolding every holds sameAnswer sameBuffers sameOutcome sameBytes flatten odd testBit fromBits bitAt pack none unusedZero rowOf xors heightOf isPartyCount corrections corrected says outputs run inputMasks outputMasks productShares usedBits unusedRows withRow correctionBits maskedInput maskedInputs runWith runOn honestRun rowBits rowsOf shownBits firstBits showing prepareLegal prepareOp ran runLegal runOp holdsShowing showLegal showOp leAt put ands withinLimits rightLength goodRecord goodRecords walks goodChain chainFrom gateAt gatesInOrder readsWritten goodOutputs goodWires circuitOf readCircuit readAnswer readOp
+unfolding every holds sameAnswer sameBuffers sameOutcome sameBytes flatten odd testBit fromBits bitAt pack none unusedZero rowOf xors heightOf isPartyCount corrections corrected says outputs run inputMasks outputMasks productShares usedBits unusedRows withRow correctionBits maskedInput maskedInputs runWith runOn honestRun rowBits rowsOf shownBits firstBits showing prepareLegal prepareOp ran runLegal runOp holdsShowing showLegal showOp leAt put ands withinLimits rightLength goodRecord goodRecords walks goodChain chainFrom gateAt gatesInOrder readsWritten goodOutputs goodWires circuitOf readCircuit readAnswer readOp correctionBytes stretchBytes asked stretchStart
 table-passes = refl
 
 -- every marked case is right

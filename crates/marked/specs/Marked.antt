@@ -6,20 +6,26 @@ use mathlib.Core.List.{List, [], _∷_}
 use Prim.Native.Nat.{ℕ}
 use lib.Dec.{eqb}
 use lib.ListN.{set}
+use Rattle.bits.specs.Bits.{tabulate}
 use Rattle.bits.specs.Bytes.{sameBytes}
+use Rattle.circuit.specs.File.{circuitOf}
 use Rattle.circuit.specs.Operations.{Answer, refusal, success, readOp}
 use Rattle.mpc.specs.Showing.{Showing}
 use Rattle.mpc.specs.Operations.{Outcome, done, prepareOp, runOp, showOp}
+use Rattle.proof.specs.Protocol.{asked}
+use Rattle.proof.specs.File.{proofBytes}
 
--- a row: reading a circuit file, and its answer; an operation's outcome, and what it is
+-- a row: reading a circuit file, and its answer; an operation's outcome, and what it is; numbers, and what they are
 pub data Case : Type 0 where
   reading : List ℕ → Answer → Case
   working : Outcome → Outcome → Case
+  counting : List ℕ → List ℕ → Case
 
 -- what a row says
 unfoldable pub Right : Case → Type 0
 Right (reading file answer) = readOp file ≡ answer
 Right (working a b) = a ≡ b
+Right (counting a b) = a ≡ b
 
 -- whether two answers are the same
 unfoldable pub sameAnswer : Answer → Answer → Bool
@@ -43,6 +49,7 @@ sameOutcome a b = sameAnswer (a .answer) (b .answer) && sameBuffers (a .left) (b
 unfoldable pub holds : Case → Bool
 holds (reading file answer) = sameAnswer (readOp file) answer
 holds (working a b) = sameOutcome a b
+holds (counting a b) = sameBytes a b
 
 -- "Circuit K, hexadecimal: 02 00 01 00 01 00 01 00 02 00 02 00 00 00 01 00 00 00"
 abbrev pub circuitK : List ℕ
@@ -104,6 +111,17 @@ m8Shown = working (showOp circuitK 2 0 1 (1 ∷ []) tapes lent) shown
 abbrev pub m9 : Case
 m9 = working (showOp circuitK 2 0 1 (2 ∷ []) (14 ∷ 3 ∷ []) lent) shown
 
+-- the bytes of a proof of K with M = 4, n = 2 and one chosen instance, which hides p: for each instance that it can be
+abbrev pub proofSizes : ℕ → List ℕ
+proofSizes p = tabulate 4 (λ i. proofBytes (circuitOf circuitK) 4 2 (asked (i ∷ []) (p ∷ [])))
+
+-- "m10 M = 4, τ = 1, n = 2: 233 bytes if p = 0, 232 if p = 1"
+abbrev pub m10First : Case
+m10First = counting (proofSizes 0) (233 ∷ 233 ∷ 233 ∷ 233 ∷ [])
+
+abbrev pub m10Last : Case
+m10Last = counting (proofSizes 1) (232 ∷ 232 ∷ 232 ∷ 232 ∷ [])
+
 -- the table
 abbrev pub cases : List Case
-cases = m1 ∷ m2 ∷ m3 ∷ m4 ∷ m5 ∷ m6 ∷ m7 ∷ m8 ∷ m8Shown ∷ m9 ∷ []
+cases = m1 ∷ m2 ∷ m3 ∷ m4 ∷ m5 ∷ m6 ∷ m7 ∷ m8 ∷ m8Shown ∷ m9 ∷ m10First ∷ m10Last ∷ []

@@ -1,0 +1,4 @@
+pub mod Choices
+pub mod Sizes
+pub mod Askings
+pub mod Digests

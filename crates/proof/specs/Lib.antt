@@ -2,4 +2,5 @@ pub mod Protocol
 pub mod File
 pub mod Prove
 pub mod Check
+pub mod Asks
 pub mod Theorems

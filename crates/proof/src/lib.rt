@@ -1,1 +1,2 @@
-// The proof file: the definitions of prove and check.
+// The proof file: the definitions of prove and check, and what a challenge asks of each instance.
+pub mod asking;
