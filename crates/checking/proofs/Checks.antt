@@ -1,0 +1,128 @@
+-- The check of a proof with a good header: what the bytes of its challenge ask, and the answer after each test.
+-- Assumes nothing.
+use mathlib.Core.Path.{_≡_, sym, ap, _∙_}
+use mathlib.Core.Bool.{Bool, true, false, not}
+use mathlib.Core.List.{List, []}
+use Prim.Native.Nat.{ℕ, _*_}
+use borrow.Author.Tests.{eq-eqb, ne-eqb}
+use lib.ListN.{length}
+use Rattle.bits.specs.Bytes.{sameBytes}
+use Rattle.circuit.specs.Circuit.{Circuit}
+use Rattle.circuit.specs.File.{circuitOf}
+use Rattle.circuit.specs.Operations.{refusal, success}
+use Rattle.circuit.proofs.Answered.{fell, held}
+use Rattle.seeds.specs.declared.Answer.{Answer}
+use Rattle.seeds.specs.Challenge.{challengeOf}
+use Rattle.seeds.specs.Operations.{outcome, challengeOp}
+use Rattle.instance.specs.Instance.{Asked}
+use Rattle.proof.specs.Protocol.{challenged}
+use Rattle.proof.specs.File.{headerHstar, proofBytes}
+use Rattle.proof.specs.Check.{checkProof}
+use Rattle.proof.specs.Asks.{asksIn, Asking}
+use Rattle.proof.proofs.Askings.{asks-same, asking-challenge, challenge-done}
+use Rattle.checking.specs.Steps.{allUnused, allOutputs, recomputed, Sized, Headed}
+use Rattle.checking.proofs.Headers.{hstar-length, headed-counts, headed-parties, headed-some, headed-few}
+
+-- the tests of a proof, made with what is asked
+module _ (c : Circuit) (y proof : List ℕ) (M n : ℕ) (ask : ℕ → Asked) where
+  -- another length than is implied
+  asked-length : (length proof ≡ proofBytes c M n ask → ⊥) → refusal 12 ≡ checkProof c y proof M n ask
+  unfolding checkProof
+  asked-length t = rw (ne-eqb (length proof) (proofBytes c M n ask) t)
+
+  -- the length that is implied
+  module _ (size : length proof ≡ proofBytes c M n ask) where
+    -- unused bits
+    asked-unused : allUnused c M n ask proof ≡ false → refusal 7 ≡ checkProof c y proof M n ask
+    unfolding checkProof
+    asked-unused u = rw (eq-eqb (length proof) (proofBytes c M n ask) size, u)
+
+    -- no unused bits
+    module _ (unused : allUnused c M n ask proof ≡ true) where
+      -- another output
+      asked-output : allOutputs c M n ask y proof ≡ false → refusal 10 ≡ checkProof c y proof M n ask
+      unfolding checkProof
+      asked-output v = rw (eq-eqb (length proof) (proofBytes c M n ask) size, unused, v)
+
+      -- the outputs
+      module _ (outputs : allOutputs c M n ask y proof ≡ true) where
+        -- another h*
+        asked-digest : sameBytes (recomputed c M n ask proof) (headerHstar proof) ≡ false → refusal 13 ≡ checkProof c y proof M n ask
+        unfolding checkProof
+        asked-digest w = rw (eq-eqb (length proof) (proofBytes c M n ask) size, unused, outputs, w)
+
+        -- accepted
+        asked-accepted : sameBytes (recomputed c M n ask proof) (headerHstar proof) ≡ true → success [] ≡ checkProof c y proof M n ask
+        unfolding checkProof
+        asked-accepted w = rw (eq-eqb (length proof) (proofBytes c M n ask) size, unused, outputs, w)
+
+-- the challenge to a proof with a good header, in the bytes that the operation leaves
+module _ (s : List ℕ) (M tau n : ℕ) (message proof lent choices : List ℕ) (r : Answer) (head : Headed M tau n message proof) (room : length lent ≡ 3 * tau)
+    (done : outcome r choices ≡ challengeOp M tau n (headerHstar proof) message lent) where
+  -- they are those of the challenge
+  choices-are : choices ≡ challengeOf M tau n (headerHstar proof) message
+  choices-are =
+      challenge-done M tau n (headerHstar proof) message lent choices r done (headed-counts M tau n message proof head)
+      (headed-parties M tau n message proof head) (hstar-length proof (head .good)) (head .short) room
+
+  -- they ask what it asks
+  choices-ask : asksIn n choices ≡ challenged M tau n (headerHstar proof) message
+  choices-ask =
+      ap (asksIn n) choices-are
+      ∙ asks-same M tau n (headerHstar proof) message (headed-counts M tau n message proof head) (headed-some M tau n message proof head)
+
+  -- they name parties of n
+  pub choices-asking : Asking n choices
+  choices-asking =
+      rw choices-are (asking-challenge M tau n (headerHstar proof) message (headed-counts M tau n message proof head) (headed-some M tau n message proof head))
+
+  -- the tests of the proof, as they are made with these bytes: first the length, which is to be x
+  module _ (y : List ℕ) (x : ℕ) (e : x ≡ proofBytes (circuitOf s) M n (asksIn n choices)) where
+    -- another length
+    pub check-length : (length proof ≡ x → ⊥) → refusal 12 ≡ checkProof (circuitOf s) y proof M n (challenged M tau n (headerHstar proof) message)
+    check-length t =
+        asked-length (circuitOf s) y proof M n (asksIn n choices) (λ q. t (q ∙ sym e)) ∙ ap (checkProof (circuitOf s) y proof M n) choices-ask
+
+    -- this length
+    module _ (size : length proof ≡ x) where
+      pub check-sized : Sized s M n choices proof
+      check-sized = record { few = headed-few M tau n message proof head; asking = choices-asking; size = size ∙ e }
+
+      -- the test of the unused bits
+      module _ (b1 : Bool) (f1 : b1 ≡ allUnused (circuitOf s) M n (asksIn n choices) proof) where
+        -- it fails
+        pub check-unused : not b1 ≡ true → refusal 7 ≡ checkProof (circuitOf s) y proof M n (challenged M tau n (headerHstar proof) message)
+        check-unused t =
+            asked-unused (circuitOf s) y proof M n (asksIn n choices) (size ∙ e) (fell _ b1 f1 t)
+            ∙ ap (checkProof (circuitOf s) y proof M n) choices-ask
+
+        -- it passes
+        module _ (t1 : not b1 ≡ false) where
+          pub check-zero : allUnused (circuitOf s) M n (asksIn n choices) proof ≡ true
+          check-zero = held _ b1 f1 t1
+
+          -- the test of the outputs
+          module _ (b2 : Bool) (f2 : b2 ≡ allOutputs (circuitOf s) M n (asksIn n choices) y proof) where
+            -- it fails
+            pub check-output : not b2 ≡ true → refusal 10 ≡ checkProof (circuitOf s) y proof M n (challenged M tau n (headerHstar proof) message)
+            check-output t =
+                asked-output (circuitOf s) y proof M n (asksIn n choices) (size ∙ e) check-zero (fell _ b2 f2 t)
+                ∙ ap (checkProof (circuitOf s) y proof M n) choices-ask
+
+            -- it passes; the test of the recomputed h*
+            module _ (t2 : not b2 ≡ false) (hstar : List ℕ) (f : hstar ≡ recomputed (circuitOf s) M n (asksIn n choices) proof) (b3 : Bool)
+                (f3 : b3 ≡ sameBytes hstar (headerHstar proof)) where
+              same-right : b3 ≡ sameBytes (recomputed (circuitOf s) M n (asksIn n choices) proof) (headerHstar proof)
+              same-right = f3 ∙ ap (λ (z : List ℕ). sameBytes z (headerHstar proof)) f
+
+              -- it fails
+              pub check-digest : not b3 ≡ true → refusal 13 ≡ checkProof (circuitOf s) y proof M n (challenged M tau n (headerHstar proof) message)
+              check-digest t =
+                  asked-digest (circuitOf s) y proof M n (asksIn n choices) (size ∙ e) check-zero (held _ b2 f2 t2) (fell _ b3 same-right t)
+                  ∙ ap (checkProof (circuitOf s) y proof M n) choices-ask
+
+              -- it passes
+              pub check-accepted : not b3 ≡ false → success [] ≡ checkProof (circuitOf s) y proof M n (challenged M tau n (headerHstar proof) message)
+              check-accepted t =
+                  asked-accepted (circuitOf s) y proof M n (asksIn n choices) (size ∙ e) check-zero (held _ b2 f2 t2) (held _ b3 same-right t)
+                  ∙ ap (checkProof (circuitOf s) y proof M n) choices-ask

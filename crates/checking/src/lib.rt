@@ -1,0 +1,201 @@
+// The operation check.
+ghost use mathlib.Core.Path.{_≡_};
+ghost use Prim.Native.Nat.{_*_};
+ghost use lib.ListN.{length};
+ghost use Rattle.circuit.specs.File.{circuitOf};
+ghost use Rattle.mpc.specs.Lent.{Known};
+ghost use Rattle.instance.specs.Worked.{Tree, Lent};
+ghost use Rattle.proof.specs.Protocol.{challenged};
+ghost use Rattle.proof.specs.File.{headerHstar, goodHeader};
+ghost use Rattle.proof.specs.Check.{checkProof, checkLegal, checkOp};
+ghost use Rattle.checking.specs.Answers.{paper};
+ghost use Rattle.checking.specs.Steps.{Headed};
+
+pub mod verifying;
+
+use circuit::ReadAnswer;
+use circuit::reading::read;
+use mpc::tests::both;
+use mpc::tests::holds;
+use proof::asking::proof_bytes;
+use refusal::Refusal;
+use seeds::challenge;
+use seeds::counts;
+use verifying::all_unused;
+use verifying::recompute;
+
+// What check answers.
+pub enum Answer {
+    Accepted,
+    Refused(Refusal),
+}
+
+// Whether the proof has a header within the limits.
+fn good_header(proof: &[u8]) -> bool
+    ensures { λ r. ⌜ r ≡ goodHeader (now (proof .entry)) ⌝ }
+{
+    if proof.len() < 38 {
+        return false;
+    }
+    let m = bits::read_u16(proof, 0) as u32;
+    let tau = bits::read_u16(proof, 2) as u32;
+    let h = parties::height(proof[4] as u32);
+    both(counts(m, tau), both(h != 0, proof[5] == 0))
+}
+
+// Checks a proof with a good header: the challenge is drawn from the header's h*.
+fn check_in(
+    s: &[u8],
+    inputs: usize,
+    outputs: usize,
+    gates: usize,
+    ands: usize,
+    m: u32,
+    tau: u32,
+    n: u32,
+    h: u32,
+    y: &[u8],
+    message: &[u8],
+    proof: &[u8],
+    choices: &mut [u8],
+    tapes: &mut [u8],
+    memory: &mut [u8],
+) -> Answer
+    requires { ⌜ Lent (now s) inputs outputs gates ands n h (now tapes) (now memory) × (Headed m tau n (now message) (now proof) × (length (now choices) ≡ 3 * tau)) ⌝ }
+    ensures { λ r. ⌜ paper r ≡ checkProof (circuitOf (now (s .entry))) (now (y .entry)) (now (proof .entry)) m n (challenged m tau n (headerHstar (now (proof .entry))) (now (message .entry))) ⌝ }
+{
+    let _ = challenge(m, tau, n, &proof[6..38], message, choices);
+    if proof.len() != proof_bytes(s, inputs, outputs, gates, ands, m, n, h, choices) {
+        return Answer::Refused(Refusal::ProofLength);
+    }
+    if !all_unused(s, inputs, outputs, gates, ands, m, n, h, choices, proof) {
+        return Answer::Refused(Refusal::UnusedBits);
+    }
+    let v = recompute(
+        s,
+        inputs,
+        outputs,
+        gates,
+        ands,
+        m,
+        n,
+        h,
+        choices,
+        y,
+        proof,
+        tapes,
+        memory,
+    );
+    if !v.agrees {
+        return Answer::Refused(Refusal::Output);
+    }
+    if !bits::same(&v.hstar, &proof[6..38]) {
+        return Answer::Refused(Refusal::Digest);
+    }
+    Answer::Accepted
+}
+
+// The same with a work memory of its own.
+fn check_with(
+    s: &[u8],
+    inputs: usize,
+    outputs: usize,
+    gates: usize,
+    ands: usize,
+    m: u32,
+    tau: u32,
+    n: u32,
+    h: u32,
+    y: &[u8],
+    message: &[u8],
+    proof: &[u8],
+) -> Answer
+    requires { ⌜ Known (now s) inputs outputs gates ands × (Tree n h × Headed m tau n (now message) (now proof)) ⌝ }
+    ensures { λ r. ⌜ paper r ≡ checkProof (circuitOf (now (s .entry))) (now (y .entry)) (now (proof .entry)) m n (challenged m tau n (headerHstar (now (proof .entry))) (now (message .entry))) ⌝ }
+{
+    let mut choices = [0u8; 1533];
+    let mut tapes = [0u8; 17408];
+    let mut memory = [0u8; 299008];
+    let c = 3 * (tau as usize);
+    let t = (n as usize) * bits::oct(inputs + 2 * ands);
+    check_in(
+        s,
+        inputs,
+        outputs,
+        gates,
+        ands,
+        m,
+        tau,
+        n,
+        h,
+        y,
+        message,
+        proof,
+        &mut choices[..c],
+        &mut tapes[..t],
+        &mut memory,
+    )
+}
+
+// Tests y, the message and the header, and checks a proof of a legal circuit.
+fn check_lent(
+    s: &[u8],
+    inputs: usize,
+    outputs: usize,
+    gates: usize,
+    ands: usize,
+    y: &[u8],
+    message: &[u8],
+    proof: &[u8],
+) -> Answer
+    requires { ⌜ Known (now s) inputs outputs gates ands ⌝ }
+    ensures { λ r. ⌜ paper r ≡ checkLegal (now (y .entry)) (now (message .entry)) (now (proof .entry)) (circuitOf (now (s .entry))) ⌝ }
+{
+    if !both(holds(y, outputs), message.len() <= 4096) {
+        return Answer::Refused(Refusal::BufferLength);
+    }
+    if !bits::unused_zero(y, outputs) {
+        return Answer::Refused(Refusal::UnusedBits);
+    }
+    if !good_header(proof) {
+        return Answer::Refused(Refusal::Header);
+    }
+    let m = bits::read_u16(proof, 0) as u32;
+    let tau = bits::read_u16(proof, 2) as u32;
+    let n = proof[4] as u32;
+    let h = parties::height(n);
+    check_with(
+        s,
+        inputs,
+        outputs,
+        gates,
+        ands,
+        m,
+        tau,
+        n,
+        h,
+        y,
+        message,
+        proof,
+    )
+}
+
+// Checks a proof that the circuit gives y on some witness, under the message.
+pub fn check(s: &[u8], y: &[u8], message: &[u8], proof: &[u8]) -> Answer
+    ensures { λ r. ⌜ paper r ≡ checkOp (now (s .entry)) (now (y .entry)) (now (message .entry)) (now (proof .entry)) ⌝ }
+{
+    let answer = read(s);
+    match answer {
+        ReadAnswer::Refused(k) => Answer::Refused(k),
+        ReadAnswer::Legal(z) => check_lent(
+            s,
+            z.inputs,
+            z.outputs,
+            z.gates,
+            z.ands,
+            y,
+            message,
+            proof,
+        ),
+    }
+}

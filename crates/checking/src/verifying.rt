@@ -1,0 +1,192 @@
+// Verification: each instance from its stretch of the proof, and the h* over all of them.
+ghost use mathlib.Core.Path.{_≡_};
+ghost use mathlib.Core.Bool.{true};
+ghost use Prim.Native.Nat.{_≤_};
+ghost use lib.ListN.{length};
+ghost use Rattle.circuit.specs.File.{circuitOf};
+ghost use Rattle.mpc.specs.Lent.{Known};
+ghost use Rattle.instance.specs.Stretch.{stretchBytes};
+ghost use Rattle.instance.specs.Opened.{stretchCommitments, stretchOnline, stretchUnused, stretchOutput};
+ghost use Rattle.instance.specs.Worked.{Tree, Lent};
+ghost use Rattle.proof.specs.Asks.{askOf, asksIn};
+ghost use Rattle.checking.specs.Steps.{allUnused, allOutputs, recomputed, Sized};
+use instance::Replayed;
+use instance::checking::reopen;
+use instance::checking::replay;
+use instance::checking::unused;
+use instance::sending::copy;
+use keccak::SHA3_256_RATE;
+use mpc::tests::both;
+use proof::asking::asked;
+use proof::asking::stretch_bytes;
+use seeds::digest::finish;
+use seeds::digest::start_all_commitments;
+use seeds::digest::start_all_online;
+use seeds::digest::transcript;
+
+// Whether all replays gave y, and the recomputed h*.
+pub struct Verdict {
+    pub agrees: bool,
+    pub hstar: [u8; 32],
+}
+
+// Whether the unused bits of the stretch of an instance, of which p is asked, are zero.
+pub fn stretch_unused(
+    s: &[u8],
+    inputs: usize,
+    outputs: usize,
+    gates: usize,
+    ands: usize,
+    n: u32,
+    h: u32,
+    p: u32,
+    part: &[u8],
+) -> bool
+    requires { ⌜ Known (now s) inputs outputs gates ands × (Tree n h × ((p ≤ n) × (length (now part) ≡ stretchBytes (circuitOf (now s)) n (askOf n p)))) ⌝ }
+    ensures { λ r. ⌜ r ≡ stretchUnused (circuitOf (now (s .entry))) n (now (part .entry)) (askOf n p) ⌝ }
+{
+    if p == n {
+        return true;
+    }
+    unused(s, inputs, outputs, gates, ands, n, h, p, part)
+}
+
+// Whether the unused bits of all stretches are zero.
+pub fn all_unused(
+    s: &[u8],
+    inputs: usize,
+    outputs: usize,
+    gates: usize,
+    ands: usize,
+    m: u32,
+    n: u32,
+    h: u32,
+    choices: &[u8],
+    proof: &[u8],
+) -> bool
+    requires { ⌜ Known (now s) inputs outputs gates ands × (Tree n h × Sized (now s) m n (now choices) (now proof)) ⌝ }
+    ensures { λ r. ⌜ r ≡ allUnused (circuitOf (now (s .entry))) m n (asksIn n (now (choices .entry))) (now (proof .entry)) ⌝ }
+{
+    let mut good = true;
+    let mut at = 38;
+    let mut j = 0;
+    while j < m {
+        let p = asked(choices, n, j);
+        let end = at + stretch_bytes(s, inputs, outputs, gates, ands, n, h, p);
+        let fine = stretch_unused(s, inputs, outputs, gates, ands, n, h, p, &proof[at..end]);
+        good = both(good, fine);
+        at = end;
+        j += 1;
+    }
+    good
+}
+
+// Checks instance j from its stretch: its digests, and whether its replay gives y.
+pub fn check_instance(
+    s: &[u8],
+    inputs: usize,
+    outputs: usize,
+    gates: usize,
+    ands: usize,
+    j: u32,
+    n: u32,
+    h: u32,
+    p: u32,
+    y: &[u8],
+    part: &[u8],
+    tapes: &mut [u8],
+    memory: &mut [u8],
+) -> Replayed
+    requires { ⌜ Lent (now s) inputs outputs gates ands n h (now tapes) (now memory) × ((p ≤ n) × ((length (now part) ≡ stretchBytes (circuitOf (now s)) n (askOf n p)) × (stretchUnused (circuitOf (now s)) n (now part) (askOf n p) ≡ true))) ⌝ }
+    ensures { λ r. ⌜ (r .agrees ≡ stretchOutput (circuitOf (now (s .entry))) n j (now (y .entry)) (now (part .entry)) (askOf n p)) × ((r .commitments ≡ stretchCommitments (circuitOf (now (s .entry))) n j (now (part .entry)) (askOf n p)) × (r .online ≡ stretchOnline (circuitOf (now (s .entry))) n j (now (part .entry)) (askOf n p))) ⌝ }
+{
+    if p == n {
+        let commitments = reopen(
+            s,
+            inputs,
+            outputs,
+            gates,
+            ands,
+            j,
+            n,
+            h,
+            &part[..16],
+            tapes,
+            memory,
+        );
+        let mut online = [0u8; 32];
+        copy(&part[16..], &mut online);
+        return Replayed {
+            agrees: true,
+            commitments,
+            online,
+        };
+    }
+    replay(
+        s,
+        inputs,
+        outputs,
+        gates,
+        ands,
+        j,
+        n,
+        h,
+        p,
+        y,
+        part,
+        tapes,
+        memory,
+    )
+}
+
+// Checks every instance from its stretch, and recomputes h* from their digests.
+pub fn recompute(
+    s: &[u8],
+    inputs: usize,
+    outputs: usize,
+    gates: usize,
+    ands: usize,
+    m: u32,
+    n: u32,
+    h: u32,
+    choices: &[u8],
+    y: &[u8],
+    proof: &[u8],
+    tapes: &mut [u8],
+    memory: &mut [u8],
+) -> Verdict
+    requires { ⌜ Lent (now s) inputs outputs gates ands n h (now tapes) (now memory) × (Sized (now s) m n (now choices) (now proof) × (allUnused (circuitOf (now s)) m n (asksIn n (now choices)) (now proof) ≡ true)) ⌝ }
+    ensures { λ r. ⌜ (r .agrees ≡ allOutputs (circuitOf (now (s .entry))) m n (asksIn n (now (choices .entry))) (now (y .entry)) (now (proof .entry))) × (r .hstar ≡ recomputed (circuitOf (now (s .entry))) m n (asksIn n (now (choices .entry))) (now (proof .entry))) ⌝ }
+{
+    let mut agrees = true;
+    let mut all = start_all_commitments();
+    let mut online = start_all_online();
+    let mut at = 38;
+    let mut j = 0;
+    while j < m {
+        let p = asked(choices, n, j);
+        let end = at + stretch_bytes(s, inputs, outputs, gates, ands, n, h, p);
+        let r = check_instance(
+            s,
+            inputs,
+            outputs,
+            gates,
+            ands,
+            j,
+            n,
+            h,
+            p,
+            y,
+            &proof[at..end],
+            tapes,
+            memory,
+        );
+        agrees = both(agrees, r.agrees);
+        all = all.absorb(SHA3_256_RATE, &r.commitments);
+        online = online.absorb(SHA3_256_RATE, &r.online);
+        at = end;
+        j += 1;
+    }
+    let hstar = transcript(&finish(all), &finish(online));
+    Verdict { agrees, hstar }
+}
