@@ -11,6 +11,7 @@ ghost use Rattle.proof.specs.Check.{checkProof, checkLegal, checkOp};
 ghost use Rattle.checking.specs.Answers.{paper};
 ghost use Rattle.checking.specs.Steps.{Headed};
 
+pub mod unused_bits;
 pub mod verifying;
 
 use circuit::ReadAnswer;
@@ -21,7 +22,7 @@ use proof::asking::proof_bytes;
 use refusal::Refusal;
 use seeds::challenge;
 use seeds::counts;
-use verifying::all_unused;
+use unused_bits::all_unused;
 use verifying::recompute;
 
 // What check answers.

@@ -4,16 +4,14 @@ ghost use mathlib.Core.Bool.{true};
 ghost use Prim.Native.Nat.{_≤_};
 ghost use lib.ListN.{length};
 ghost use Rattle.circuit.specs.File.{circuitOf};
-ghost use Rattle.mpc.specs.Lent.{Known};
 ghost use Rattle.instance.specs.Stretch.{stretchBytes};
 ghost use Rattle.instance.specs.Opened.{stretchCommitments, stretchOnline, stretchUnused, stretchOutput};
-ghost use Rattle.instance.specs.Worked.{Tree, Lent};
+ghost use Rattle.instance.specs.Worked.{Lent};
 ghost use Rattle.proof.specs.Asks.{askOf, asksIn};
 ghost use Rattle.checking.specs.Steps.{allUnused, allOutputs, recomputed, Sized};
 use instance::Replayed;
 use instance::checking::reopen;
 use instance::checking::replay;
-use instance::checking::unused;
 use instance::sending::copy;
 use keccak::SHA3_256_RATE;
 use mpc::tests::both;
@@ -28,57 +26,6 @@ use seeds::digest::transcript;
 pub struct Verdict {
     pub agrees: bool,
     pub hstar: [u8; 32],
-}
-
-// Whether the unused bits of the stretch of an instance, of which p is asked, are zero.
-pub fn stretch_unused(
-    s: &[u8],
-    inputs: usize,
-    outputs: usize,
-    gates: usize,
-    ands: usize,
-    n: u32,
-    h: u32,
-    p: u32,
-    part: &[u8],
-) -> bool
-    requires { ⌜ Known (now s) inputs outputs gates ands × (Tree n h × ((p ≤ n) × (length (now part) ≡ stretchBytes (circuitOf (now s)) n (askOf n p)))) ⌝ }
-    ensures { λ r. ⌜ r ≡ stretchUnused (circuitOf (now (s .entry))) n (now (part .entry)) (askOf n p) ⌝ }
-{
-    if p == n {
-        return true;
-    }
-    unused(s, inputs, outputs, gates, ands, n, h, p, part)
-}
-
-// Whether the unused bits of all stretches are zero.
-pub fn all_unused(
-    s: &[u8],
-    inputs: usize,
-    outputs: usize,
-    gates: usize,
-    ands: usize,
-    m: u32,
-    n: u32,
-    h: u32,
-    choices: &[u8],
-    proof: &[u8],
-) -> bool
-    requires { ⌜ Known (now s) inputs outputs gates ands × (Tree n h × Sized (now s) m n (now choices) (now proof)) ⌝ }
-    ensures { λ r. ⌜ r ≡ allUnused (circuitOf (now (s .entry))) m n (asksIn n (now (choices .entry))) (now (proof .entry)) ⌝ }
-{
-    let mut good = true;
-    let mut at = 38;
-    let mut j = 0;
-    while j < m {
-        let p = asked(choices, n, j);
-        let end = at + stretch_bytes(s, inputs, outputs, gates, ands, n, h, p);
-        let fine = stretch_unused(s, inputs, outputs, gates, ands, n, h, p, &proof[at..end]);
-        good = both(good, fine);
-        at = end;
-        j += 1;
-    }
-    good
 }
 
 // Checks instance j from its stretch: its digests, and whether its replay gives y.

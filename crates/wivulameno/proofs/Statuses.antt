@@ -23,6 +23,9 @@ use Rattle.mpc.specs.declared.Answer.the-variants as mpcAnswer
 use Rattle.seeds.specs.Operations.{Outcome as SeedsOutcome, paper, outcome as seedsOutcome}
 use Rattle.seeds.specs.declared.Answer.{Answer as SeedsAnswer}
 use Rattle.seeds.specs.declared.Answer.the-variants as seedsAnswer
+use Rattle.checking.specs.Answers.{paper as checkPaper}
+use Rattle.checking.specs.declared.Answer.{Answer as CheckAnswer}
+use Rattle.checking.specs.declared.Answer.the-variants as checkAnswer
 use Rattle.wivulameno.specs.Interface.{status, values, shelfStatus, rootLeft}
 
 -- the numbers of a legal circuit fit 32 bits
@@ -132,3 +135,13 @@ pub seeds-refused : (o : SeedsOutcome) (r : SeedsAnswer) (k : Refusal) (n : ℕ)
     → (n ≡ o .number) × (y ≡ o .buffer)
 seeds-refused o r k n y e f h =
     (h ∙ ap paper (sym e) ∙ ap (λ (x : SeedsOutcome). x .number) f, ap (λ (x : SeedsOutcome). x .buffer) f)
+
+-- a proof that is accepted
+pub check-done : (a : Answer) (r : CheckAnswer) → r ≡ checkAnswer.Accepted → checkPaper r ≡ a → _≡_ {A = ℕ} 0 (status a)
+unfolding status
+check-done a r e f = ap status (ap checkPaper (sym e) ∙ f)
+
+-- one that is refused
+pub check-refused : (a : Answer) (r : CheckAnswer) (k : Refusal) (n : ℕ) → r ≡ checkAnswer.Refused k → checkPaper r ≡ a → n ≡ numberOf k → n ≡ status a
+unfolding status
+check-refused a r k n e f h = h ∙ ap status (ap checkPaper (sym e) ∙ f)

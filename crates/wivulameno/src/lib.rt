@@ -5,6 +5,7 @@ ghost use mathlib.Core.List.{[], _∷_};
 ghost use lib.ListN.{length};
 ghost use Rattle.circuit.specs.Operations.{readOp, evaluateOp};
 ghost use Rattle.mpc.specs.Operations.{prepareOp, runOp, showOp, replayOp};
+ghost use Rattle.proof.specs.Check.{checkOp};
 ghost use Rattle.shelf.specs.Operations.{stockOp, drawOp};
 ghost use Rattle.seeds.specs.Operations.{expandOp, openOp, challengeOp};
 ghost use Rattle.wivulameno.specs.Interface.{status, values, shelfStatus, rootLeft};
@@ -155,6 +156,18 @@ pub extern "C" fn wv_replay(
     match a {
         mpc::Answer::Done => 0,
         mpc::Answer::Refused(k) => refusal::number(k),
+    }
+}
+
+// Checks a proof that the circuit gives y on some witness, under the message.
+#[no_mangle]
+pub extern "C" fn wv_check(circuit: &[u8], y: &[u8], message: &[u8], proof: &[u8]) -> u32
+    ensures { λ r. ⌜ r ≡ status (checkOp (now (circuit .entry)) (now (y .entry)) (now (message .entry)) (now (proof .entry))) ⌝ }
+{
+    let a = checking::check(circuit, y, message, proof);
+    match a {
+        checking::Answer::Accepted => 0,
+        checking::Answer::Refused(k) => refusal::number(k),
     }
 }
 

@@ -1,11 +1,11 @@
--- `checking::verifying::stretch_unused` meets its contract.
+-- `checking::unused_bits::stretch_unused` meets its contract.
 -- Assumes nothing.
 use native.Mathlib.Omega.{arith}
 use mathlib.Core.List.{[]}
 use Rattle.circuit.specs.File.{circuitOf}
 use Rattle.checking.proofs.Verified.{open-unused, hidden-size, hidden-test}
-use Rattle.checking.proofs.verifying.stretch_unused.Statement.{statement}
-use Rattle.checking.proofs.verifying.stretch_unused.Tie as tie
+use Rattle.checking.proofs.unused_bits.stretch_unused.Statement.{statement}
+use Rattle.checking.proofs.unused_bits.stretch_unused.Tie as tie
 
 returns : tie.Need-returns
 returns c =

@@ -1,4 +1,4 @@
--- `checking::verifying::all_unused` meets its contract. The loop's invariant: the stretch of instance j is next, and the tests of those before it are made.
+-- `checking::unused_bits::all_unused` meets its contract. The loop's invariant: the stretch of instance j is next, and the tests of those before it are made.
 -- Assumes nothing.
 use mathlib.Core.Path.{_≡_, ap}
 use Prim.Native.Nat.{_-_, _≤_}
@@ -10,8 +10,8 @@ use Rattle.proof.specs.File.{stretchStart}
 use Rattle.proof.specs.Check.{every}
 use Rattle.proof.proofs.Sizes.{start-none}
 use Rattle.checking.proofs.Verified.{unusedAt, every-none, every-turn, every-end, turn-inside, turn-place, turn-size, turn-test}
-use Rattle.checking.proofs.verifying.all_unused.Statement.{statement}
-use Rattle.checking.proofs.verifying.all_unused.Tie as tie
+use Rattle.checking.proofs.unused_bits.all_unused.Statement.{statement}
+use Rattle.checking.proofs.unused_bits.all_unused.Tie as tie
 
 abbrev Inv-loop : tie.InvT-loop
 Inv-loop s inputs outputs gates ands m n h choices proof good₀ at₀ j₀ good at j =

@@ -1,0 +1,7 @@
+pub mod Headers
+pub mod Rooms
+pub mod Given
+pub mod Provings
+pub mod Firsts
+pub mod Responds
+pub mod Buffers

@@ -1,0 +1,71 @@
+-- `proving::writing::prove_with` meets its contract.
+-- Assumes nothing.
+use mathlib.Core.Path.{sym}
+use Prim.Native.Nat.{ℕ, _*_}
+use native.Mathlib.Omega.{arith}
+use lib.ListN.{length-replicate}
+use Rattle.instance.proofs.Sent.{front-length}
+use Rattle.mpc.proofs.Asks.{small}
+use Rattle.proving.proofs.Rooms.{tapes-few, tapes-fit, double-fits, bits-fit, work-room, zeros-lent}
+use Rattle.proving.proofs.Buffers.{few-choices}
+use Rattle.proving.proofs.writing.prove_with.Statement.{statement}
+use Rattle.proving.proofs.writing.prove_with.Tie as tie
+
+mul-c : tie.Need-mul-c
+mul-c c = let p = c .before .before .before .before .before .pre in small _ (omega (arith, few-choices _ _ _ _ _ _ _ _ _ _ (p .1 .1) (p .1 .0)))
+
+mul-oct : tie.Need-mul-oct
+mul-oct c = double-fits _ _ _ _ _ (c .before .before .before .before .before .pre .0)
+
+add-oct : tie.Need-add-oct
+add-oct c = bits-fit _ _ _ _ _ (c .before .before .before .before .before .pre .0)
+
+oct-requires : tie.Need-oct-requires
+oct-requires c κs = tt
+
+mul-t : tie.Need-mul-t
+mul-t c = let p = c .before .before .before .before .before .before .pre in tapes-fit _ _ _ _ _ (p .0) _ _ _ (p .1 .0) (c .oct .ensures)
+
+array-borrow-prefix-choices : tie.Need-array-borrow-prefix-choices
+array-borrow-prefix-choices c = let p = c .before .before .before .before .before .before .before .pre in few-choices _ _ _ _ _ _ _ _ _ _ (p .1 .1) (p .1 .0)
+
+slice-aggregate-prove-in : tie.Need-slice-aggregate-prove-in
+slice-aggregate-prove-in c = let p = c .before .before .before .before .before .before .before .before .pre in sym (front-length 1533 (3 * c .before .before .before .before .before .before .before .before .args .tau) (few-choices _ _ _ _ _ _ _ _ _ _ (p .1 .1) (p .1 .0)))
+
+array-borrow-prefix-tapes : tie.Need-array-borrow-prefix-tapes
+array-borrow-prefix-tapes c = let p = c .before .before .before .before .before .before .before .before .pre in tapes-few _ _ _ _ _ (p .0) _ _ _ (p .1 .0) (c .before .before .oct .ensures)
+
+slice-aggregate-prove-in-2 : tie.Need-slice-aggregate-prove-in-2
+slice-aggregate-prove-in-2 c = let p = c .before .before .before .before .before .before .before .before .before .pre in sym (front-length 17408 (c .before .before .before .before .before .before .before .before .before .args .n * c .before .before .before .oct .result) (tapes-few _ _ _ _ _ (p .0) _ _ _ (p .1 .0) (c .before .before .before .oct .ensures)))
+
+slice-aggregate-prove-in-3 : tie.Need-slice-aggregate-prove-in-3
+slice-aggregate-prove-in-3 c = sym (length-replicate {A = ℕ} 299008 0)
+
+prove-in-requires : tie.Need-prove-in-requires
+prove-in-requires c κs =
+    let p = c .before .before .before .before .before .before .before .before .before .before .pre in
+    (zeros-lent _ _ _ _ _ (p .0) _ _ (c .before .before .before .before .oct .result) (p .1 .0) (c .before .before .before .before .oct .ensures) 17408 299008 (tapes-few _ _ _ _ _ (p .0) _ _ _ (p .1 .0) (c .before .before .before .before .oct .ensures)) (work-room _ _ _ _ _ (p .0)), (p .1 .1, front-length 1533 (3 * c .before .before .before .before .before .before .before .before .before .before .args .tau) (few-choices _ _ _ _ _ _ _ _ _ _ (p .1 .1) (p .1 .0))))
+
+same-length : tie.Need-same-length
+same-length c = c .before .before .before .before .before .prove-in .kept .1 .1 .1 .1 .1 .1 .1 .1 .1 .1 .1 .1 .0
+
+returns : tie.Need-returns
+returns c = c .before .before .before .before .before .prove-in .ensures
+
+pub prove-with-spec : {M : Type 1} → statement M
+prove-with-spec =
+    tie.close
+    (tie.spec
+    mul-c
+    mul-oct
+    add-oct
+    oct-requires
+    mul-t
+    array-borrow-prefix-choices
+    slice-aggregate-prove-in
+    array-borrow-prefix-tapes
+    slice-aggregate-prove-in-2
+    slice-aggregate-prove-in-3
+    prove-in-requires
+    same-length
+    returns)

@@ -1,0 +1,19 @@
+-- The answer of prove in the paper's terms.
+-- Assumes nothing.
+use mathlib.Core.List.{List, [], _∷_}
+use Prim.Native.Nat.{ℕ}
+use Rattle.refusal.specs.Refusal.{numberOf}
+use Rattle.circuit.specs.Operations.{refusal, success}
+use Rattle.circuit.specs.Operations as circuits
+use Rattle.mpc.specs.Operations.{Outcome}
+use Rattle.proving.specs.declared.Answer.{Answer}
+use Rattle.proving.specs.declared.Answer.the-variants.{Written, Refused}
+
+-- "Success gives the length written"
+abbrev pub paper : Answer → circuits.Answer
+paper (Written k) = success (k ∷ [])
+paper (Refused k) = refusal (numberOf k)
+
+-- the answer, and what the lent buffer then holds
+abbrev pub outcome : Answer → List ℕ → Outcome
+outcome r buffer = record { answer = paper r; left = buffer ∷ [] }

@@ -1,0 +1,34 @@
+-- What the steps of prove keep and ask.
+-- Assumes nothing.
+use mathlib.Core.Path.{_≡_}
+use mathlib.Core.Bool.{true}
+use mathlib.Core.List.{List, flatten}
+use Prim.Native.Nat.{ℕ, _+_, _*_, _≤_}
+use lib.ListN.{length, take}
+use Rattle.bits.specs.Bits.{tabulate}
+use Rattle.circuit.specs.Circuit.{Circuit}
+use Rattle.circuit.specs.File.{circuitOf}
+use Rattle.mpc.specs.Lent.{WitnessFits}
+use Rattle.seeds.specs.Derive.{masterOf}
+use Rattle.seeds.specs.Operations.{areCounts}
+use Rattle.instance.specs.Instance.{masterOnline}
+use Rattle.proof.specs.File.{proofBytes, proofRoom}
+use Rattle.proof.specs.Asks.{asksIn, Asking}
+
+-- all h'_j, one after the other
+unfoldable pub onlinesOf : Circuit → ℕ → ℕ → List ℕ → List ℕ → List ℕ
+onlinesOf c M n witness root = flatten (tabulate M (λ j. masterOnline c n j witness (masterOf j root)))
+
+-- what the response is lent: the bytes that the challenge asks for, all h'_j at their start
+pub record Response (s : List ℕ) (M n : ℕ) (witness root choices part : List ℕ) : Type 0 where
+  pub few : M ≤ 512
+  pub asking : Asking n choices
+  pub size : 38 + length part ≡ proofBytes (circuitOf s) M n (asksIn n choices)
+  pub onlines : take (32 * M) part ≡ onlinesOf (circuitOf s) M n witness root
+
+-- what prove has when its tests are past
+pub record Tested (s : List ℕ) (i M tau n : ℕ) (witness message root buffer : List ℕ) : Type 0 where
+  pub witness-fits : WitnessFits i witness
+  pub counts : areCounts M tau ≡ true
+  pub short : length message ≤ 4096
+  pub room : proofRoom (circuitOf s) M tau n ≤ length buffer

@@ -1,0 +1,201 @@
+// The operation prove.
+ghost use mathlib.Core.Path.{_≡_};
+ghost use mathlib.Core.Bool.{_&&_};
+ghost use Prim.Native.Nat.{_≤_};
+ghost use lib.Dec.{eqb, leb};
+ghost use lib.ListN.{length};
+ghost use Rattle.bits.specs.Bits.{oct};
+ghost use Rattle.circuit.specs.File.{readCircuit, legal, circuitOf};
+ghost use Rattle.mpc.specs.Lent.{Known, WitnessFits};
+ghost use Rattle.instance.specs.Worked.{Tree};
+ghost use Rattle.proof.specs.File.{proofRoom};
+ghost use Rattle.proof.specs.Prove.{witnesses, proveLegal, proveOp};
+ghost use Rattle.proving.specs.Answers.{outcome};
+
+pub mod responding;
+pub mod writing;
+
+use circuit::ReadAnswer;
+use circuit::evaluation::evaluate;
+use circuit::reading::read;
+use mpc::tests::both;
+use mpc::tests::holds;
+use refusal::Refusal;
+use seeds::counts;
+use writing::prove_with;
+
+// What prove answers.
+pub enum Answer {
+    Written(usize),
+    Refused(Refusal),
+}
+
+// The bytes that the proof buffer must hold.
+fn room(
+    s: &[u8],
+    inputs: usize,
+    outputs: usize,
+    gates: usize,
+    ands: usize,
+    m: usize,
+    tau: usize,
+    n: u32,
+    h: u32,
+) -> usize
+    requires { ⌜ Known (now s) inputs outputs gates ands × ((m ≤ 512) × ((tau ≤ m) × Tree n h)) ⌝ }
+    ensures { λ r. ⌜ r ≡ proofRoom (circuitOf (now (s .entry))) m tau n ⌝ }
+{
+    let row = bits::oct(inputs) + bits::oct(ands + outputs);
+    let chosen = 16 * (h as usize) + bits::oct(ands) + 32 + row;
+    38 + 48 * (m - tau) + tau * chosen
+}
+
+// Whether the lengths of what prove is lent are as stated.
+fn lengths(
+    s: &[u8],
+    inputs: usize,
+    outputs: usize,
+    gates: usize,
+    ands: usize,
+    m: usize,
+    tau: usize,
+    n: u32,
+    h: u32,
+    witness: &[u8],
+    y: &[u8],
+    message: &[u8],
+    root: &[u8],
+    buffer: &[u8],
+) -> bool
+    requires { ⌜ Known (now s) inputs outputs gates ands × ((m ≤ 512) × ((tau ≤ m) × Tree n h)) ⌝ }
+    ensures { λ r. ⌜ r ≡ eqb (length (now (witness .entry))) (oct inputs) && eqb (length (now (y .entry))) (oct outputs) && leb (length (now (message .entry))) 4096 && eqb (length (now (root .entry))) 16 && leb (proofRoom (circuitOf (now (s .entry))) m tau n) (length (now (buffer .entry))) ⌝ }
+{
+    let lent = both(
+        both(holds(witness, inputs), holds(y, outputs)),
+        message.len() <= 4096,
+    );
+    let space = room(s, inputs, outputs, gates, ands, m, tau, n, h) <= buffer.len();
+    both(both(lent, root.len() == 16), space)
+}
+
+// Whether the witness gives y.
+fn gives(
+    s: &[u8],
+    inputs: usize,
+    outputs: usize,
+    gates: usize,
+    ands: usize,
+    witness: &[u8],
+    y: &[u8],
+) -> bool
+    requires { ⌜ (readCircuit (now s) ≡ legal (circuitOf (now s))) × (Known (now s) inputs outputs gates ands × WitnessFits inputs (now witness)) ⌝ }
+    ensures { λ r. ⌜ r ≡ witnesses (circuitOf (now (s .entry))) (now (witness .entry)) (now (y .entry)) ⌝ }
+{
+    let len = bits::oct(outputs);
+    let mut out = [0u8; 32];
+    let _ = evaluate(s, witness, &mut out[..len]);
+    bits::same(&out[..len], y)
+}
+
+// Tests what is lent, and proves a legal circuit.
+fn prove_lent(
+    s: &[u8],
+    inputs: usize,
+    outputs: usize,
+    gates: usize,
+    ands: usize,
+    witness: &[u8],
+    y: &[u8],
+    message: &[u8],
+    root: &[u8],
+    m: u32,
+    tau: u32,
+    n: u32,
+    buffer: &mut [u8],
+) -> Answer
+    requires { ⌜ (readCircuit (now s) ≡ legal (circuitOf (now s))) × Known (now s) inputs outputs gates ands ⌝ }
+    ensures { λ r. ⌜ outcome r (now (buffer .exit)) ≡ proveLegal (now (witness .entry)) (now (y .entry)) (now (message .entry)) (now (root .entry)) m tau n (now (buffer .entry)) (circuitOf (now (s .entry))) ⌝ }
+{
+    let h = parties::height(n);
+    if !both(counts(m, tau), h != 0) {
+        return Answer::Refused(Refusal::Parameter);
+    }
+    if !lengths(
+        s,
+        inputs,
+        outputs,
+        gates,
+        ands,
+        m as usize,
+        tau as usize,
+        n,
+        h,
+        witness,
+        y,
+        message,
+        root,
+        buffer,
+    ) {
+        return Answer::Refused(Refusal::BufferLength);
+    }
+    if !both(
+        bits::unused_zero(witness, inputs),
+        bits::unused_zero(y, outputs),
+    ) {
+        return Answer::Refused(Refusal::UnusedBits);
+    }
+    if !gives(s, inputs, outputs, gates, ands, witness, y) {
+        return Answer::Refused(Refusal::Output);
+    }
+    Answer::Written(prove_with(
+        s,
+        inputs,
+        outputs,
+        gates,
+        ands,
+        m,
+        tau,
+        n,
+        h,
+        witness,
+        message,
+        root,
+        buffer,
+    ))
+}
+
+// Proves that the circuit gives y on the witness: writes a proof into the buffer and answers its length, or refuses and leaves the
+// buffer as it was.
+pub fn prove(
+    s: &[u8],
+    witness: &[u8],
+    y: &[u8],
+    message: &[u8],
+    root: &[u8],
+    m: u32,
+    tau: u32,
+    n: u32,
+    buffer: &mut [u8],
+) -> Answer
+    ensures { λ r. ⌜ outcome r (now (buffer .exit)) ≡ proveOp (now (s .entry)) (now (witness .entry)) (now (y .entry)) (now (message .entry)) (now (root .entry)) m tau n (now (buffer .entry)) ⌝ }
+{
+    let answer = read(s);
+    match answer {
+        ReadAnswer::Refused(k) => Answer::Refused(k),
+        ReadAnswer::Legal(z) => prove_lent(
+            s,
+            z.inputs,
+            z.outputs,
+            z.gates,
+            z.ands,
+            witness,
+            y,
+            message,
+            root,
+            m,
+            tau,
+            n,
+            buffer,
+        ),
+    }
+}
