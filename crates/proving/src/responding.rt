@@ -46,15 +46,16 @@ pub fn first(
     let mut all = start_all_commitments();
     let mut j = 0;
     while j < m {
+        let i = j;
         let mut seed = [0u8; 16];
-        master(j, root, &mut seed);
+        master(i, root, &mut seed);
         let d = digests(
             s,
             inputs,
             outputs,
             gates,
             ands,
-            j,
+            i,
             n,
             h,
             witness,

@@ -23,6 +23,9 @@ use Rattle.mpc.specs.declared.Answer.the-variants as mpcAnswer
 use Rattle.seeds.specs.Operations.{Outcome as SeedsOutcome, paper, outcome as seedsOutcome}
 use Rattle.seeds.specs.declared.Answer.{Answer as SeedsAnswer}
 use Rattle.seeds.specs.declared.Answer.the-variants as seedsAnswer
+use Rattle.proving.specs.Answers.{outcome as proveOutcome}
+use Rattle.proving.specs.declared.Answer.{Answer as ProveAnswer}
+use Rattle.proving.specs.declared.Answer.the-variants as proveAnswer
 use Rattle.checking.specs.Answers.{paper as checkPaper}
 use Rattle.checking.specs.declared.Answer.{Answer as CheckAnswer}
 use Rattle.checking.specs.declared.Answer.the-variants as checkAnswer
@@ -145,3 +148,19 @@ check-done a r e f = ap status (ap checkPaper (sym e) ∙ f)
 pub check-refused : (a : Answer) (r : CheckAnswer) (k : Refusal) (n : ℕ) → r ≡ checkAnswer.Refused k → checkPaper r ≡ a → n ≡ numberOf k → n ≡ status a
 unfolding status
 check-refused a r k n e f h = h ∙ ap status (ap checkPaper (sym e) ∙ f)
+
+-- a proof that is written
+pub prove-done : (o : MpcOutcome) (r : ProveAnswer) (k : ℕ) (b lent : List ℕ) → r ≡ proveAnswer.Written k → proveOutcome r b ≡ o
+    → (_≡_ {A = ℕ} 0 (status (o .answer))) × (((k ∷ []) ≡ values (o .answer) lent) × ((b ∷ []) ≡ o .left))
+unfolding status values
+prove-done o r k b lent e f =
+    let g : proveOutcome (proveAnswer.Written k) b ≡ o = ap (λ (x : ProveAnswer). proveOutcome x b) (sym e) ∙ f in
+    (ap (λ (x : MpcOutcome). status (x .answer)) g, (ap (λ (x : MpcOutcome). values (x .answer) lent) g, ap (λ (x : MpcOutcome). x .left) g))
+
+-- one that is refused
+pub prove-refused : (o : MpcOutcome) (r : ProveAnswer) (k : Refusal) (n : ℕ) (b lent : List ℕ) → r ≡ proveAnswer.Refused k → proveOutcome r b ≡ o
+    → n ≡ numberOf k → (n ≡ status (o .answer)) × ((lent ≡ values (o .answer) lent) × ((b ∷ []) ≡ o .left))
+unfolding status values
+prove-refused o r k n b lent e f h =
+    let g : proveOutcome (proveAnswer.Refused k) b ≡ o = ap (λ (x : ProveAnswer). proveOutcome x b) (sym e) ∙ f in
+    (h ∙ ap (λ (x : MpcOutcome). status (x .answer)) g, (ap (λ (x : MpcOutcome). values (x .answer) lent) g, ap (λ (x : MpcOutcome). x .left) g))

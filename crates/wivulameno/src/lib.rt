@@ -5,6 +5,7 @@ ghost use mathlib.Core.List.{[], _∷_};
 ghost use lib.ListN.{length};
 ghost use Rattle.circuit.specs.Operations.{readOp, evaluateOp};
 ghost use Rattle.mpc.specs.Operations.{prepareOp, runOp, showOp, replayOp};
+ghost use Rattle.proof.specs.Prove.{proveOp};
 ghost use Rattle.proof.specs.Check.{checkOp};
 ghost use Rattle.shelf.specs.Operations.{stockOp, drawOp};
 ghost use Rattle.seeds.specs.Operations.{expandOp, openOp, challengeOp};
@@ -156,6 +157,32 @@ pub extern "C" fn wv_replay(
     match a {
         mpc::Answer::Done => 0,
         mpc::Answer::Refused(k) => refusal::number(k),
+    }
+}
+
+// Proves that the circuit gives y on the witness: the proof, and the length written.
+#[no_mangle]
+pub extern "C" fn wv_prove(
+    circuit: &[u8],
+    witness: &[u8],
+    y: &[u8],
+    message: &[u8],
+    root: &[u8],
+    m: u32,
+    tau: u32,
+    n: u32,
+    proof: &mut [u8],
+    written: &mut [u64; 1],
+) -> u32
+    ensures { λ r. ⌜ (r ≡ status (proveOp (now (circuit .entry)) (now (witness .entry)) (now (y .entry)) (now (message .entry)) (now (root .entry)) m tau n (now (proof .entry)) .answer)) × ((now (written .exit) ≡ values (proveOp (now (circuit .entry)) (now (witness .entry)) (now (y .entry)) (now (message .entry)) (now (root .entry)) m tau n (now (proof .entry)) .answer) (now (written .entry))) × (now (proof .exit) ∷ [] ≡ proveOp (now (circuit .entry)) (now (witness .entry)) (now (y .entry)) (now (message .entry)) (now (root .entry)) m tau n (now (proof .entry)) .left)) ⌝ }
+{
+    let a = proving::prove(circuit, witness, y, message, root, m, tau, n, proof);
+    match a {
+        proving::Answer::Written(k) => {
+            *written = [k as u64];
+            0
+        }
+        proving::Answer::Refused(k) => refusal::number(k),
     }
 }
 
