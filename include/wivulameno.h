@@ -292,6 +292,67 @@ uint32_t wv_challenge(uint32_t m, uint32_t tau, uint32_t n,
                       const uint8_t *message, size_t message_len,
                       uint8_t *out, size_t out_len);
 
+/*
+ * A proof says that its maker has a witness for which the circuit gives y. It
+ * is bound to a message of 0 to 4096 bytes. There are m instances (2 to 512) of
+ * a run by n parties (2, 4, 8 or 16); a challenge chooses tau of them (1 to
+ * m - 1), each with one party that stays hidden. With oct(k) for k / 8, rounded
+ * up, and A for the number of AND gates, a proof has at most
+ *
+ *   38 + 48 (m - tau)
+ *      + tau (16 log2 n + oct(A) + 32 + oct(I) + oct(A + O))
+ *
+ * bytes, and oct(A) less for each chosen instance that hides the last party.
+ *
+ * All numbers are little-endian. A proof starts with m and tau (16 bits each),
+ * n and a zero (one byte each) and h* (32 bytes). Then the instances follow in
+ * ascending order. One that is not chosen has its master (16 bytes) and the
+ * digest of its masked inputs and broadcasts (32). A chosen one has the
+ * siblings of its tree (16 bytes for each level, top first), the corrections
+ * unless the last party is hidden, the commitment of the hidden party (32), the
+ * masked inputs, and the broadcast row of the hidden party.
+ */
+
+/*
+ * Proves that the circuit gives y for the witness. The root is 16 random bytes,
+ * drawn from a shelf and used for this one proof: two proofs from one root can
+ * show the witness. Writes the proof to the start of proof, and its length to
+ * written; the bytes of proof beyond that length stay as they were. Refuses
+ * with 1 to 5, then:
+ *    8  m is not 2 to 512, tau is not 1 to m - 1, or n is not 2, 4, 8 or 16
+ *    6  the witness is not of I bits or y not of O bits, the message is longer
+ *       than 4096 bytes, the root is not of 16 bytes, or proof has fewer bytes
+ *       than a proof can have (see above)
+ *    7  an unused bit of the witness or of y is not zero
+ *   10  the circuit does not give y for the witness
+ */
+uint32_t wv_prove(const uint8_t *circuit, size_t circuit_len,
+                  const uint8_t *witness, size_t witness_len,
+                  const uint8_t *y, size_t y_len,
+                  const uint8_t *message, size_t message_len,
+                  const uint8_t *root, size_t root_len,
+                  uint32_t m, uint32_t tau, uint32_t n,
+                  uint8_t *proof, size_t proof_len, uint64_t *written);
+
+/*
+ * Checks a proof for the circuit, y and the message; 0 is accepted. The numbers
+ * m, tau and n are those that the proof's first bytes say: a caller who asks
+ * for certain ones compares these bytes. Refuses with 1 to 5, then:
+ *    6  y is not of O bits, or the message is longer than 4096 bytes
+ *    7  an unused bit of y is not zero
+ *   11  the proof is shorter than 38 bytes, its m, tau or n is out of the
+ *       limits, or its zero byte is not zero
+ *   12  its length is not that of the parts that the challenge of its h* asks
+ *       for
+ *    7  an unused bit of corrections, masked inputs or a row in it is not zero
+ *   10  the replay of a chosen instance has another output than y
+ *   13  the h* over all instances is not the one in the proof
+ */
+uint32_t wv_check(const uint8_t *circuit, size_t circuit_len,
+                  const uint8_t *y, size_t y_len,
+                  const uint8_t *message, size_t message_len,
+                  const uint8_t *proof, size_t proof_len);
+
 #ifdef __cplusplus
 }
 #endif

@@ -11,8 +11,8 @@ ghost use Rattle.proof.specs.Check.{checkProof, checkLegal, checkOp};
 ghost use Rattle.checking.specs.Answers.{paper};
 ghost use Rattle.checking.specs.Steps.{Headed};
 
-pub mod unused_bits;
-pub mod verifying;
+mod unused_bits;
+mod verifying;
 
 use circuit::ReadAnswer;
 use circuit::reading::read;

@@ -15,7 +15,7 @@ use proof::asking::asked;
 use proof::asking::stretch_bytes;
 
 // Whether the unused bits of the stretch of an instance, of which p is asked, are zero.
-pub fn stretch_unused(
+pub(crate) fn stretch_unused(
     s: &[u8],
     inputs: usize,
     outputs: usize,
@@ -36,7 +36,7 @@ pub fn stretch_unused(
 }
 
 // Whether the unused bits of all stretches are zero.
-pub fn all_unused(
+pub(crate) fn all_unused(
     s: &[u8],
     inputs: usize,
     outputs: usize,

@@ -29,7 +29,7 @@ pub struct Verdict {
 }
 
 // Checks instance j from its stretch: its digests, and whether its replay gives y.
-pub fn check_instance(
+pub(crate) fn check_instance(
     s: &[u8],
     inputs: usize,
     outputs: usize,
@@ -87,7 +87,7 @@ pub fn check_instance(
 }
 
 // Checks every instance from its stretch, and recomputes h* from their digests.
-pub fn recompute(
+pub(crate) fn recompute(
     s: &[u8],
     inputs: usize,
     outputs: usize,

@@ -34,7 +34,7 @@ use Rattle.honest.proofs.Asking.{Below, challenged-below}
 use Rattle.honest.proofs.Stretches.{commitments-given, online-given, unused-given}
 use Rattle.honest.proofs.Written.{length-master, length-proof, stretch-there, hstar-there, M-there, tau-there, n-there, good-there}
 use Rattle.honest.proofs.Proved.{has-height, proved}
-use Rattle.honest.proofs.Published.{check-is-published}
+use Rattle.honest.proofs.Published.{accepted}
 
 -- equal digests of all instances give one h*
 hstar-cong : (M : ℕ) (f f′ g g′ : ℕ → List ℕ) → ((j : ℕ) → j < M → f j ≡ f′ j) → ((j : ℕ) → j < M → g j ≡ g′ j)
@@ -100,12 +100,12 @@ module _ (c : Circuit) (M tau n : ℕ) (witness message root y : List ℕ) (hw :
       legal-accepts c y message proof M tau n hstar (M-there c M tau n witness message root m)
       (tau-there c M tau n witness message root t) (n-there c M tau n witness message root) (hstar-there c M tau n witness message root) a b
       (good-there c M tau n witness message root m t counts parties)
-      (check-is-published .complete c y proof M n ask honest)
+      (accepted c y proof M n ask honest)
 
 -- every honest proof passes
 pub complete : Complete
 unfolding witnesses checkOp checkRead
-complete s witness y message root buffer left M tau n k bytes _ _ _ e =
+complete s witness y message root buffer left M tau n k bytes e =
     let p = proved s witness y message root buffer left M tau n k e in
     let c : Circuit = p .circuit in
     let proof : List ℕ = proofOf c M tau n witness message root in

@@ -4,23 +4,25 @@ use mathlib.Core.Path.{_≡_, refl, sym, ap, _∙_}
 use mathlib.Core.Bool.{Bool, true, _&&_}
 use mathlib.Core.List.{List, []}
 use Prim.Native.Nat.{ℕ}
-use borrow.Author.Tests.{eq-eqb, eqb-true}
+use native.Mathlib.Omega.{arith}
+use borrow.Author.Tests.{eq-eqb, eqb-true, le-leb, leb-true}
 use lib.Dec.{eqb, leb}
 use lib.ListN.{length}
 use Rattle.bits.specs.Bits.{pack, unusedZero}
 use Rattle.bits.specs.Bytes.{sameBytes}
 use Rattle.bits.proofs.Equal.{same-eq, eq-same}
+use Rattle.bits.proofs.Tests.{and-true-left, and-true-right}
 use Rattle.circuit.specs.Circuit.{Circuit}
-use Rattle.circuit.specs.File.{Reading, legal}
-use Rattle.circuit.specs.Operations.{success}
+use Rattle.circuit.specs.File.{Reading, refused, legal, readCircuit}
+use Rattle.circuit.specs.Operations.{Answer, success}
 use Rattle.mpc.specs.Operations.{holds}
 use Rattle.instance.specs.Instance.{Asked, opened, hiding}
 use Rattle.proof.specs.Protocol.{hstarOf, challenged}
 use Rattle.proof.specs.File.{headerM, headerTau, headerN, headerHstar, goodHeader, proofBytes, stretchAt}
 use Rattle.instance.specs.Opened.{openedRun, stretchCommitments, stretchOnline, stretchUnused, stretchOutput}
 use Rattle.proof.specs.Check.{every, elseRefuse, checkProof, checkLegal, checkRead, checkOp}
-use Rattle.proof.specs.Theorems.{Published, CheckIsPublished, AcceptedLength}
-use Rattle.honest.proofs.Passing.{refuse-test, refuse-rest, every-at, all-every}
+use Rattle.proof.specs.Theorems.{Published, Accepts, CheckIsPublished, AcceptedLength}
+use Rattle.honest.proofs.Passing.{and-true, refuse-test, refuse-rest, every-at, all-every}
 
 -- a proof, of which `ask` says what is asked of each instance
 module _ (c : Circuit) (y proof : List ℕ) (M n : ℕ) (ask : ℕ → Asked) where
@@ -75,7 +77,7 @@ module _ (c : Circuit) (y proof : List ℕ) (M n : ℕ) (ask : ℕ → Asked) wh
       }
 
   -- what meets it is accepted
-  accepted : Published c y proof M n ask → checkProof c y proof M n ask ≡ success []
+  pub accepted : Published c y proof M n ask → checkProof c y proof M n ask ≡ success []
   accepted h =
       let a : size ≡ true = eq-eqb (length proof) (proofBytes c M n ask) (h .size) in
       let b : every M unused ≡ true = all-every M unused (h .unused) in
@@ -83,24 +85,70 @@ module _ (c : Circuit) (y proof : List ℕ) (M n : ℕ) (ask : ℕ → Asked) wh
       let e : sameBytes recomputed (headerHstar proof) ≡ true = eq-same recomputed (headerHstar proof) (h .digest) in
       tests ∙ rw (a, b, d, e)
 
+-- a check that accepts has passed the tests before the proof's
+module _ (y message proof : List ℕ) (c : Circuit) where
+  -- the tests, and what is asked by the header's challenge
+  abbrev sizes : Bool
+  sizes = holds (length (c .outputs)) y && leb (length message) 4096
+
+  abbrev clean : Bool
+  clean = unusedZero (length (c .outputs)) y
+
+  abbrev asks : ℕ → Asked
+  asks = challenged (headerM proof) (headerTau proof) (headerN proof) (headerHstar proof) message
+
+  abbrev rest : Answer
+  rest = checkProof c y proof (headerM proof) (headerN proof) asks
+
+  -- check makes them in this order
+  legal-tests : checkLegal y message proof c ≡ elseRefuse sizes 6 (elseRefuse clean 7 (elseRefuse (goodHeader proof) 11 rest))
+  unfolding checkLegal
+  legal-tests = refl
+
+  -- what is accepted of a legal circuit meets the published check
+  legal-accepts : (s : List ℕ) → readCircuit s ≡ legal c → checkLegal y message proof c ≡ success [] → Accepts s y message proof
+  legal-accepts s r e =
+      let e0 = sym legal-tests ∙ e in
+      let e1 = refuse-rest sizes 6 _ [] e0 in
+      let e2 = refuse-rest clean 7 _ [] e1 in
+      let t = refuse-test sizes 6 _ [] e0 in
+      record {
+        circuit = c;
+        read = r;
+        y-size = eqb-true (length y) _ (and-true-left (holds (length (c .outputs)) y) (leb (length message) 4096) t);
+        short = leb-true (length message) 4096 (and-true-right (holds (length (c .outputs)) y) (leb (length message) 4096) t);
+        y-unused = refuse-test clean 7 _ [] e1;
+        header = refuse-test (goodHeader proof) 11 _ [] e2;
+        published = published c y proof (headerM proof) (headerN proof) asks (refuse-rest (goodHeader proof) 11 _ [] e2);
+      }
+
+-- what a check that accepts has read
+read-accepts : (s y message proof : List ℕ) (r : Reading) → readCircuit s ≡ r → checkRead r y message proof ≡ success [] → Accepts s y message proof
+unfolding checkRead
+read-accepts s y message proof (refused k) r e = let z : _≡_ {A = ℕ} 0 1 = cc in absurd (omega arith)
+read-accepts s y message proof (legal c) r e = legal-accepts y message proof c s r e
+
+-- what check accepts meets the published check
+op-sound : (s y message proof : List ℕ) → checkOp s y message proof ≡ success [] → Accepts s y message proof
+unfolding checkOp
+op-sound s y message proof e = read-accepts s y message proof (readCircuit s) refl e
+
+-- what meets it is accepted
+op-complete : (s y message proof : List ℕ) → Accepts s y message proof → checkOp s y message proof ≡ success []
+unfolding checkOp checkRead
+op-complete s y message proof h =
+    let c = h .circuit in
+    let a : sizes y message proof c ≡ true = and-true _ _ (eq-eqb _ _ (h .y-size)) (le-leb (length message) 4096 (h .short)) in
+    let b : rest y message proof c ≡ success [] = accepted c y proof (headerM proof) (headerN proof) (asks y message proof c) (h .published) in
+    ap (λ (x : Reading). checkRead x y message proof) (h .read) ∙ (legal-tests y message proof c ∙ rw (a, h .y-unused, h .header, b))
+
 -- check is the published check
 pub check-is-published : CheckIsPublished
-check-is-published = record { sound = published; complete = accepted }
-
--- a check that accepts has read a legal circuit and passed the tests before the proof's
-accepted-legal : (y message proof : List ℕ) (c : Circuit) → checkLegal y message proof c ≡ success []
-    → checkProof c y proof (headerM proof) (headerN proof) (challenged (headerM proof) (headerTau proof) (headerN proof) (headerHstar proof) message)
-    ≡ success []
-unfolding checkLegal
-accepted-legal y message proof c e =
-    refuse-rest (goodHeader proof) 11 _ []
-    (refuse-rest (unusedZero (length (c .outputs)) y) 7 _ []
-    (refuse-rest (holds (length (c .outputs)) y && leb (length message) 4096) 6 _ [] e))
+check-is-published = record { sound = op-sound; complete = op-complete }
 
 -- the length of every accepted proof is the one its challenge implies
 pub accepted-length : AcceptedLength
-unfolding checkOp checkRead
+unfolding checkOp checkRead legal-accepts
 accepted-length s y message proof c r e =
     let l : checkRead (legal c) y message proof ≡ success [] = ap (λ (x : Reading). checkRead x y message proof) (sym r) ∙ e in
-    published c y proof (headerM proof) (headerN proof) (challenged (headerM proof) (headerTau proof) (headerN proof) (headerHstar proof) message)
-    (accepted-legal y message proof c l) .size
+    legal-accepts y message proof c s r l .published .size

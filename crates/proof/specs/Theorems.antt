@@ -3,18 +3,18 @@
 use mathlib.Core.Path.{_≡_}
 use mathlib.Core.Bool.{true}
 use mathlib.Core.List.{List, [], _∷_}
-use Prim.Native.Nat.{ℕ, _<_}
+use Prim.Native.Nat.{ℕ, _≤_, _<_}
 use lib.ListN.{length, getD, take}
-use Rattle.bits.specs.Bits.{pack}
+use Rattle.bits.specs.Bits.{oct, pack, unusedZero}
 use Rattle.circuit.specs.Circuit.{Circuit}
 use Rattle.circuit.specs.File.{readCircuit, legal}
 use Rattle.circuit.specs.Operations.{success}
 use Rattle.instance.specs.Instance.{Asked, hiding}
 use Rattle.proof.specs.Protocol.{hstarOf, challenged}
-use Rattle.proof.specs.File.{headerM, headerTau, headerN, headerHstar, proofBytes, stretchAt}
+use Rattle.proof.specs.File.{headerM, headerTau, headerN, headerHstar, goodHeader, proofBytes, stretchAt}
 use Rattle.proof.specs.Prove.{proveOp}
 use Rattle.instance.specs.Opened.{stretchCommitments, stretchOnline, stretchUnused, openedRun}
-use Rattle.proof.specs.Check.{checkOp, checkProof}
+use Rattle.proof.specs.Check.{checkOp}
 
 -- bytes
 abbrev pub AllBytes : List ℕ → Type 0
@@ -24,7 +24,7 @@ AllBytes s = (k : ℕ) → getD s k 0 < 256
 -- message
 abbrev pub Complete : Type 0
 Complete =
-    (s witness y message root buffer left : List ℕ) (M tau n k : ℕ) → AllBytes witness → AllBytes y → AllBytes message → AllBytes root
+    (s witness y message root buffer left : List ℕ) (M tau n k : ℕ) → AllBytes witness
     → proveOp s witness y message root M tau n buffer ≡ record { answer = success (k ∷ []); left = left ∷ [] }
     → checkOp s y message (take k left) ≡ success []
 
@@ -37,10 +37,22 @@ pub record Published (c : Circuit) (y proof : List ℕ) (M n : ℕ) (ask : ℕ �
   pub digest : hstarOf M (λ j. stretchCommitments c n j (stretchAt c n ask proof j) (ask j)) (λ j. stretchOnline c n j (stretchAt c n ask proof j) (ask j))
       ≡ headerHstar proof
 
+-- the published check of a proof file: a legal circuit, y and message of their lengths, a good header, and the challenge that the
+-- header's h* gives
+pub record Accepts (s y message proof : List ℕ) : Type 0 where
+  pub circuit : Circuit
+  pub read : readCircuit s ≡ legal circuit
+  pub y-size : length y ≡ oct (length (circuit .outputs))
+  pub short : length message ≤ 4096
+  pub y-unused : unusedZero (length (circuit .outputs)) y ≡ true
+  pub header : goodHeader proof ≡ true
+  pub published : Published circuit y proof (headerM proof) (headerN proof)
+      (challenged (headerM proof) (headerTau proof) (headerN proof) (headerHstar proof) message)
+
 -- Theorem, check is the published check: a proof is accepted exactly where it holds
 pub record CheckIsPublished : Type 0 where
-  pub sound : (c : Circuit) (y proof : List ℕ) (M n : ℕ) (ask : ℕ → Asked) → checkProof c y proof M n ask ≡ success [] → Published c y proof M n ask
-  pub complete : (c : Circuit) (y proof : List ℕ) (M n : ℕ) (ask : ℕ → Asked) → Published c y proof M n ask → checkProof c y proof M n ask ≡ success []
+  pub sound : (s y message proof : List ℕ) → checkOp s y message proof ≡ success [] → Accepts s y message proof
+  pub complete : (s y message proof : List ℕ) → Accepts s y message proof → checkOp s y message proof ≡ success []
 
 -- Theorem: the length of every accepted proof is the one its challenge implies
 abbrev pub AcceptedLength : Type 0

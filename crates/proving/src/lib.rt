@@ -12,8 +12,8 @@ ghost use Rattle.proof.specs.File.{proofRoom};
 ghost use Rattle.proof.specs.Prove.{witnesses, proveLegal, proveOp};
 ghost use Rattle.proving.specs.Answers.{outcome};
 
-pub mod responding;
-pub mod writing;
+mod responding;
+mod writing;
 
 use circuit::ReadAnswer;
 use circuit::evaluation::evaluate;

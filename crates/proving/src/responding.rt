@@ -24,7 +24,7 @@ use seeds::digest::transcript;
 use seeds::party::master;
 
 // Round 1: h*, from the digests of all m instances; `onlines` takes the h'_j, one after the other.
-pub fn first(
+pub(crate) fn first(
     s: &[u8],
     inputs: usize,
     outputs: usize,
@@ -74,7 +74,7 @@ pub fn first(
 }
 
 // The stretch of instance j, of which p is asked; `online` is its h'_j.
-pub fn stretch(
+pub(crate) fn stretch(
     s: &[u8],
     inputs: usize,
     outputs: usize,
@@ -120,7 +120,7 @@ pub fn stretch(
 }
 
 // Round 3: the stretches, from the last to the first, so that each h'_j stands until it is read.
-pub fn respond(
+pub(crate) fn respond(
     s: &[u8],
     inputs: usize,
     outputs: usize,

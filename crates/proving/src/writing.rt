@@ -16,7 +16,7 @@ use proof::asking::proof_bytes;
 use seeds::challenge;
 
 // The header: M, τ, n, zero, h*.
-pub fn head(m: u32, tau: u32, n: u32, hstar: &[u8], out: &mut [u8])
+pub(crate) fn head(m: u32, tau: u32, n: u32, hstar: &[u8], out: &mut [u8])
     requires { ⌜ (m < 65536) × ((tau < 65536) × ((n < 256) × ((length (now hstar) ≡ 32) × (length (now out) ≡ 38)))) ⌝ }
     ensures { λ _. ⌜ now (out .exit) ≡ headerOf m tau n (now (hstar .entry)) ⌝ }
 {
@@ -28,7 +28,7 @@ pub fn head(m: u32, tau: u32, n: u32, hstar: &[u8], out: &mut [u8])
 }
 
 // Writes a proof into the buffer, and gives its length.
-pub fn prove_in(
+pub(crate) fn prove_in(
     s: &[u8],
     inputs: usize,
     outputs: usize,
@@ -89,7 +89,7 @@ pub fn prove_in(
 }
 
 // The same with a work memory of its own.
-pub fn prove_with(
+pub(crate) fn prove_with(
     s: &[u8],
     inputs: usize,
     outputs: usize,

@@ -1,8 +1,10 @@
 //! Speed of the library, the second implementation and OpenSSL.
 
+mod hash_calls;
 mod hashing;
 mod mpc;
 mod openssl;
+mod proofs;
 mod rows;
 
 use openssl::OpenSsl;
@@ -15,4 +17,5 @@ fn main() {
     let instance = mpc::Instance::worst();
     mpc::gates_table(&instance).print();
     mpc::challenge_table().print();
+    proofs::print(openssl.as_ref());
 }

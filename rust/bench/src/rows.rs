@@ -51,14 +51,8 @@ pub fn nanoseconds_each(seconds: f64, count: f64) -> f64 {
 }
 
 impl Table<'_> {
-    /// Times all rows in each round, so that noise meets them all; then prints.
     pub fn print(&mut self) {
-        let mut best = vec![[None; 3]; self.rows.len()];
-        for _ in 0..self.rounds {
-            for (row, best) in self.rows.iter_mut().zip(&mut best) {
-                run_round(row, best);
-            }
-        }
+        let best = best_times(self.rounds, &mut self.rows);
         println!("{}, best of {} rounds", self.title, self.rounds);
         let head = ["ours", "second", "OpenSSL", "ours/OpenSSL", "ours/second"];
         print_line("", &head.map(String::from));
@@ -68,6 +62,18 @@ impl Table<'_> {
         }
         println!();
     }
+}
+
+/// The best seconds for each call. All rows are timed in each round, so that
+/// noise meets them all.
+pub fn best_times(rounds: usize, rows: &mut [Row]) -> Vec<[Option<f64>; 3]> {
+    let mut best = vec![[None; 3]; rows.len()];
+    for _ in 0..rounds {
+        for (row, best) in rows.iter_mut().zip(&mut best) {
+            run_round(row, best);
+        }
+    }
+    best
 }
 
 /// One round of a row: each call for one slice of time.
@@ -105,11 +111,15 @@ fn print_row(name: &str, [ours, second, openssl]: [Option<f64>; 3]) {
     print_line(name, &cells);
 }
 
-fn cell(value: Option<f64>, digits: usize) -> String {
+pub fn cell(value: Option<f64>, digits: usize) -> String {
     value.map_or("-".into(), |value| format!("{value:.digits$}"))
 }
 
-fn print_line(name: &str, cells: &[String; 5]) {
-    let [ours, second, openssl, to_openssl, to_second] = cells;
-    println!("{name:<32}{ours:>9}{second:>9}{openssl:>9}{to_openssl:>14}{to_second:>13}");
+/// A name and its cells, each wide enough for the longest head.
+pub fn print_line(name: &str, cells: &[String]) {
+    print!("{name:<36}");
+    for cell in cells {
+        print!("{cell:>13}");
+    }
+    println!();
 }

@@ -6,5 +6,6 @@ pub mod circuits;
 pub mod guarded;
 pub mod outcomes;
 pub mod pages;
+pub mod proofs;
 pub mod random;
 pub mod vectors;

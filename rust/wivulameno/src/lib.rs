@@ -7,6 +7,7 @@ mod ffi;
 
 pub mod circuit;
 pub mod mpc;
+pub mod proof;
 pub mod seeds;
 pub mod shelf;
 

@@ -1,0 +1,142 @@
+//! The hash calls of one prove or check, by their lengths, to be made alone.
+
+use crate::openssl::OpenSsl;
+use crate::rows::{call, Call};
+use reference::circuit::Sizes;
+use reference::fips202;
+use reference::proof::{header, hidden_parties, Counts};
+use std::hint::black_box;
+
+#[derive(Clone, Copy)]
+enum Function {
+    Sha3,
+    Shake128,
+    Shake256,
+}
+
+use Function::*;
+
+/// Calls of one function with these lengths of input and output.
+#[derive(Clone, Copy)]
+pub struct Hashes {
+    function: Function,
+    input: usize,
+    output: usize,
+    times: usize,
+}
+
+fn hashes(function: Function, input: usize, output: usize, times: usize) -> Hashes {
+    Hashes {
+        function,
+        input,
+        output,
+        times,
+    }
+}
+
+/// The hash calls for `leaves` opened leaves in all, of which `last` are those
+/// of the last party, below `nodes` nodes: seeds, tapes and commitments.
+fn of_leaves(sizes: Sizes, nodes: usize, leaves: usize, last: usize) -> [Hashes; 5] {
+    [
+        hashes(Shake128, 21, 32, nodes),
+        hashes(Shake128, 20, 32, leaves),
+        hashes(Shake128, 20, sizes.tape_row_len(), leaves),
+        hashes(Sha3, 36, 32, leaves - last),
+        hashes(Sha3, 36 + sizes.corrections_len(), 32, last),
+    ]
+}
+
+/// The digests: h_j of all instances, h'_j of some, and the challenge.
+fn of_digests(sizes: Sizes, counts: Counts, message: &[u8], broadcasts: usize) -> [Hashes; 5] {
+    let [m, tau, n] = [counts.m, counts.tau, counts.n].map(|count| count as usize);
+    let rows = sizes.inputs_len() + n * sizes.row_len();
+    [
+        hashes(Sha3, 3 + 32 * n, 32, m),
+        hashes(Sha3, 3 + rows, 32, broadcasts),
+        hashes(Sha3, 1 + 32 * m, 32, 2),
+        hashes(Sha3, 1 + 64, 32, 1),
+        hashes(Shake256, 35 + message.len(), 9 * tau, 1),
+    ]
+}
+
+/// What a prover hashes, each input once.
+pub fn of_prove(sizes: Sizes, counts: Counts, message: &[u8]) -> Vec<Hashes> {
+    let [m, n] = [counts.m, counts.n].map(|count| count as usize);
+    let masters = [hashes(Shake128, 19, 16, m)];
+    let leaves = of_leaves(sizes, m * (n - 1), m * n, m);
+    let digests = of_digests(sizes, counts, message, m);
+    [&masters[..], &leaves, &digests].concat()
+}
+
+/// What the check of this proof hashes, each input once.
+pub fn of_check(sizes: Sizes, proof: &[u8], message: &[u8]) -> Vec<Hashes> {
+    let (counts, h_star) = header(proof).expect("a header");
+    let [m, tau, n] = [counts.m, counts.tau, counts.n].map(|count| count as usize);
+    let hidden = hidden_parties(counts, h_star, message)
+        .into_iter()
+        .flatten();
+    let last_hidden = hidden.filter(|&p| usize::from(p) == n - 1).count();
+    // The nodes on the way to a hidden leaf are not known.
+    let nodes = m * (n - 1) - tau * n.ilog2() as usize;
+    let leaves = of_leaves(sizes, nodes, m * n - tau, m - last_hidden);
+    let digests = of_digests(sizes, counts, message, tau);
+    [&leaves[..], &digests].concat()
+}
+
+/// The hash calls alone, by OpenSSL or else by the second implementation.
+fn hash_all(openssl: Option<&OpenSsl>, all: &[Hashes], input: &[u8], output: &mut [u8]) {
+    for hashes in all {
+        let (input, output) = (&input[..hashes.input], &mut output[..hashes.output]);
+        for _ in 0..hashes.times {
+            let input = black_box(input);
+            match (openssl, hashes.function) {
+                (Some(o), Sha3) => output.copy_from_slice(&o.sha3_256(input)),
+                (Some(o), Shake128) => o.shake128(input, output),
+                (Some(o), Shake256) => o.shake256(input, output),
+                (None, Sha3) => output.copy_from_slice(&fips202::sha3_256(input)),
+                (None, Shake128) => fips202::shake128(input, output),
+                (None, Shake256) => fips202::shake256(input, output),
+            }
+        }
+    }
+}
+
+pub fn call_of(openssl: Option<&OpenSsl>, all: Vec<Hashes>) -> Call<'_> {
+    let longest = |len: fn(&Hashes) -> usize| all.iter().map(len).max().unwrap_or(0);
+    let input = vec![0x5a; longest(|hashes| hashes.input)];
+    call(longest(|hashes| hashes.output), move |out| {
+        hash_all(openssl, &all, &input, out)
+    })
+}
+
+#[cfg(test)]
+mod tests {
+    use super::*;
+    use reference::proof::{longest, prove, Statement};
+
+    /// One AND of two inputs.
+    const K: [u8; 18] = [2, 0, 1, 0, 1, 0, 1, 0, 2, 0, 2, 0, 0, 0, 1, 0, 0, 0];
+
+    fn times(all: Vec<Hashes>) -> usize {
+        all.iter().map(|hashes| hashes.times).sum()
+    }
+
+    /// Four instances, one chosen, two parties: 4 trees of one node and 8 leaves,
+    /// of which a check has 3 trees and 7 leaves.
+    #[test]
+    fn calls_of_a_small_proof() {
+        let sizes = reference::circuit::read(&K).unwrap();
+        let counts = Counts { m: 4, tau: 1, n: 2 };
+        let prover = 4 + 4 + 3 * 8 + 4 + 4 + 4;
+        assert_eq!(times(of_prove(sizes, counts, b"")), prover);
+        let statement = Statement {
+            circuit: &K,
+            y: &[1],
+            message: b"",
+        };
+        let mut proof = vec![0; longest(sizes, counts)];
+        let len = prove(statement, &[3], &[7; 16], counts, &mut proof).unwrap();
+        let checker = 3 + 3 * 7 + 4 + 1 + 4;
+        assert_eq!(times(of_check(sizes, &proof[..len], b"")), checker);
+    }
+}

@@ -1,0 +1,237 @@
+//! Prove and check of the example circuits and of the worst one, beside the
+//! time that their hash calls alone need.
+
+use crate::hash_calls::{call_of, of_check, of_prove};
+use crate::openssl::OpenSsl;
+use crate::rows::{best_times, call, cell, nanoseconds_each, print_line, Row};
+use reference::circuit::Sizes;
+use reference::proof::{longest, Counts, Statement};
+use std::hint::black_box;
+
+const MESSAGE: &[u8] = b"order 17 of depot 4, 2026-03-01.";
+const ROOT: [u8; 16] = [0x5a; 16];
+const INSTANCES: [u32; 3] = [64, 256, 512];
+const PARTIES: [u32; 2] = [4, 16];
+
+/// Error 2^-128; the tau for it follows from M and n.
+const SOUNDNESS: f64 = 128.0;
+
+macro_rules! example {
+    ($name:literal) => {
+        (
+            $name,
+            include_bytes!(concat!("../../../examples/", $name, ".circuit")).to_vec(),
+            include_bytes!(concat!("../../../examples/", $name, ".row")).to_vec(),
+        )
+    };
+}
+
+/// A circuit with a witness, and a proof for each M and n.
+struct Example {
+    name: &'static str,
+    circuit: Vec<u8>,
+    witness: Vec<u8>,
+    y: Vec<u8>,
+    sizes: Sizes,
+}
+
+impl Example {
+    fn of((name, circuit, witness): (&'static str, Vec<u8>, Vec<u8>)) -> Example {
+        let sizes = reference::circuit::read(&circuit).expect("a legal circuit");
+        let mut y = vec![0; sizes.y_len()];
+        reference::circuit::evaluate(&circuit, &witness, &mut y).expect("no refusal");
+        Example {
+            name,
+            circuit,
+            witness,
+            y,
+            sizes,
+        }
+    }
+
+    /// The worst example with 256 outputs, which are its last wires.
+    fn worst() -> Example {
+        let (name, one_output, witness) = example!("worst");
+        let outputs = (0..256_u16).flat_map(|k| (512 + 4096 - 256 + k).to_le_bytes());
+        let mut circuit = one_output[..8].to_vec();
+        circuit[2..4].copy_from_slice(&256_u16.to_le_bytes());
+        circuit.extend(outputs);
+        circuit.extend(&one_output[10..]);
+        Example::of((name, circuit, witness))
+    }
+
+    fn statement(&self) -> Statement<'_> {
+        Statement {
+            circuit: &self.circuit,
+            y: &self.y,
+            message: MESSAGE,
+        }
+    }
+
+    fn proof(&self, counts: Counts) -> Vec<u8> {
+        let mut proof = vec![0; longest(self.sizes, counts)];
+        let statement = self.statement();
+        let len = reference::proof::prove(statement, &self.witness, &ROOT, counts, &mut proof);
+        proof.truncate(len.expect("no refusal"));
+        proof
+    }
+}
+
+/// log2 of the number of ways to choose k of n.
+fn ways(n: u32, k: u32) -> f64 {
+    let factor = |i| f64::from(n - i).log2() - f64::from(i + 1).log2();
+    (0..k).map(factor).sum()
+}
+
+/// The bits of soundness (section 2.2 of the paper): a prover that cheats in the
+/// preprocessing of m - k instances has to see them chosen, and to guess the
+/// hidden party of the other chosen ones.
+fn soundness(m: u32, tau: u32, n: u32) -> f64 {
+    let guessed = 0..=tau;
+    let bits = guessed.map(|k| {
+        let chosen = ways(m, tau) - ways(m - tau + k, k);
+        chosen + f64::from(k) * f64::from(n).log2()
+    });
+    let least = bits.fold(f64::MAX, f64::min);
+    // So that equal errors are equal numbers.
+    (least * 1e6).round() / 1e6
+}
+
+/// The least tau that is sound enough, or the least of the soundest if none is.
+fn counts(m: u32, n: u32) -> Counts {
+    let enough = (1..m).find(|&tau| soundness(m, tau, n) >= SOUNDNESS);
+    let bits = |tau: &u32| soundness(m, *tau, n);
+    let tau = enough.or_else(|| (1..m).rev().max_by(|a, b| bits(a).total_cmp(&bits(b))));
+    Counts {
+        m,
+        tau: tau.expect("m is 2 or more"),
+        n,
+    }
+}
+
+/// The same lines for both implementations, whose types have the same names.
+macro_rules! prove_call {
+    ($module:path, $example:expr, $counts:expr) => {{
+        use $module as proof;
+        let Counts { m, tau, n } = $counts;
+        call(longest($example.sizes, $counts), move |out| {
+            let statement = proof::Statement {
+                circuit: &$example.circuit,
+                y: &$example.y,
+                message: MESSAGE,
+            };
+            let witness = black_box(&$example.witness);
+            let counts = proof::Counts { m, tau, n };
+            proof::prove(statement, witness, &ROOT, counts, out).expect("no refusal");
+        })
+    }};
+}
+
+macro_rules! check_call {
+    ($module:path, $example:expr, $proof:expr) => {{
+        use $module as proof;
+        let file: Vec<u8> = $proof.to_vec();
+        call(0, move |_| {
+            let statement = proof::Statement {
+                circuit: &$example.circuit,
+                y: &$example.y,
+                message: MESSAGE,
+            };
+            proof::check(statement, black_box(&file)).expect("accepted");
+        })
+    }};
+}
+
+/// The rows of prove and of check for one circuit and these counts.
+fn rows<'a>(example: &'a Example, counts: Counts, openssl: Option<&'a OpenSsl>) -> [Row<'a>; 2] {
+    let proof = example.proof(counts);
+    let prove = [
+        Some(prove_call!(wivulameno::proof, example, counts)),
+        Some(prove_call!(reference::proof, example, counts)),
+        Some(call_of(openssl, of_prove(example.sizes, counts, MESSAGE))),
+    ];
+    let check = [
+        Some(check_call!(wivulameno::proof, example, proof)),
+        Some(check_call!(reference::proof, example, proof)),
+        Some(call_of(openssl, of_check(example.sizes, &proof, MESSAGE))),
+    ];
+    let Counts { m, tau, n } = counts;
+    let row = |operation, calls| Row {
+        name: format!("{operation} {}, M {m}, n {n}, tau {tau}", example.name),
+        amount: example.sizes.ands * (n * m) as usize,
+        batch: 1,
+        calls,
+    };
+    [row("prove", prove), row("check", check)]
+}
+
+/// Milliseconds, and what stands beside them.
+fn cells(amount: usize, [ours, second, hashing]: [Option<f64>; 3]) -> [String; 6] {
+    let milliseconds = |seconds: Option<f64>| seconds.map(|seconds| seconds * 1e3);
+    let ratio = |other: Option<f64>| ours.zip(other).map(|(a, b)| a / b);
+    [
+        cell(milliseconds(ours), 2),
+        cell(milliseconds(second), 2),
+        cell(milliseconds(hashing), 2),
+        cell(ours.map(|ours| nanoseconds_each(ours, amount as f64)), 2),
+        cell(ratio(hashing), 2),
+        cell(ratio(second), 2),
+    ]
+}
+
+fn print_table(examples: &[Example], rounds: usize, openssl: Option<&OpenSsl>) {
+    let all = INSTANCES.map(|m| PARTIES.map(|n| counts(m, n))).concat();
+    let rows = examples.iter().flat_map(|example| {
+        let all = all.iter();
+        all.flat_map(move |&counts| rows(example, counts, openssl))
+    });
+    let mut rows: Vec<Row> = rows.collect();
+    let best = best_times(rounds, &mut rows);
+    let hasher = if openssl.is_some() {
+        "OpenSSL"
+    } else {
+        "the second"
+    };
+    println!("ms; ns for each AND gate, party and instance; hashing is the same hash calls alone,");
+    println!("by {hasher}; the least tau for an error of 2^-128, or the tau of the least error if");
+    println!("none is; best of {rounds} rounds");
+    let head = [
+        "ours",
+        "second",
+        "hashing",
+        "ns each",
+        "ours/hashing",
+        "ours/second",
+    ];
+    print_line("", &head.map(String::from));
+    for (row, best) in rows.iter().zip(best) {
+        print_line(&row.name, &cells(row.amount, best));
+    }
+    println!();
+}
+
+/// The examples, then the worst circuit in fewer rounds.
+pub fn print(openssl: Option<&OpenSsl>) {
+    let small = [example!("stock16"), example!("stock32"), example!("date")];
+    print_table(&small.map(Example::of), 15, openssl);
+    print_table(&[Example::worst()], 6, openssl);
+}
+
+#[cfg(test)]
+mod tests {
+    use super::*;
+
+    #[test]
+    fn sound_enough() {
+        let taus = INSTANCES.map(|m| PARTIES.map(|n| counts(m, n).tau));
+        assert_eq!(taus, [[36, 33], [64, 36], [64, 32]]);
+        assert!((soundness(256, 36, 16) - 128.909).abs() < 0.001);
+    }
+
+    #[test]
+    fn the_worst_has_all_limits() {
+        let sizes = Example::worst().sizes;
+        let all = [sizes.inputs, sizes.outputs, sizes.gates, sizes.ands];
+        assert_eq!(all, [512, 256, 4096, 4096]);
+    }
+}

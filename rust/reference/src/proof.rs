@@ -1,0 +1,615 @@
+//! The proof file: prove and check, with all instances kept in memory.
+
+use crate::bits::rest_is_zero;
+use crate::circuit::{legal, Circuit, Sizes};
+use crate::mpc::{right_corrections, run_parties, run_shown, Showing};
+use crate::seeds::{self, Digest, Value};
+use crate::{u16_at, Refusal};
+
+const HEADER_LEN: usize = 38;
+const VALUE_LEN: usize = 16;
+const DIGEST_LEN: usize = 32;
+const LONGEST_MESSAGE: usize = 4096;
+
+/// What is proved: that the prover knows a witness for which the circuit gives
+/// y. The message is bound to the proof.
+#[derive(Clone, Copy)]
+pub struct Statement<'a> {
+    pub circuit: &'a [u8],
+    pub y: &'a [u8],
+    pub message: &'a [u8],
+}
+
+/// M instances, tau of them chosen, n parties.
+#[derive(Clone, Copy, Debug, PartialEq, Eq)]
+pub struct Counts {
+    pub m: u32,
+    pub tau: u32,
+    pub n: u32,
+}
+
+impl Counts {
+    fn are_in_limits(&self) -> bool {
+        (2..=512).contains(&self.m)
+            && (1..self.m).contains(&self.tau)
+            && [2, 4, 8, 16].contains(&self.n)
+    }
+}
+
+/// Writes a proof to the start of `proof` and gives its length: refusals 1 to
+/// 5, 8, 6, 7 and 10.
+pub fn prove(
+    statement: Statement,
+    witness: &[u8],
+    root: &[u8],
+    counts: Counts,
+    proof: &mut [u8],
+) -> Result<usize, Refusal> {
+    let circuit = legal(statement.circuit)?;
+    let sizes = circuit.sizes();
+    if !counts.are_in_limits() {
+        return Err(8);
+    }
+    let root: Value = root.try_into().map_err(|_| 6_u32)?;
+    if witness.len() != sizes.inputs_len() || proof.len() < longest(sizes, counts) {
+        return Err(6);
+    }
+    lengths_of(statement, sizes)?;
+    if !rest_is_zero(witness, sizes.inputs) || !rest_is_zero(statement.y, sizes.outputs) {
+        return Err(7);
+    }
+    if circuit.output(witness) != statement.y {
+        return Err(10);
+    }
+    let instances = all_instances(&circuit, witness, root, counts);
+    let file = written(&instances, counts, h_star(&instances), statement.message);
+    proof[..file.len()].copy_from_slice(&file);
+    Ok(file.len())
+}
+
+/// Does the proof show the statement? Refusals 1 to 5, 6, 7, 11, 12, 7, 10 and 13.
+pub fn check(statement: Statement, proof: &[u8]) -> Result<(), Refusal> {
+    let circuit = legal(statement.circuit)?;
+    let sizes = circuit.sizes();
+    lengths_of(statement, sizes)?;
+    if !rest_is_zero(statement.y, sizes.outputs) {
+        return Err(7);
+    }
+    let (counts, h_star) = header(proof).ok_or(11_u32)?;
+    let n = counts.n as usize;
+    let hidden = hidden_parties(counts, h_star, statement.message);
+    let received = received(sizes, n, &hidden, proof).ok_or(12_u32)?;
+    if !received.iter().all(|part| part.unused_is_zero(sizes)) {
+        return Err(7);
+    }
+    let instances = (0..).zip(&received);
+    let checked: Vec<Checked> = instances
+        .map(|(j, part)| part.checked(&circuit, j, n))
+        .collect();
+    let other = |part: &Checked| part.output.as_ref().is_some_and(|y| y != statement.y);
+    if checked.iter().any(other) {
+        return Err(10);
+    }
+    let h: Vec<Digest> = checked.iter().map(|part| part.h).collect();
+    let h_prime: Vec<Digest> = checked.iter().map(|part| part.h_prime).collect();
+    match digest_of_all(&h, &h_prime) == h_star {
+        true => Ok(()),
+        false => Err(13),
+    }
+}
+
+/// 6 if y or the message has not a length as stated.
+fn lengths_of(statement: Statement, sizes: Sizes) -> Result<(), Refusal> {
+    let good = statement.y.len() == sizes.y_len() && statement.message.len() <= LONGEST_MESSAGE;
+    good.then_some(()).ok_or(6)
+}
+
+/// The longest proof for these counts: every chosen instance has corrections.
+pub fn longest(sizes: Sizes, counts: Counts) -> usize {
+    let (m, tau) = (counts.m as usize, counts.tau as usize);
+    let not_chosen = stretch_len(sizes, counts.n, None);
+    let chosen = stretch_len(sizes, counts.n, Some(0));
+    HEADER_LEN + (m - tau) * not_chosen + tau * chosen
+}
+
+/// The bytes of one instance in the proof, `hidden` its hidden party if chosen.
+pub fn stretch_len(sizes: Sizes, n: u32, hidden: Option<u8>) -> usize {
+    let Some(p) = hidden else {
+        return VALUE_LEN + DIGEST_LEN;
+    };
+    let siblings = VALUE_LEN * n.ilog2() as usize;
+    let corrections = match u32::from(p) == n - 1 {
+        true => 0,
+        false => sizes.corrections_len(),
+    };
+    siblings + corrections + DIGEST_LEN + sizes.inputs_len() + sizes.row_len()
+}
+
+/// For each instance its hidden party, if the challenge chooses it.
+pub fn hidden_parties(counts: Counts, h_star: Digest, message: &[u8]) -> Vec<Option<u8>> {
+    let Counts { m, tau, n } = counts;
+    let chosen = seeds::challenge(m, tau, n, &h_star, message).expect("counts in limits");
+    let mut hidden = vec![None; m as usize];
+    for (j, p) in chosen {
+        hidden[usize::from(j)] = Some(p);
+    }
+    hidden
+}
+
+/// M, tau, n and h*, if these bytes start with a header.
+pub fn header(proof: &[u8]) -> Option<(Counts, Digest)> {
+    let header = proof.get(..HEADER_LEN)?;
+    let counts = Counts {
+        m: u16_at(header, 0) as u32,
+        tau: u16_at(header, 2) as u32,
+        n: header[4].into(),
+    };
+    let good = counts.are_in_limits() && header[5] == 0;
+    good.then(|| (counts, header[6..].try_into().unwrap()))
+}
+
+/// The part of each instance in the proof, if its length is that of all parts.
+pub fn stretches<'a>(
+    sizes: Sizes,
+    n: u32,
+    hidden: &[Option<u8>],
+    proof: &'a [u8],
+) -> Option<Vec<&'a [u8]>> {
+    let mut stretches = vec![];
+    let mut rest = &proof[HEADER_LEN..];
+    for &p in hidden {
+        let (stretch, after) = rest.split_at_checked(stretch_len(sizes, n, p))?;
+        stretches.push(stretch);
+        rest = after;
+    }
+    rest.is_empty().then_some(stretches)
+}
+
+/// Tags 9, 10 and 11: h* over all h_j and all h'_j.
+fn digest_of_all(h: &[Digest], h_prime: &[Digest]) -> Digest {
+    let h = seeds::all_commitments_digest(h);
+    let h_prime = seeds::all_broadcasts_digest(h_prime);
+    seeds::h_star(h, h_prime)
+}
+
+/// What follows from the master of instance j: the seed and the r of each
+/// party, the tapes and the corrections.
+pub struct Preprocessing {
+    pub j: u16,
+    pub master: Value,
+    pub seeds: Vec<[Value; 2]>,
+    pub tapes: Vec<u8>,
+    pub corrections: Vec<u8>,
+}
+
+impl Preprocessing {
+    fn of(circuit: &Circuit, j: u16, n: usize, master: Value) -> Preprocessing {
+        let leaves = seeds::tree_leaves(j, n, master);
+        let seeds: Vec<[Value; 2]> = (0..)
+            .zip(leaves)
+            .map(|(i, leaf)| seeds::seed_and_r(j, i, leaf))
+            .collect();
+        let sizes = circuit.sizes();
+        let rows = (0..).zip(&seeds);
+        let rows = rows.map(|(i, [seed, _])| tape_row(sizes, j, i, n, *seed));
+        let tapes = rows.collect::<Vec<_>>().concat();
+        Preprocessing {
+            j,
+            master,
+            corrections: right_corrections(circuit, n, &tapes),
+            seeds,
+            tapes,
+        }
+    }
+
+    /// The commitments of all parties.
+    pub fn commitments(&self) -> Vec<Digest> {
+        let n = self.seeds.len();
+        let parties = (0..).zip(&self.seeds);
+        parties
+            .map(|(i, [seed, r])| seeds::commitment(self.j, i, n, *seed, &self.corrections, *r))
+            .collect()
+    }
+}
+
+fn tape_row(sizes: Sizes, j: u16, i: u8, n: usize, seed: Value) -> Vec<u8> {
+    seeds::tape_row(j, i, n, seed, sizes.inputs, sizes.ands)
+}
+
+/// One instance as the prover works it.
+pub struct Instance {
+    pub preprocessing: Preprocessing,
+    pub masked_inputs: Vec<u8>,
+    pub rows: Vec<u8>,
+}
+
+impl Instance {
+    fn of(circuit: &Circuit, n: usize, witness: &[u8], preprocessing: Preprocessing) -> Instance {
+        let Preprocessing {
+            tapes, corrections, ..
+        } = &preprocessing;
+        let (masked_inputs, rows, _) = run_parties(circuit, n, witness, tapes, corrections);
+        Instance {
+            preprocessing,
+            masked_inputs,
+            rows,
+        }
+    }
+
+    fn h(&self) -> Digest {
+        seeds::commitments_digest(self.preprocessing.j, &self.preprocessing.commitments())
+    }
+
+    fn h_prime(&self) -> Digest {
+        seeds::broadcasts_digest(self.preprocessing.j, &self.masked_inputs, &self.rows)
+    }
+
+    /// What the proof has of this instance.
+    fn stretch(&self, hidden: Option<u8>) -> Vec<u8> {
+        let Preprocessing { j, master, .. } = self.preprocessing;
+        let Some(p) = hidden.map(usize::from) else {
+            return [&master[..], &self.h_prime()].concat();
+        };
+        let n = self.preprocessing.seeds.len();
+        let siblings = seeds::tree_opening(j, n, p, master).concat();
+        let corrections: &[u8] = match p == n - 1 {
+            true => &[],
+            false => &self.preprocessing.corrections,
+        };
+        let row_len = self.rows.len() / n;
+        let row = &self.rows[p * row_len..][..row_len];
+        let com = &self.preprocessing.commitments()[p];
+        [&siblings, corrections, com, &self.masked_inputs, row].concat()
+    }
+}
+
+/// All instances that follow from a root, for a circuit file that is legal and a
+/// witness in form. The witness may give any output.
+pub fn instances(file: &[u8], witness: &[u8], root: Value, counts: Counts) -> Vec<Instance> {
+    let circuit = legal(file).expect("a legal circuit");
+    all_instances(&circuit, witness, root, counts)
+}
+
+fn all_instances(circuit: &Circuit, witness: &[u8], root: Value, counts: Counts) -> Vec<Instance> {
+    let n = counts.n as usize;
+    let instances = (0..counts.m as u16).map(|j| {
+        let preprocessing = Preprocessing::of(circuit, j, n, seeds::master(j, root));
+        Instance::of(circuit, n, witness, preprocessing)
+    });
+    instances.collect()
+}
+
+/// The h* of these instances.
+pub fn h_star(instances: &[Instance]) -> Digest {
+    let h: Vec<Digest> = instances.iter().map(Instance::h).collect();
+    let h_prime: Vec<Digest> = instances.iter().map(Instance::h_prime).collect();
+    digest_of_all(&h, &h_prime)
+}
+
+/// The proof file with this h*: the header, and what its challenge asks for.
+pub fn written(instances: &[Instance], counts: Counts, h_star: Digest, message: &[u8]) -> Vec<u8> {
+    let Counts { m, tau, n } = counts;
+    let mut file = [m as u16, tau as u16].map(u16::to_le_bytes).concat();
+    file.extend([n as u8, 0]);
+    file.extend(h_star);
+    let hidden = hidden_parties(counts, h_star, message);
+    for (instance, p) in instances.iter().zip(hidden) {
+        file.extend(instance.stretch(p));
+    }
+    file
+}
+
+/// What a proof has of one instance.
+enum Received<'a> {
+    NotChosen { master: Value, h_prime: Digest },
+    Chosen(Opened<'a>),
+}
+
+/// What a proof has of an instance with party p hidden. Corrections that are
+/// not sent count as zeros.
+struct Opened<'a> {
+    p: usize,
+    siblings: Vec<Value>,
+    corrections: Vec<u8>,
+    com: Digest,
+    masked_inputs: &'a [u8],
+    row: &'a [u8],
+}
+
+/// All parts of the proof, each taken apart.
+fn received<'a>(
+    sizes: Sizes,
+    n: usize,
+    hidden: &[Option<u8>],
+    proof: &'a [u8],
+) -> Option<Vec<Received<'a>>> {
+    let stretches = stretches(sizes, n as u32, hidden, proof)?;
+    let parts = stretches.into_iter().zip(hidden);
+    let received = parts.map(|(stretch, &p)| Received::of(sizes, n, p, stretch));
+    Some(received.collect())
+}
+
+/// What follows from a part of the proof: both digests, and the output if it
+/// was replayed.
+struct Checked {
+    h: Digest,
+    h_prime: Digest,
+    output: Option<Vec<u8>>,
+}
+
+impl<'a> Received<'a> {
+    /// Takes a stretch of the right length apart.
+    fn of(sizes: Sizes, n: usize, hidden: Option<u8>, mut stretch: &'a [u8]) -> Received<'a> {
+        let mut next = |len| {
+            let (part, rest) = stretch.split_at(len);
+            stretch = rest;
+            part
+        };
+        let Some(p) = hidden.map(usize::from) else {
+            return Received::NotChosen {
+                master: next(VALUE_LEN).try_into().unwrap(),
+                h_prime: next(DIGEST_LEN).try_into().unwrap(),
+            };
+        };
+        let siblings = (0..n.ilog2()).map(|_| next(VALUE_LEN).try_into().unwrap());
+        Received::Chosen(Opened {
+            p,
+            siblings: siblings.collect(),
+            corrections: match p == n - 1 {
+                true => vec![0; sizes.corrections_len()],
+                false => next(sizes.corrections_len()).to_vec(),
+            },
+            com: next(DIGEST_LEN).try_into().unwrap(),
+            masked_inputs: next(sizes.inputs_len()),
+            row: next(sizes.row_len()),
+        })
+    }
+
+    fn unused_is_zero(&self, sizes: Sizes) -> bool {
+        let Received::Chosen(opened) = self else {
+            return true;
+        };
+        rest_is_zero(&opened.corrections, sizes.ands)
+            && rest_is_zero(opened.masked_inputs, sizes.inputs)
+            && rest_is_zero(opened.row, sizes.ands + sizes.outputs)
+    }
+
+    fn checked(&self, circuit: &Circuit, j: u16, n: usize) -> Checked {
+        match self {
+            Received::NotChosen { master, h_prime } => {
+                let commitments = Preprocessing::of(circuit, j, n, *master).commitments();
+                Checked {
+                    h: seeds::commitments_digest(j, &commitments),
+                    h_prime: *h_prime,
+                    output: None,
+                }
+            }
+            Received::Chosen(opened) => opened.replayed(circuit, j, n),
+        }
+    }
+}
+
+impl Opened<'_> {
+    /// The commitments and tapes of the parties that are opened, com_p and a row
+    /// of zeros for p; then the run of the others.
+    fn replayed(&self, circuit: &Circuit, j: u16, n: usize) -> Checked {
+        let sizes = circuit.sizes();
+        let (mut commitments, mut tapes) = (vec![], vec![]);
+        let leaves = seeds::opened_leaves(j, n, self.p, &self.siblings);
+        for (i, leaf) in (0..).zip(leaves) {
+            let Some(leaf) = leaf else {
+                commitments.push(self.com);
+                tapes.extend(vec![0; sizes.tape_row_len()]);
+                continue;
+            };
+            let [seed, r] = seeds::seed_and_r(j, i, leaf);
+            commitments.push(seeds::commitment(j, i, n, seed, &self.corrections, r));
+            tapes.extend(tape_row(sizes, j, i, n, seed));
+        }
+        let showing = Showing {
+            tapes: &tapes,
+            corrections: &self.corrections,
+            masked_inputs: self.masked_inputs,
+            row: self.row,
+        };
+        let (rows, output) = run_shown(circuit, n, self.p, showing);
+        Checked {
+            h: seeds::commitments_digest(j, &commitments),
+            h_prime: seeds::broadcasts_digest(j, self.masked_inputs, &rows),
+            output: Some(output),
+        }
+    }
+}
+
+#[cfg(test)]
+mod tests {
+    use super::*;
+    use crate::fips202::sha3_256;
+
+    /// One AND of two inputs.
+    const K: [u8; 18] = [2, 0, 1, 0, 1, 0, 1, 0, 2, 0, 2, 0, 0, 0, 1, 0, 0, 0];
+
+    /// Three inputs: slot 2 is NOT x, slot 3 is y AND slot 2, slot 1 is z AND
+    /// slot 3, slot 4 is slot 1 XOR y. The outputs are slots 4 and 3 and input z.
+    const FOUR: [u8; 46] = [
+        3, 0, 3, 0, 4, 0, 2, 0, 6, 0, 5, 0, 2, 0, // head and outputs
+        2, 0, 2, 0, 5, 0, 4, 0, // slot 1
+        3, 0, 0, 0, 0, 0, 3, 0, // slot 2
+        2, 0, 1, 0, 4, 0, 1, 0, // slot 3
+        1, 0, 3, 0, 1, 0, 0, 0, // slot 4
+    ];
+
+    /// The statement that `FOUR` gives 6, as it does for the witness 6.
+    const FOUR_GIVES_6: Statement = Statement {
+        circuit: &FOUR,
+        y: &[6],
+        message: b"a message",
+    };
+    const ROOT: [u8; 16] = [0, 1, 2, 3, 4, 5, 6, 7, 8, 9, 10, 11, 12, 13, 14, 15];
+
+    fn counts(m: u32, tau: u32, n: u32) -> Counts {
+        Counts { m, tau, n }
+    }
+
+    /// The proof in a buffer of the length that is asked for, and `more`.
+    fn proved(
+        statement: Statement,
+        witness: &[u8],
+        root: &[u8],
+        counts: Counts,
+        more: usize,
+    ) -> Result<Vec<u8>, Refusal> {
+        let sizes = crate::circuit::read(statement.circuit)?;
+        let mut proof = vec![0xa5; longest(sizes, counts) + more];
+        let len = prove(statement, witness, root, counts, &mut proof)?;
+        assert!(proof[len..].iter().all(|&byte| byte == 0xa5));
+        proof.truncate(len);
+        Ok(proof)
+    }
+
+    fn hex(bytes: &[u8]) -> String {
+        bytes.iter().map(|byte| format!("{byte:02x}")).collect()
+    }
+
+    /// Lengths and SHA3-256 of proofs that were made with Python's hashlib.
+    #[test]
+    fn known_proofs() {
+        let known = [
+            (
+                counts(4, 1, 2),
+                233,
+                "8b0f1513bad8598bed904aaf70f5780de33e32cf715ed722994f8ef913c3e15c",
+            ),
+            (
+                counts(5, 2, 4),
+                315,
+                "6808da2de5e147e9c4d9254d7c6ff14d15b8cadccddc1c8139cda380fc8f0f14",
+            ),
+            (
+                counts(6, 5, 8),
+                499,
+                "253faeef5064e38b67a89b4b3e13054cc9053dc93ffb6f6e1c10a1c69a352705",
+            ),
+            (
+                counts(20, 7, 16),
+                1354,
+                "ee08d9a78ca5adf607d99158c123ff5aafaeef7e963f93183efbc52dd105f64d",
+            ),
+            (
+                counts(300, 9, 16),
+                14897,
+                "79686d0a5fd65aa07215b2ae1864cd070345f0c7de6d3cebd29b88833a3803a7",
+            ),
+        ];
+        for (counts, len, digest) in known {
+            let proof = proved(FOUR_GIVES_6, &[6], &ROOT, counts, 9).unwrap();
+            assert_eq!(
+                (proof.len(), hex(&sha3_256(&proof)).as_str()),
+                (len, digest)
+            );
+            assert_eq!(check(FOUR_GIVES_6, &proof), Ok(()), "{counts:?}");
+        }
+    }
+
+    #[test]
+    fn m10_lengths() {
+        let statement = Statement {
+            circuit: &K,
+            y: &[1],
+            message: b"message",
+        };
+        for (root, p, len) in [(0, 0, 233), (1, 1, 232)] {
+            let proof = proved(statement, &[3], &[root; 16], counts(4, 1, 2), 0).unwrap();
+            let (counts, h_star) = header(&proof).unwrap();
+            let hidden = hidden_parties(counts, h_star, statement.message);
+            let chosen: Vec<u8> = hidden.into_iter().flatten().collect();
+            assert_eq!((chosen, proof.len()), (vec![p], len));
+        }
+    }
+
+    #[test]
+    fn a_changed_bit_is_refused() {
+        let proof = proved(FOUR_GIVES_6, &[6], &ROOT, counts(5, 2, 4), 0).unwrap();
+        for bit in 0..8 * proof.len() {
+            let mut other = proof.clone();
+            other[bit / 8] ^= 1 << (bit % 8);
+            assert!(check(FOUR_GIVES_6, &other).is_err(), "bit {bit}");
+        }
+    }
+
+    #[test]
+    fn refusals_of_prove_in_order() {
+        let good = counts(4, 1, 2);
+        let of = |circuit, y| Statement {
+            circuit,
+            y,
+            message: &[],
+        };
+        let long = Statement {
+            message: &[0; 4097],
+            ..of(&FOUR, &[6])
+        };
+        let ask = |statement, witness: &[u8], root: &[u8], counts, len: usize| {
+            let mut proof = vec![0xa5; len];
+            let answer = prove(statement, witness, root, counts, &mut proof);
+            assert!(answer.is_ok() || proof == vec![0xa5; len]);
+            answer
+        };
+        assert_eq!(ask(of(&[], &[]), &[], &[], counts(1, 1, 1), 0), Err(1));
+        for counts in [counts(513, 1, 2), counts(4, 4, 2), counts(4, 1, 3)] {
+            assert_eq!(ask(of(&FOUR, &[]), &[], &[], counts, 0), Err(8));
+        }
+        assert_eq!(ask(long, &[6], &ROOT, good, 233), Err(6));
+        assert_eq!(ask(of(&FOUR, &[6]), &[255; 2], &ROOT, good, 233), Err(6));
+        assert_eq!(ask(of(&FOUR, &[255; 2]), &[6], &ROOT, good, 233), Err(6));
+        assert_eq!(ask(of(&FOUR, &[255]), &[6], &ROOT[1..], good, 233), Err(6));
+        assert_eq!(ask(of(&FOUR, &[255]), &[255], &ROOT, good, 232), Err(6));
+        assert_eq!(ask(of(&FOUR, &[5]), &[8], &ROOT, good, 233), Err(7));
+        assert_eq!(ask(of(&FOUR, &[14]), &[6], &ROOT, good, 233), Err(7));
+        assert_eq!(ask(of(&FOUR, &[5]), &[6], &ROOT, good, 233), Err(10));
+    }
+
+    #[test]
+    fn refusals_of_check_in_order() {
+        let proof = proved(FOUR_GIVES_6, &[6], &ROOT, counts(5, 2, 4), 0).unwrap();
+        let with = |place: usize, byte| {
+            let mut proof = proof.clone();
+            proof[place] = byte;
+            proof
+        };
+        let long = Statement {
+            message: &[0; 4097],
+            ..FOUR_GIVES_6
+        };
+        let of_y = |y| Statement { y, ..FOUR_GIVES_6 };
+        let no_circuit = Statement {
+            circuit: &[],
+            ..of_y(&[])
+        };
+        assert_eq!(check(no_circuit, &[]), Err(1));
+        assert_eq!(check(long, &[]), Err(6));
+        assert_eq!(check(of_y(&[255, 0]), &[]), Err(6));
+        assert_eq!(check(of_y(&[14]), &[]), Err(7));
+        assert_eq!(check(FOUR_GIVES_6, &proof[..37]), Err(11));
+        for (place, byte) in [(0, 1), (1, 2), (2, 0), (2, 5), (4, 3), (4, 32), (5, 1)] {
+            assert_eq!(check(FOUR_GIVES_6, &with(place, byte)), Err(11));
+        }
+        assert_eq!(check(FOUR_GIVES_6, &proof[..314]), Err(12));
+        // The last stretch but one is of instance 3, with its row at the end.
+        let row = 315 - 48 - 1;
+        assert_eq!(check(of_y(&[2]), &with(row, 0x20)), Err(7));
+        assert_eq!(check(of_y(&[2]), &with(314, !proof[314])), Err(10));
+        assert_eq!(check(FOUR_GIVES_6, &with(314, !proof[314])), Err(13));
+        assert_eq!(check(FOUR_GIVES_6, &proof), Ok(()));
+    }
+
+    /// A witness for another output: each replay shows it.
+    #[test]
+    fn a_forged_output() {
+        let counts = counts(5, 2, 4);
+        let instances = instances(&FOUR, &[5], ROOT, counts);
+        let h_star = h_star(&instances);
+        let proof = written(&instances, counts, h_star, FOUR_GIVES_6.message);
+        assert_eq!(check(FOUR_GIVES_6, &proof), Err(10));
+    }
+}

@@ -1,0 +1,216 @@
+//! Calls of prove and check by both implementations: answers and every lent
+//! byte are compared.
+
+use crate::calls::Setting;
+use crate::guarded::Guarded;
+use crate::random::Random;
+use reference::bits::oct;
+use reference::circuit::Sizes;
+use reference::proof::{header, hidden_parties, stretches};
+
+/// One call of prove. The counts are M, tau and n.
+#[derive(Clone, Debug)]
+pub struct Prove {
+    pub circuit: Vec<u8>,
+    pub witness: Vec<u8>,
+    pub y: Vec<u8>,
+    pub message: Vec<u8>,
+    pub root: Vec<u8>,
+    pub counts: [u32; 3],
+    pub proof_len: usize,
+}
+
+/// One call of check.
+#[derive(Clone, Debug)]
+pub struct Check {
+    pub circuit: Vec<u8>,
+    pub y: Vec<u8>,
+    pub message: Vec<u8>,
+    pub proof: Vec<u8>,
+}
+
+/// The call by the functions of one module, whose types have the same names.
+macro_rules! prove_by {
+    ($module:path, $counts:expr, $inputs:expr, $prove:ident $(, $out:expr)+) => {{
+        use $module as proof;
+        let [circuit, witness, y, message, root] = $inputs;
+        let statement = proof::Statement { circuit, y, message };
+        let [m, tau, n] = $counts;
+        proof::$prove(statement, witness, root, proof::Counts { m, tau, n } $(, $out)+)
+    }};
+}
+
+macro_rules! check_by {
+    ($module:path, $inputs:expr) => {{
+        use $module as proof;
+        let [circuit, y, message, file] = $inputs;
+        let statement = proof::Statement {
+            circuit,
+            y,
+            message,
+        };
+        proof::check(statement, file)
+    }};
+}
+
+impl Prove {
+    /// A good call for a setting with these M and tau; the proof's buffer has
+    /// the least length.
+    pub fn of(random: &mut Random, setting: &Setting, counts: [u32; 2], message: usize) -> Prove {
+        let counts = [counts[0], counts[1], setting.n];
+        Prove {
+            circuit: setting.circuit.clone(),
+            witness: setting.witness.clone(),
+            y: setting.y(),
+            message: random.bytes(message),
+            root: random.bytes(16),
+            counts,
+            proof_len: longest(setting.sizes, counts),
+        }
+    }
+
+    fn inputs(&self) -> [&[u8]; 5] {
+        let Prove {
+            circuit,
+            witness,
+            y,
+            message,
+            root,
+            ..
+        } = self;
+        [circuit, witness, y, message, root]
+    }
+
+    /// The reference's proof, without guards.
+    pub fn by_reference(&self) -> Result<Vec<u8>, u32> {
+        let mut proof = vec![0; self.proof_len];
+        let len = prove_by!(
+            reference::proof,
+            self.counts,
+            self.inputs(),
+            prove,
+            &mut proof
+        )?;
+        proof.truncate(len);
+        Ok(proof)
+    }
+
+    /// The check of a proof for this circuit, y and message.
+    pub fn check(&self, proof: &[u8]) -> Check {
+        Check {
+            circuit: self.circuit.clone(),
+            y: self.y.clone(),
+            message: self.message.clone(),
+            proof: proof.to_vec(),
+        }
+    }
+
+    /// For the message of a failure.
+    pub fn shown(&self) -> String {
+        format!(
+            "prove, counts {:?}, inputs of {:?} bytes, proof of {}, circuit {:02x?}",
+            self.counts,
+            self.inputs().map(<[u8]>::len),
+            self.proof_len,
+            &self.circuit[..self.circuit.len().min(60)]
+        )
+    }
+}
+
+impl Check {
+    fn inputs(&self) -> [&[u8]; 4] {
+        [&self.circuit, &self.y, &self.message, &self.proof]
+    }
+
+    /// The reference's answer, without guards.
+    pub fn by_reference(&self) -> Result<(), u32> {
+        check_by!(reference::proof, self.inputs())
+    }
+
+    /// For the message of a failure.
+    pub fn shown(&self) -> String {
+        format!(
+            "check, inputs of {:?} bytes, header {:02x?}, circuit {:02x?}",
+            self.inputs().map(<[u8]>::len),
+            &self.proof[..self.proof.len().min(6)],
+            &self.circuit[..self.circuit.len().min(60)]
+        )
+    }
+}
+
+/// What document 01 asks of the proof's buffer.
+pub fn longest(sizes: Sizes, [m, tau, n]: [u32; 3]) -> usize {
+    let [m, tau] = [m, tau].map(|count| count as usize);
+    let Sizes {
+        inputs,
+        outputs,
+        ands,
+        ..
+    } = sizes;
+    let siblings = 16 * n.ilog2() as usize;
+    let chosen = siblings + oct(ands) + 32 + oct(inputs) + oct(ands + outputs);
+    38 + 48 * (m - tau) + tau * chosen
+}
+
+/// Each input in a guarded buffer.
+fn guarded<const N: usize>(random: &mut Random, inputs: [&[u8]; N]) -> [Guarded; N] {
+    inputs.map(|bytes| Guarded::holding(random, bytes))
+}
+
+/// Proves by both; gives the proof or the refusal. What is lent must be the same
+/// afterwards, and as before if it was not to be written.
+pub fn compare_prove(random: &mut Random, call: &Prove) -> Result<Vec<u8>, u32> {
+    let inputs = guarded(random, call.inputs());
+    let lent = inputs.each_ref().map(Guarded::get);
+    let shift = random.below(8);
+    let mut proof = Guarded::new(random, shift, call.proof_len);
+    let mut expected = proof.get().to_vec();
+    let second = prove_by!(reference::proof, call.counts, lent, prove, &mut expected);
+
+    let before = [0; 3].map(|_| random.word());
+    let mut words = before;
+    let ours = prove_by!(
+        wivulameno::proof,
+        call.counts,
+        lent,
+        prove_into,
+        proof.lent(),
+        &mut words[1]
+    );
+    let shown = call.shown();
+    let answer = second.map(|_| ()).map_err(wivulameno::Refusal);
+    assert_eq!(ours, answer, "{shown}");
+    let written = second.map_or(before[1], |len| len as u64);
+    assert_eq!(words, [before[0], written, before[2]], "written, {shown}");
+    assert!(proof.get() == expected, "the proof's bytes, {shown}");
+    assert!(proof.outside_unchanged(), "beside the proof, {shown}");
+    assert!(second.is_ok() || proof.unchanged(), "refused, {shown}");
+    assert!(inputs.iter().all(Guarded::unchanged), "inputs, {shown}");
+    second.map(|len| expected[..len].to_vec())
+}
+
+/// Checks by both; gives the answer. What is lent must be as before.
+pub fn compare_check(random: &mut Random, call: &Check) -> Result<(), u32> {
+    let inputs = guarded(random, call.inputs());
+    let lent = inputs.each_ref().map(Guarded::get);
+    let second = check_by!(reference::proof, lent);
+    let ours = check_by!(wivulameno::proof, lent);
+    let shown = call.shown();
+    assert_eq!(ours, second.map_err(wivulameno::Refusal), "{shown}");
+    assert!(inputs.iter().all(Guarded::unchanged), "inputs, {shown}");
+    second
+}
+
+/// For each instance of a proof that is in form its hidden party, if chosen, and
+/// its place.
+pub fn places(sizes: Sizes, call: &Check) -> Vec<(Option<u8>, usize, usize)> {
+    let (counts, h_star) = header(&call.proof).expect("a header");
+    let hidden = hidden_parties(counts, h_star, &call.message);
+    let parts = stretches(sizes, counts.n, &hidden, &call.proof).expect("all parts");
+    let mut start = 38;
+    let places = hidden.into_iter().zip(parts).map(|(p, part)| {
+        start += part.len();
+        (p, start - part.len(), part.len())
+    });
+    places.collect()
+}

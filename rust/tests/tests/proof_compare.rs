@@ -1,0 +1,220 @@
+//! The library and the reference prove alike, byte for byte, and accept what
+//! they prove: on random circuits, for every n, and for M, tau, messages and
+//! buffers at the ends of their limits and between.
+
+use tests::calls::{Setting, COUNTS};
+use tests::circuits::{any_slots, legal, File, AND, XOR};
+use tests::proofs::{compare_check, compare_prove, longest, Prove};
+use tests::random::Random;
+
+const SETTINGS: usize = 120;
+
+/// Proves with buffers of the least length and of a larger one, and checks.
+fn compare(random: &mut Random, setting: &Setting, counts: [u32; 2], message: usize) -> Vec<u8> {
+    let mut call = Prove::of(random, setting, counts, message);
+    let proof = compare_prove(random, &call).expect("proved");
+    assert!(proof.len() <= call.proof_len, "{}", call.shown());
+    if random.once_in(3) {
+        call.proof_len += random.pick(&[1, 2, 7, 48, 1000]);
+        let again = compare_prove(random, &call);
+        assert!(again == Ok(proof.clone()), "{}", call.shown());
+    }
+    let answer = compare_check(random, &call.check(&proof));
+    assert_eq!(answer, Ok(()), "{}", call.shown());
+    proof
+}
+
+fn a_small_setting(random: &mut Random, n: u32) -> Setting {
+    let sizes = [20, 9, 30].map(|most| random.from_to(1, most));
+    Setting::of_sizes(random, sizes, n)
+}
+
+/// tau at both ends and between.
+fn some_taus(random: &mut Random, m: u32) -> [u32; 3] {
+    let between = random.from_to(1, m as usize - 1) as u32;
+    [1, m - 1, between]
+}
+
+#[test]
+fn every_n_with_small_m() {
+    let mut random = Random::new(71);
+    for n in COUNTS {
+        for m in 2..=12 {
+            for tau in 1..m {
+                let setting = a_small_setting(&mut random, n);
+                let message = random.below(40);
+                compare(&mut random, &setting, [m, tau], message);
+            }
+        }
+    }
+}
+
+#[test]
+fn every_n_with_large_m() {
+    let mut random = Random::new(72);
+    for n in COUNTS {
+        for m in [33, 64, 255, 256, 257, 511, 512] {
+            for tau in some_taus(&mut random, m) {
+                let setting = a_small_setting(&mut random, n);
+                compare(&mut random, &setting, [m, tau], 20);
+            }
+        }
+    }
+}
+
+#[test]
+fn some_m_between() {
+    let mut random = Random::new(73);
+    for _ in 0..60 {
+        let n = random.pick(&[2, 2, 4, 8]);
+        let setting = a_small_setting(&mut random, n);
+        let m = random.from_to(2, 512);
+        let tau = random.from_to(1, m - 1);
+        compare(&mut random, &setting, [m as u32, tau as u32], 20);
+    }
+}
+
+#[test]
+fn any_settings() {
+    let mut random = Random::new(74);
+    for _ in 0..SETTINGS {
+        let setting = Setting::any(&mut random);
+        let m = random.from_to(2, 9) as u32;
+        let [.., tau] = some_taus(&mut random, m);
+        let message = random.below(300);
+        compare(&mut random, &setting, [m, tau], message);
+    }
+}
+
+/// Every length about the ends of the challenge's blocks, and both ends.
+#[test]
+fn message_lengths() {
+    let mut random = Random::new(75);
+    let near_rate = (95..=105).chain(232..=240);
+    let ends = [0, 1, 2, 255, 256, 257, 2048, 4000, 4095, 4096];
+    for message in near_rate.chain(ends) {
+        for n in COUNTS {
+            let setting = a_small_setting(&mut random, n);
+            compare(&mut random, &setting, [6, 2], message);
+        }
+    }
+}
+
+/// The message and the root each have their part in every proof.
+#[test]
+fn messages_and_roots_differ() {
+    let mut random = Random::new(76);
+    let setting = a_small_setting(&mut random, 4);
+    let call = Prove::of(&mut random, &setting, [9, 3], 20);
+    let proof = compare_prove(&mut random, &call).expect("proved");
+    for bit in 0..8 * call.message.len() {
+        let mut other = call.clone();
+        other.message[bit / 8] ^= 1 << (bit % 8);
+        let other = compare_prove(&mut random, &other).expect("proved");
+        assert!(other[..38] == proof[..38] && other != proof, "bit {bit}");
+    }
+    for bit in 0..128 {
+        let mut other = call.clone();
+        other.root[bit / 8] ^= 1 << (bit % 8);
+        let other = compare_prove(&mut random, &other).expect("proved");
+        assert!(other[6..38] != proof[6..38], "bit {bit}");
+    }
+}
+
+fn all_and(file: &mut File) {
+    file.gates.iter_mut().for_each(|gate| gate.kind = AND);
+}
+
+fn no_and(file: &mut File) {
+    let ands = file.gates.iter_mut().filter(|gate| gate.kind == AND);
+    ands.for_each(|gate| gate.kind = XOR);
+}
+
+fn as_it_is(_: &mut File) {}
+
+type Change = fn(&mut File);
+
+fn shaped(random: &mut Random, sizes: [usize; 3], change: Change, n: u32) -> Setting {
+    let slots = any_slots(random, sizes[2]);
+    let mut file = legal(random, sizes, &slots);
+    change(&mut file);
+    Setting::of(random, file, slots, n)
+}
+
+/// The ends of the limits, rows of whole bytes, and no corrections at all.
+#[test]
+fn special_shapes() {
+    let shapes: [([usize; 3], Change); 14] = [
+        ([1, 1, 0], as_it_is),
+        ([512, 256, 0], as_it_is),
+        ([1, 256, 0], as_it_is),
+        ([512, 256, 200], as_it_is),
+        ([3, 4, 30], no_and),
+        ([512, 256, 30], no_and),
+        ([8, 8, 8], all_and),
+        ([16, 8, 8], all_and),
+        ([7, 7, 9], all_and),
+        ([1, 1, 1], all_and),
+        ([5, 2, 1], all_and),
+        ([8, 1, 15], all_and),
+        ([8, 255, 17], all_and),
+        ([300, 130, 700], all_and),
+    ];
+    let mut random = Random::new(77);
+    for (sizes, change) in shapes {
+        for n in COUNTS {
+            let setting = shaped(&mut random, sizes, change, n);
+            for tau in [1, 4] {
+                compare(&mut random, &setting, [5, tau], 20);
+            }
+        }
+    }
+}
+
+/// All limits at once: 512 inputs, 256 outputs, 4,096 AND gates, 512 instances,
+/// 16 parties, a message of 4,096 bytes.
+#[test]
+fn the_largest() {
+    let mut random = Random::new(78);
+    let setting = shaped(&mut random, [512, 256, 4096], all_and, 16);
+    assert_eq!(setting.sizes.ands, 4096);
+    for (m, tau) in [(2, 1), (512, 30)] {
+        let proof = compare(&mut random, &setting, [m, tau], 4096);
+        assert!(proof.len() <= longest(setting.sizes, [m, tau, 16]));
+    }
+    let few = shaped(&mut random, [512, 256, 4096], all_and, 2);
+    compare(&mut random, &few, [12, 11], 4096);
+}
+
+/// A circuit of the example folder, proved and checked as a depot would.
+#[test]
+fn an_example() {
+    let mut random = Random::new(79);
+    let circuit = include_bytes!("../../../examples/stock32.circuit");
+    let witness = include_bytes!("../../../examples/stock32.row");
+    let sizes = reference::circuit::read(circuit).expect("a legal circuit");
+    let counts = [128, 32, 8];
+    let call = Prove {
+        circuit: circuit.to_vec(),
+        witness: witness.to_vec(),
+        y: vec![1],
+        message: b"order 17".to_vec(),
+        root: random.bytes(16),
+        counts,
+        proof_len: longest(sizes, counts),
+    };
+    let proof = compare_prove(&mut random, &call).expect("proved");
+    let answer = compare_check(&mut random, &call.check(&proof));
+    assert_eq!(answer, Ok(()));
+
+    let statement = wivulameno::proof::Statement {
+        circuit,
+        y: &call.y,
+        message: &call.message,
+    };
+    let [m, tau, n] = counts;
+    let counts = wivulameno::proof::Counts { m, tau, n };
+    let mut again = vec![0; call.proof_len];
+    let len = wivulameno::proof::prove(statement, witness, &call.root, counts, &mut again);
+    assert!(len == Ok(proof.len()) && again[..proof.len()] == proof);
+}
