@@ -9,3 +9,4 @@ pub mod Unique
 pub mod Theorem
 pub mod RunLaws
 pub mod Replay
+pub mod Kept

@@ -41,7 +41,7 @@ length-outputs n [] h s m i = refl
 length-outputs n (w ∷ ws) h s m i = ap suc (length-outputs n ws (next h) s m i)
 
 -- "A broadcast row holds A + O bits"
-length-row : (n : ℕ) (outs : List ℕ) (gs : List Gate) (o z : ℕ → Column) (h : Hearing) (s : ℕ → Column) (m : ℕ → Bool) (i : ℕ)
+pub length-row : (n : ℕ) (outs : List ℕ) (gs : List Gate) (o z : ℕ → Column) (h : Hearing) (s : ℕ → Column) (m : ℕ → Bool) (i : ℕ)
     → length (rowBits (run n outs gs o z h s m) i) ≡ ands gs + length outs
 unfolding run rowBits ands
 length-row n outs [] o z h s m i = length-outputs n outs h s m i ∙ sym (zero-add (length outs))

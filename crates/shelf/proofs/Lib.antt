@@ -8,5 +8,6 @@ pub mod Moves
 pub mod Simulation
 pub mod Names
 pub mod Histories
+pub mod Starts
 pub mod Host
 pub mod Examples
