@@ -119,6 +119,7 @@ fn check_with(
     let mut memory = [0u8; 299008];
     let c = 3 * (tau as usize);
     let t = (n as usize) * bits::oct(inputs + 2 * ands);
+    let w = 64 * (inputs + gates) + 4096;
     check_in(
         s,
         inputs,
@@ -134,7 +135,7 @@ fn check_with(
         proof,
         &mut choices[..c],
         &mut tapes[..t],
-        &mut memory,
+        &mut memory[..w],
     )
 }
 

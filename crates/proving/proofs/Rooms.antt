@@ -1,4 +1,4 @@
--- Sizes of what prove is lent and of the memory that it takes.
+-- The bytes that the proof buffer must hold.
 -- Assumes nothing.
 use mathlib.Core.Path.{_≡_, sym, ap, ap₂, _∙_}
 use mathlib.Core.List.{List}
@@ -7,7 +7,7 @@ use native.Mathlib.Nat.{mul-le-mul}
 use native.Mathlib.Omega.{arith}
 use mir.Syntax.{w64}
 use mir.Val.{Fits}
-use lib.ListN.{length, take, replicate, length-replicate}
+use lib.ListN.{length}
 use Rattle.bits.specs.Bits.{oct}
 use Rattle.parties.specs.Parties.{heightOf}
 use Rattle.parties.proofs.Counts.{height-small}
@@ -16,8 +16,7 @@ use Rattle.mpc.specs.Lent.{Known}
 use Rattle.mpc.specs.Tapes.{andsOf}
 use Rattle.mpc.proofs.Opened.{circuit-inputs, circuit-outputs, circuit-ands, ands-low}
 use Rattle.mpc.proofs.Asks.{small}
-use Rattle.instance.specs.Worked.{Tree, Lent}
-use Rattle.instance.proofs.Sent.{tree-sizes, front-length}
+use Rattle.instance.specs.Worked.{Tree}
 use Rattle.proof.specs.File.{proofRoom}
 
 -- a legal file
@@ -56,38 +55,3 @@ module _ (s : List ℕ) (i o g a : ℕ) (k : Known s i o g a) where
         = ap₂ (λ (q u : ℕ). size q u i o) (tree .height) (sym (circuit-ands s i o g a k))
         ∙ ap₂ (size (heightOf n) (andsOf (circuitOf s))) (sym (circuit-inputs s i o g a k)) (sym (circuit-outputs s i o g a k)) in
         ap (λ (t : ℕ). 38 + 48 * (m - tau) + tau * t) (c ∙ r)
-
-  -- the tapes of n parties, r bytes each
-  module _ (n h r : ℕ) (tree : Tree n h) (e : r ≡ oct (i + 2 * a)) where
-    -- an array of 17408 bytes holds them
-    pub tapes-few : n * r ≤ 17408
-    tapes-few =
-        let l : r ≤ 1088 = omega (arith, ands-low s i o g a k, k .legal .laid .few-inputs, k .legal .laid .few-gates) in
-        let p : n * r ≤ 16 * 1088 = mul-le-mul (tree-sizes n h tree .few) l in
-        p
-
-    -- their number fits
-    pub tapes-fit : Fits w64 (n * r)
-    tapes-fit = small (n * r) (omega (arith, tapes-few))
-
-    -- what an instance is lent: the front of T zero bytes, and Z zero bytes
-    pub zeros-lent : (T Z : ℕ) → n * r ≤ T → 64 * (i + g) + 4096 ≤ Z → Lent s i o g a n h (take (n * r) (replicate {A = ℕ} T 0)) (replicate {A = ℕ} Z 0)
-    zeros-lent T Z l u =
-        record {
-          known = k;
-          tree = tree;
-          tapes-fit = front-length T (n * r) l ∙ ap (λ (x : ℕ). n * x) e;
-          room = omega (arith, length-replicate {A = ℕ} Z 0);
-        }
-
-  -- the bits of a tape
-  pub double-fits : Fits w64 (2 * a)
-  double-fits = small (2 * a) (omega (arith, ands-low s i o g a k, k .legal .laid .few-gates))
-
-  -- with those of the input masks
-  pub bits-fit : Fits w64 (i + 2 * a)
-  bits-fit = small (i + 2 * a) (omega (arith, ands-low s i o g a k, k .legal .laid .few-inputs, k .legal .laid .few-gates))
-
-  -- the work memory
-  pub work-room : 64 * (i + g) + 4096 ≤ 299008
-  work-room = omega (arith, k .legal .laid .few-inputs, k .legal .laid .few-gates)

@@ -113,6 +113,7 @@ pub(crate) fn prove_with(
     let mut memory = [0u8; 299008];
     let c = 3 * (tau as usize);
     let t = (n as usize) * bits::oct(inputs + 2 * ands);
+    let w = 64 * (inputs + gates) + 4096;
     prove_in(
         s,
         inputs,
@@ -129,6 +130,6 @@ pub(crate) fn prove_with(
         buffer,
         &mut choices[..c],
         &mut tapes[..t],
-        &mut memory,
+        &mut memory[..w],
     )
 }

@@ -1,12 +1,11 @@
 -- `proving::writing::prove_with` meets its contract.
 -- Assumes nothing.
 use mathlib.Core.Path.{sym}
-use Prim.Native.Nat.{ℕ, _*_}
+use Prim.Native.Nat.{_+_, _*_}
 use native.Mathlib.Omega.{arith}
-use lib.ListN.{length-replicate}
 use Rattle.instance.proofs.Sent.{front-length}
 use Rattle.mpc.proofs.Asks.{small}
-use Rattle.proving.proofs.Rooms.{tapes-few, tapes-fit, double-fits, bits-fit, work-room, zeros-lent}
+use Rattle.proof.proofs.Works.{double-fits, bits-fit, wires-fit, planes-fit, work-fits, work-few, tapes-few, tapes-fit, fronts-lent}
 use Rattle.proving.proofs.Buffers.{few-choices}
 use Rattle.proving.proofs.writing.prove_with.Statement.{statement}
 use Rattle.proving.proofs.writing.prove_with.Tie as tie
@@ -26,6 +25,15 @@ oct-requires c κs = tt
 mul-t : tie.Need-mul-t
 mul-t c = let p = c .before .before .before .before .before .before .pre in tapes-fit _ _ _ _ _ (p .0) _ _ _ (p .1 .0) (c .oct .ensures)
 
+add-w : tie.Need-add-w
+add-w c = wires-fit _ _ _ _ _ (c .before .before .before .before .before .before .pre .0)
+
+mul-w : tie.Need-mul-w
+mul-w c = planes-fit _ _ _ _ _ (c .before .before .before .before .before .before .pre .0)
+
+add-w-2 : tie.Need-add-w-2
+add-w-2 c = work-fits _ _ _ _ _ (c .before .before .before .before .before .before .pre .0)
+
 array-borrow-prefix-choices : tie.Need-array-borrow-prefix-choices
 array-borrow-prefix-choices c = let p = c .before .before .before .before .before .before .before .pre in few-choices _ _ _ _ _ _ _ _ _ _ (p .1 .1) (p .1 .0)
 
@@ -38,13 +46,19 @@ array-borrow-prefix-tapes c = let p = c .before .before .before .before .before 
 slice-aggregate-prove-in-2 : tie.Need-slice-aggregate-prove-in-2
 slice-aggregate-prove-in-2 c = let p = c .before .before .before .before .before .before .before .before .before .pre in sym (front-length 17408 (c .before .before .before .before .before .before .before .before .before .args .n * c .before .before .before .oct .result) (tapes-few _ _ _ _ _ (p .0) _ _ _ (p .1 .0) (c .before .before .before .oct .ensures)))
 
+array-borrow-prefix-memory : tie.Need-array-borrow-prefix-memory
+array-borrow-prefix-memory c = work-few _ _ _ _ _ (c .before .before .before .before .before .before .before .before .before .pre .0)
+
 slice-aggregate-prove-in-3 : tie.Need-slice-aggregate-prove-in-3
-slice-aggregate-prove-in-3 c = sym (length-replicate {A = ℕ} 299008 0)
+slice-aggregate-prove-in-3 c =
+    let x = c .before .before .before .before .before .before .before .before .before .before .args in
+    sym (front-length 299008 (64 * (x .inputs + x .gates) + 4096) (work-few _ _ _ _ _ (c .before .before .before .before .before .before .before .before .before .before .pre .0)))
 
 prove-in-requires : tie.Need-prove-in-requires
 prove-in-requires c κs =
+    let x = c .before .before .before .before .before .before .before .before .before .before .args in
     let p = c .before .before .before .before .before .before .before .before .before .before .pre in
-    (zeros-lent _ _ _ _ _ (p .0) _ _ (c .before .before .before .before .oct .result) (p .1 .0) (c .before .before .before .before .oct .ensures) 17408 299008 (tapes-few _ _ _ _ _ (p .0) _ _ _ (p .1 .0) (c .before .before .before .before .oct .ensures)) (work-room _ _ _ _ _ (p .0)), (p .1 .1, front-length 1533 (3 * c .before .before .before .before .before .before .before .before .before .before .args .tau) (few-choices _ _ _ _ _ _ _ _ _ _ (p .1 .1) (p .1 .0))))
+    (fronts-lent _ _ _ _ _ (p .0) _ _ (c .before .before .before .before .oct .result) (p .1 .0) (c .before .before .before .before .oct .ensures), (p .1 .1, front-length 1533 (3 * x .tau) (few-choices _ _ _ _ _ _ _ _ _ _ (p .1 .1) (p .1 .0))))
 
 same-length : tie.Need-same-length
 same-length c = c .before .before .before .before .before .prove-in .kept .1 .1 .1 .1 .1 .1 .1 .1 .1 .1 .1 .1 .0
@@ -61,10 +75,14 @@ prove-with-spec =
     add-oct
     oct-requires
     mul-t
+    add-w
+    mul-w
+    add-w-2
     array-borrow-prefix-choices
     slice-aggregate-prove-in
     array-borrow-prefix-tapes
     slice-aggregate-prove-in-2
+    array-borrow-prefix-memory
     slice-aggregate-prove-in-3
     prove-in-requires
     same-length
