@@ -8,3 +8,4 @@ pub mod Tests
 pub mod Equal
 pub mod Rows
 pub mod Ops
+pub mod Copies

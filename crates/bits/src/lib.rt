@@ -1,7 +1,7 @@
 // Bits and numbers in byte strings, lowest first, and the rows of a flat buffer.
 ghost use mathlib.Core.Path.{_≡_};
 ghost use Prim.Native.Nat.{_+_, _*_, _≤_, _<_};
-ghost use lib.ListN.{length};
+ghost use lib.ListN.{length, replicate};
 ghost use lib.Seq.{sets};
 ghost use Rattle.bits.specs.Bits.{oct, bitVal, odd, bitAt, putBit, unusedZero};
 ghost use Rattle.bits.specs.Bytes.{leAt, leBytes, sameBytes, rowOf};
@@ -114,6 +114,29 @@ pub fn same(a: &[u8], b: &[u8]) -> bool
         i += 1;
     }
     diff == 0
+}
+
+// Copies the bytes.
+pub fn copy(from: &[u8], to: &mut [u8])
+    requires { ⌜ length (now to) ≡ length (now «from») ⌝ }
+    ensures { λ _. ⌜ now (to .exit) ≡ now («from» .entry) ⌝ }
+{
+    let mut k = 0;
+    while k < to.len() {
+        to[k] = from[k];
+        k += 1;
+    }
+}
+
+// Sets every byte to zero.
+pub fn clear(s: &mut [u8])
+    ensures { λ _. ⌜ now (s .exit) ≡ replicate (length (now (s .entry))) 0 ⌝ }
+{
+    let mut k = 0;
+    while k < s.len() {
+        s[k] = 0;
+        k += 1;
+    }
 }
 
 // Row `party` of s in rows of len bytes; the empty part where it is not wholly inside.

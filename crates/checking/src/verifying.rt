@@ -9,10 +9,10 @@ ghost use Rattle.instance.specs.Opened.{stretchCommitments, stretchOnline, stre
 ghost use Rattle.instance.specs.Worked.{Lent};
 ghost use Rattle.proof.specs.Asks.{askOf, asksIn};
 ghost use Rattle.checking.specs.Steps.{allUnused, allOutputs, recomputed, Sized};
+use bits::copy;
 use instance::Replayed;
 use instance::checking::reopen;
 use instance::checking::replay;
-use instance::sending::copy;
 use keccak::SHA3_256_RATE;
 use mpc::tests::both;
 use proof::asking::asked;

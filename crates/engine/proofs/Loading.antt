@@ -21,12 +21,6 @@ use Rattle.circuit.proofs.Run.{byte-turn}
 use Rattle.engine.specs.Memory.{at, shareAt, valueAt, saidAt, fill, xorBytes, unpacked, loadedRow, loadedTapes, maskByte, packedByte, packed, packedRows}
 use Rattle.engine.proofs.Fill.{fill-read}
 
--- all bytes are cleared
-pub cleared : (m : List ℕ) (k : ℕ) → k ≤ length m → length m ≤ k → replicate k 0 ++ drop k m ≡ replicate (length m) 0
-cleared m k a b =
-    let e : k ≡ length m = omega arith in
-    rw (e, drop-length m) (append-nil _)
-
 -- a row is loaded in three parts
 pub row-loaded : (W I A i : ℕ) (row m a b c : List ℕ) → a ≡ unpacked row 0 I i m → b ≡ unpacked row I A (32 * W + i) a
     → c ≡ unpacked row (I + A) A (48 * W + i) b → c ≡ loadedRow W I A i row m

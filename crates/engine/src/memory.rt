@@ -6,17 +6,6 @@ ghost use Rattle.bits.specs.Bits.{odd, bitVal, testBit, fromBits, bitAt};
 ghost use Rattle.engine.specs.Memory.{at, fill, unpacked, packed, packedByte, loadedRow, loadedTapes, maskByte, maskedInputs, packedRows};
 ghost use Rattle.engine.specs.Fits.{Room};
 
-// Clears the memory.
-pub fn clear(memory: &mut [u8])
-    ensures { λ _. ⌜ now (memory .exit) ≡ replicate (length (now (memory .entry))) 0 ⌝ }
-{
-    let mut k = 0;
-    while k < memory.len() {
-        memory[k] = 0;
-        k += 1;
-    }
-}
-
 // The 8 bits of s from bit k on; at least one bit follows them.
 fn window(s: &[u8], k: usize) -> u8
     requires { ⌜ k + 8 < 8 * length (now s) ⌝ }

@@ -15,6 +15,7 @@ use crate::seeding::master_seeds;
 use crate::seeding::tape_rows;
 use crate::working::online;
 use crate::working::work;
+use bits::copy;
 use engine::memory::pack;
 use seeds::party::commitment;
 use seeds::tree::siblings_below;
@@ -108,18 +109,6 @@ pub fn digests(
     Digests {
         commitments,
         online,
-    }
-}
-
-// Copies from into out, of the same length.
-pub fn copy(from: &[u8], out: &mut [u8])
-    requires { ⌜ length (now out) ≡ length (now «from») ⌝ }
-    ensures { λ _. ⌜ now (out .exit) ≡ now («from» .entry) ⌝ }
-{
-    let mut k = 0;
-    while k < out.len() {
-        out[k] = from[k];
-        k += 1;
     }
 }
 

@@ -11,7 +11,7 @@ ghost use Rattle.instance.specs.Worked.{Lent};
 ghost use Rattle.proof.specs.Protocol.{firstMessage, responseOf};
 ghost use Rattle.proof.specs.Asks.{askOf, asksIn};
 ghost use Rattle.proving.specs.Steps.{onlinesOf, Response};
-use instance::sending::copy;
+use bits::copy;
 use instance::sending::digests;
 use instance::sending::send;
 use keccak::SHA3_256_RATE;

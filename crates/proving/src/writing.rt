@@ -11,7 +11,7 @@ ghost use Rattle.proof.specs.Prove.{proofOf};
 ghost use Rattle.proving.specs.Steps.{Tested};
 use crate::responding::first;
 use crate::responding::respond;
-use instance::sending::copy;
+use bits::copy;
 use proof::asking::proof_bytes;
 use seeds::challenge;
 

@@ -1,7 +1,7 @@
-// SHAKE128 of an input in two parts, and copies of bytes.
+// SHAKE128 of an input in two parts.
 ghost use mathlib.Core.Path.{_≡_};
 ghost use mathlib.Core.List.{_++_};
-ghost use lib.ListN.{length, replicate};
+ghost use lib.ListN.{length};
 ghost use Rattle.keccak.specs.Sponge.{shake128 as «shake128-of»};
 use keccak::SHAKE_FIRST;
 use keccak::SHAKE128_RATE;
@@ -16,27 +16,4 @@ pub(crate) fn shake128(head: &[u8], body: &[u8], out: &mut [u8])
         .absorb(SHAKE128_RATE, body);
     let _ = s.pad(SHAKE128_RATE, SHAKE_FIRST)
         .squeeze(SHAKE128_RATE, out);
-}
-
-// Copies the bytes.
-pub(crate) fn copy(from: &[u8], to: &mut [u8])
-    requires { ⌜ length (now to) ≡ length (now from) ⌝ }
-    ensures { λ _. ⌜ now (to .exit) ≡ now (from .entry) ⌝ }
-{
-    let mut i = 0;
-    while i < to.len() {
-        to[i] = from[i];
-        i += 1;
-    }
-}
-
-// Sets every byte to zero.
-pub(crate) fn zero(out: &mut [u8])
-    ensures { λ _. ⌜ now (out .exit) ≡ replicate (length (now (out .entry))) 0 ⌝ }
-{
-    let mut i = 0;
-    while i < out.len() {
-        out[i] = 0;
-        i += 1;
-    }
 }

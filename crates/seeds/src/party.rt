@@ -5,7 +5,7 @@ ghost use lib.ListN.{length};
 ghost use Rattle.seeds.specs.Derive.{masterOf, seedRow, clearFrom, tapeRow, commitmentOf};
 use crate::digest::finish;
 use crate::hash::shake128;
-use crate::hash::zero;
+use bits::clear;
 use keccak::SHA3_256_RATE;
 use keccak::sponge::Sponge;
 
@@ -35,7 +35,7 @@ fn clear_from(s: &mut [u8], k: usize)
     if at < s.len() {
         s[at] = s[at] % (1u8 << ((k % 8) as u8));
         let next = at + 1;
-        zero(&mut s[next..]);
+        clear(&mut s[next..]);
     }
 }
 

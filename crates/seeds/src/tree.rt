@@ -3,9 +3,9 @@ ghost use mathlib.Core.Path.{_≡_};
 ghost use Prim.Native.Nat.{_+_, _*_, _^_, _≤_, _<_};
 ghost use lib.ListN.{length};
 ghost use Rattle.seeds.specs.Tree.{children as «children-of», leavesBelow, siblingsBelow, openedBelow};
-use crate::hash::copy;
 use crate::hash::shake128;
-use crate::hash::zero;
+use bits::clear;
+use bits::copy;
 
 // The values of nodes 2k and 2k + 1, from that of node k.
 pub fn children(j: u32, k: u32, value: &[u8], out: &mut [u8])
@@ -71,7 +71,7 @@ pub fn opened_below(j: u32, k: u32, h: u32, p: u32, siblings: &[u8], out: &mut [
     ensures { λ _. ⌜ now (out .exit) ≡ openedBelow j h k p (now (siblings .entry)) ⌝ }
 {
     if h == 0 {
-        zero(out);
+        clear(out);
     } else {
         let half = leaves_of(h - 1);
         let mid = out.len() / 2;

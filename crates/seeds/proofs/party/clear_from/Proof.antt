@@ -26,23 +26,23 @@ slice-write-s c = search needs
 add-next : tie.Need-add-next
 add-next c = search needs
 
-sub-zero : tie.Need-sub-zero
-sub-zero c = rw (length-set (c .before .before .before .args .s .now) (c .before .before .before .args .k / 8) (cleared (c .before .before .before .args .k) (c .before .before .before .args .s .now))) (omega arith)
+sub-clear : tie.Need-sub-clear
+sub-clear c = rw (length-set (c .before .before .before .args .s .now) (c .before .before .before .args .k / 8) (cleared (c .before .before .before .args .k) (c .before .before .before .args .s .now))) (omega arith)
 
-part-zero-start : tie.Need-part-zero-start
-part-zero-start c = rw (length-set (c .before .before .before .args .s .now) (c .before .before .before .args .k / 8) (cleared (c .before .before .before .args .k) (c .before .before .before .args .s .now))) (omega arith)
+part-clear-start : tie.Need-part-clear-start
+part-clear-start c = rw (length-set (c .before .before .before .args .s .now) (c .before .before .before .args .k / 8) (cleared (c .before .before .before .args .k) (c .before .before .before .args .s .now))) (omega arith)
 
-part-zero-end : tie.Need-part-zero-end
-part-zero-end c = search needs
+part-clear-end : tie.Need-part-clear-end
+part-clear-end c = search needs
 
-zero-requires : tie.Need-zero-requires
-zero-requires c κs = search needs
+clear-requires : tie.Need-clear-requires
+clear-requires c κs = search needs
 
 same-length : tie.Need-same-length
-same-length c = clear-kept (c .before .before .before .before .before .before .before .args .k) (c .before .before .before .before .before .before .before .args .s .now) (c .before .before .zero .last .0) (λ i. c .before .before .before .before .before .before .slice-known .given i .fits) (c .before .before .before .before .before .if1 .taken) (c .before .before .zero .kept .0)
+same-length c = clear-kept (c .before .before .before .before .before .before .before .args .k) (c .before .before .before .before .before .before .before .args .s .now) (c .before .before .clear .last .0) (λ i. c .before .before .before .before .before .before .slice-known .given i .fits) (c .before .before .before .before .before .if1 .taken) (c .before .before .clear .kept .0)
 
 returns : tie.Need-returns
-returns c = clear-code (c .before .before .before .before .before .before .before .args .k) (c .before .before .before .before .before .before .before .args .s .now) (c .before .before .zero .last .0) (λ i. c .before .before .before .before .before .before .slice-known .given i .fits) (c .before .before .before .before .before .if1 .taken) (c .before .before .zero .ensures)
+returns c = clear-code (c .before .before .before .before .before .before .before .args .k) (c .before .before .before .before .before .before .before .args .s .now) (c .before .before .clear .last .0) (λ i. c .before .before .before .before .before .before .slice-known .given i .fits) (c .before .before .before .before .before .if1 .taken) (c .before .before .clear .ensures)
 
 returns-2 : tie.Need-returns-2
 returns-2 c = clear-none (c .before .before .args .k) (c .before .before .args .s .now) (λ i. c .before .slice-known .given i .fits) (omega arith)
@@ -57,10 +57,10 @@ clear-from-spec =
     rem-s
     slice-write-s
     add-next
-    sub-zero
-    part-zero-start
-    part-zero-end
-    zero-requires
+    sub-clear
+    part-clear-start
+    part-clear-end
+    clear-requires
     same-length
     returns
     returns-2)

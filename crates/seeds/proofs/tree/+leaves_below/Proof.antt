@@ -12,7 +12,7 @@ use borrow.Fn.PlainCycle.{Measures, is, falls, and}
 use Rattle.seeds.proofs.tree.leaves_below.Reads as leaves-below
 use Rattle.seeds.proofs.tree.leaves_below.Kinds as leaves-below-kinds
 use Rattle.seeds.proofs.tree.+leaves_below.Lts-leaves_below as leaves-below-lts
-use Rattle.seeds.proofs.hash.copy.Reads as copy-reads
+use Rattle.bits.proofs.copy.Reads as copy-reads
 use Rattle.seeds.proofs.tree.children.Reads as children-reads
 use Rattle.seeds.proofs.tree.+leaves_below.{statement}
 use Rattle.seeds.proofs.tree.+leaves_below.Tie.{close}

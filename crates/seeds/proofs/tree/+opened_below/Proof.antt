@@ -12,7 +12,7 @@ use borrow.Fn.PlainCycle.{Measures, is, falls, and}
 use Rattle.seeds.proofs.tree.opened_below.Reads as opened-below
 use Rattle.seeds.proofs.tree.opened_below.Kinds as opened-below-kinds
 use Rattle.seeds.proofs.tree.+opened_below.Lts-opened_below as opened-below-lts
-use Rattle.seeds.proofs.hash.zero.Reads as zero-reads
+use Rattle.bits.proofs.clear.Reads as clear-reads
 use Rattle.seeds.proofs.tree.leaves_below.Reads as leaves-below-reads
 use Rattle.seeds.proofs.tree.leaves_of.Reads as leaves-of-reads
 use Rattle.seeds.proofs.tree.+opened_below.{statement}
@@ -36,8 +36,8 @@ opened-below-below t =
 -- what is asked and known of the functions called, with a height below t
 abbrev calls : ℕ → opened-below-lts.Claims
 calls t = (
-  zero-reads.Asked,
-  zero-reads.Learnt,
+  clear-reads.Asked,
+  clear-reads.Learnt,
   leaves-of-reads.Asked,
   leaves-of-reads.Learnt,
   opened-below-below t,
@@ -46,8 +46,8 @@ calls t = (
   leaves-below-reads.Learnt,
 )
 
-opened-below-zero-requires : (t : ℕ) → opened-below-lts.Need-zero-requires (calls t) (opened-below-at t) opened-below.Post
-opened-below-zero-requires t c κs = search needs
+opened-below-clear-requires : (t : ℕ) → opened-below-lts.Need-clear-requires (calls t) (opened-below-at t) opened-below.Post
+opened-below-clear-requires t c κs = search needs
 
 opened-below-sub-leaves-of : (t : ℕ) → opened-below-lts.Need-sub-leaves-of (calls t) (opened-below-at t) opened-below.Post
 opened-below-sub-leaves-of t c = let r = room (c .before .before .before .args .k) (c .before .before .before .args .h) (c .if1 .left) (c .before .before .before .pre .1 .1 .1 .0) in r .some
@@ -196,10 +196,10 @@ opened-below-opened-below-requires-2 t c κs =
     )
 
 opened-below-same-length : (t : ℕ) → opened-below-lts.Need-same-length (calls t) (opened-below-at t) opened-below.Post
-opened-below-same-length t c = c .before .before .zero .kept .0
+opened-below-same-length t c = c .before .before .clear .kept .0
 
 opened-below-returns : (t : ℕ) → opened-below-lts.Need-returns (calls t) (opened-below-at t) opened-below.Post
-opened-below-returns t c = let x = c .before .before .before .before .before .before .before .args in c .before .before .zero .ensures ∙ opened-none (x .j) (x .k) (x .h) (x .p) (x .siblings .now) (length (x .out .now)) (c .before .before .before .before .if1 .taken) (c .before .before .before .before .before .before .before .pre .1 .1 .0)
+opened-below-returns t c = let x = c .before .before .before .before .before .before .before .args in c .before .before .clear .ensures ∙ opened-none (x .j) (x .k) (x .h) (x .p) (x .siblings .now) (length (x .out .now)) (c .before .before .before .before .if1 .taken) (c .before .before .before .before .before .before .before .pre .1 .1 .0)
 
 opened-below-same-length-2 : (t : ℕ) → opened-below-lts.Need-same-length-2 (calls t) (opened-below-at t) opened-below.Post
 opened-below-same-length-2 t c =
@@ -227,7 +227,7 @@ pub +opened-below-spec : {M : Type 1} → statement M
 +opened-below-spec = close μ-opened-below λ t. opened-below-lts.spec (calls t)
     (opened-below-at t)
     opened-below.Post
-    (opened-below-zero-requires t)
+    (opened-below-clear-requires t)
     (opened-below-sub-leaves-of t)
     (opened-below-leaves-of-requires t)
     (opened-below-mul-opened-below t)

@@ -12,7 +12,7 @@ use borrow.Fn.PlainCycle.{Measures, is, falls, and}
 use Rattle.seeds.proofs.tree.siblings_below.Reads as siblings-below
 use Rattle.seeds.proofs.tree.siblings_below.Kinds as siblings-below-kinds
 use Rattle.seeds.proofs.tree.+siblings_below.Lts-siblings_below as siblings-below-lts
-use Rattle.seeds.proofs.hash.copy.Reads as copy-reads
+use Rattle.bits.proofs.copy.Reads as copy-reads
 use Rattle.seeds.proofs.tree.children.Reads as children-reads
 use Rattle.seeds.proofs.tree.leaves_of.Reads as leaves-of-reads
 use Rattle.seeds.proofs.tree.+siblings_below.{statement}

@@ -1,4 +1,4 @@
--- `engine::memory::clear` meets its contract. The loop's invariant: the first k bytes are zero, and the others as they were.
+-- `bits::clear` meets its contract. The loop's invariant: the first k bytes are zero, and the others as they were.
 -- Assumes nothing.
 use mathlib.Core.Path.{_≡_, refl, ap, _∙_}
 use mathlib.Core.List.{List, _++_}
@@ -6,21 +6,21 @@ use Prim.Native.Nat.{ℕ, _-_, _≤_}
 use native.Mathlib.Omega.{arith}
 use lib.ListN.{length, set, drop, replicate, length-set}
 use borrow.Author.Fill.{fill-more}
-use Rattle.engine.proofs.Loading.{cleared}
-use Rattle.engine.proofs.memory.clear.Statement.{statement}
-use Rattle.engine.proofs.memory.clear.Tie as tie
+use Rattle.bits.proofs.Copies.{fill-end}
+use Rattle.bits.proofs.clear.Statement.{statement}
+use Rattle.bits.proofs.clear.Tie as tie
 
 abbrev Inv-loop : tie.InvT-loop
-Inv-loop memory₀ k₀ memory k = (length memory ≡ length memory₀) × ((k ≤ length memory₀) × (memory ≡ replicate k 0 ++ drop k memory₀))
+Inv-loop s₀ k₀ s k = (length s ≡ length s₀) × ((k ≤ length s₀) × (s ≡ replicate k 0 ++ drop k s₀))
 
 abbrev μ-loop : tie.MeasureT-loop
-μ-loop memory₀ k₀ memory k = length memory₀ - k
+μ-loop s₀ k₀ s k = length s₀ - k
 
 loop-holds : tie.Need-loop-holds Inv-loop μ-loop
 loop-holds c = (refl, (omega arith, refl))
 
-slice-write-memory : tie.Need-slice-write-memory Inv-loop μ-loop
-slice-write-memory c = omega arith
+slice-write-s : tie.Need-slice-write-s Inv-loop μ-loop
+slice-write-s c = omega arith
 
 add-k : tie.Need-add-k Inv-loop μ-loop
 add-k c = omega arith
@@ -31,14 +31,14 @@ loop-less c = omega arith
 loop-again : tie.Need-loop-again Inv-loop μ-loop
 loop-again c =
     let l = c .before .loop in
-    let m = c .before .before .args .memory .now in
+    let m = c .before .before .args .s .now in
     (rw length-set (l .inv .0), (omega arith, ap (λ (o : List ℕ). set o (l .k) 0) (l .inv .1 .1) ∙ fill-more (l .k) 0 m (omega arith)))
 
 same-length : tie.Need-same-length Inv-loop μ-loop
 same-length c = omega arith
 
 returns : tie.Need-returns Inv-loop μ-loop
-returns c = c .before .loop .inv .1 .1 ∙ cleared (c .before .before .args .memory .now) (c .before .loop .k) (c .before .loop .inv .1 .0) (omega arith)
+returns c = c .before .loop .inv .1 .1 ∙ fill-end (c .before .before .args .s .now) (c .before .loop .k) (c .before .loop .inv .1 .0) (omega arith)
 
 pub clear-spec : {M : Type 1} → statement M
 clear-spec =
@@ -47,7 +47,7 @@ clear-spec =
     Inv-loop
     μ-loop
     loop-holds
-    slice-write-memory
+    slice-write-s
     add-k
     loop-less
     loop-again
