@@ -1,16 +1,27 @@
-# make test    the gate: every proof, every must-fail edit, every program, then the Rust tests
-# make bench   throughput of the library, the second implementation and OpenSSL, in one run
+# make run     the main job on an example: a shelf, a draw, a proof, its check, and an old page put back
+# make test    the gate: every proof, every must-fail edit, every program, then the Rust and the C tests
+# make bench   throughput of the library, the second implementation and OpenSSL, and what a proof costs
 
-.PHONY: test bench lib fmt
+.PHONY: run test bench lib fmt
+
+cargo_run = cargo run --release --manifest-path rust/Cargo.toml --target-dir target/rust --offline --locked --quiet
+costs = docs/proof-cost
+
+run: lib
+	@$(cargo_run) --package wv --bin depot -- target/run
 
 test:
 	@tools/gate
 
 lib:
-	rt staticlib wivulameno
+	@mkdir -p target
+	@echo "The library is proved, then built: some minutes the first time."
+	@rt staticlib wivulameno >target/lib.out 2>&1 || { cat target/lib.out; exit 1; }
 
 bench: lib
-	cd rust && cargo run --release --offline --locked --quiet --package bench
+	$(cargo_run) --package bench
+	$(cargo_run) --package wv --bin cost -- measure $(costs).txt
+	test ! -f $(costs).txt || $(cargo_run) --package wv --bin cost -- plot $(costs).txt $(costs).svg
 
 fmt:
 	rt fmt

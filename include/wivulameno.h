@@ -191,35 +191,39 @@ uint32_t wv_replay(const uint8_t *circuit, size_t circuit_len,
  * if nothing but these functions changes a page. For each draw, in this order:
  *
  *   1. Call wv_draw on the page in memory, with the log's count.
- *   2. Write the new page beside the old one, and wait until it is on disk.
- *   3. Add 1 to the log's count, and wait until it is on disk.
- *   4. Put the new page in the place of the old one, in one step (rename).
- *   5. Only now use the root.
+ *   2. Add 1 to the log's count, with a digest of the new page beside it, and
+ *      wait until it is on disk.
+ *   3. Write the new page beside the old one, wait until it is on disk, and put
+ *      it in the place of the old one in one step (rename).
+ *   4. Note in the log that the page is in place. Only now use the root.
  *
- * After a crash, compare the log's count with the draws of the pages found:
+ * Never let a page get on disk before its draw is counted: it would be a page
+ * that a backup can keep and that no log has counted, and it can hold a root
+ * that is drawn later from another page.
  *
- *   - A page whose draws is the log's count is the present one. Put it in
- *     place, and delete the other. Crashed before step 3, this is the old page,
- *     and the root was not used; after it, this is the new page, and the root
- *     is lost if it was not used.
- *   - The page is behind the log: the new page is gone, or an old copy was put
- *     back. It still holds roots that may have been used, and every draw on it
- *     is refused with 15. Put the page of the present count there, from
- *     wherever it was kept. If there is none, start a new page without roots,
- *     its draws set to the log's count, and stock new roots.
- *   - A host that puts the page in place before it writes the log can find the
- *     page one draw ahead: 15 again. That draw was accepted, so it must be
- *     counted: add 1 to the log's count, and take its root as lost. A page
- *     further ahead than that means that the log itself was set back. Then no
- *     page can be trusted: delete them all, and start a new page and a new log.
+ * After a crash, compare the log's count with the draws of the page:
+ *
+ *   - They are equal: this is the present page.
+ *   - The page is one draw behind, and the log does not say that the last page
+ *     got in place: call wv_draw on a copy, with the count less 1. If the page
+ *     that it leaves has the digest in the log, it is the present page: put it
+ *     in place, and drop the root.
+ *   - Else the page is behind the log: an old copy was put back. It still holds
+ *     roots that may have been used, and every draw on it is refused with 15.
+ *     Put the page of the present count there, from wherever it was kept. If
+ *     there is none, start a new page without roots, its draws set to the log's
+ *     count, and stock new roots.
+ *   - The page is ahead of the log: the log was set back, or a page got on disk
+ *     before it was counted. Then no page can be trusted: delete them all, and
+ *     start a new page and a new log.
  *
  * Never change the draws of a page, and never count the log down, to make the
  * two agree. Never put the counting off until the host's own work commits. This
  * is how a root goes out twice.
  *
  * wv_stock takes no count and cannot see an old page: a root stocked on one is
- * lost when the present page is put back. Save the page as in steps 2 and 4
- * after a stocking too. Each stocking counts as its own, so the same root
+ * lost when the present page is put back. Save the page as in step 3 after a
+ * stocking too. Each stocking counts as its own, so the same root
  * stocked twice can be drawn twice: stock each root once, keep no copy, and
  * after a crash take a new root rather than one that may be on the page.
  */

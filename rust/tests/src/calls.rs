@@ -104,8 +104,18 @@ impl Call {
         let inputs = self.inputs.iter().map(|input| &input[..]).collect();
         let lent = out.iter_mut().map(|out| &mut out[..]).collect();
         let ours = answer_of!(wivulameno::mpc, self, &self.circuit, inputs, lent);
-        ours.map_err(|refusal| refusal.0)?;
+        ours.map_err(|refusal| refusal.number())?;
         Ok(out)
+    }
+
+    /// The library's answer, with these buffers lent.
+    pub fn with(
+        &self,
+        circuit: &[u8],
+        inputs: Vec<&[u8]>,
+        out: Vec<&mut [u8]>,
+    ) -> Result<(), wivulameno::Refusal> {
+        answer_of!(wivulameno::mpc, self, circuit, inputs, out)
     }
 
     fn outputs_of_zeros(&self) -> Vec<Vec<u8>> {
@@ -143,7 +153,7 @@ pub fn compare(random: &mut Random, call: &Call) -> Answer {
     let filled = out.iter_mut().map(Guarded::lent).collect();
     let ours = answer_of!(wivulameno::mpc, call, circuit.get(), lent, filled);
     let shown = call.shown();
-    assert_eq!(ours.map_err(|refusal| refusal.0), second, "{shown}");
+    assert_eq!(ours.map_err(|refusal| refusal.number()), second, "{shown}");
     for (place, (out, expected)) in out.iter().zip(&expected).enumerate() {
         assert!(out.get() == expected, "output {place}, {shown}");
         assert!(out.outside_unchanged(), "beside output {place}, {shown}");

@@ -3,8 +3,10 @@
 
 pub mod calls;
 pub mod circuits;
+pub mod cut_disk;
 pub mod guarded;
 pub mod outcomes;
+pub mod paged;
 pub mod pages;
 pub mod proofs;
 pub mod random;

@@ -178,7 +178,7 @@ pub fn compare_prove(random: &mut Random, call: &Prove) -> Result<Vec<u8>, u32> 
         &mut words[1]
     );
     let shown = call.shown();
-    let answer = second.map(|_| ()).map_err(wivulameno::Refusal);
+    let answer = second.map(|_| ()).map_err(wivulameno::Refusal::of);
     assert_eq!(ours, answer, "{shown}");
     let written = second.map_or(before[1], |len| len as u64);
     assert_eq!(words, [before[0], written, before[2]], "written, {shown}");
@@ -196,7 +196,7 @@ pub fn compare_check(random: &mut Random, call: &Check) -> Result<(), u32> {
     let second = check_by!(reference::proof, lent);
     let ours = check_by!(wivulameno::proof, lent);
     let shown = call.shown();
-    assert_eq!(ours, second.map_err(wivulameno::Refusal), "{shown}");
+    assert_eq!(ours, second.map_err(wivulameno::Refusal::of), "{shown}");
     assert!(inputs.iter().all(Guarded::unchanged), "inputs, {shown}");
     second
 }

@@ -36,7 +36,7 @@ fn check_read(name: &str, file: &[u8], expected: Result<[u32; 4], u32>) {
     });
     assert_eq!(second, expected, "reference: {name}");
 
-    let ours = wivulameno::circuit::read(file).map_err(|refusal| refusal.0);
+    let ours = wivulameno::circuit::read(file).map_err(|refusal| refusal.number());
     assert_eq!(ours, expected, "library: {name}");
 
     let mut sizes = [7, 8, 9, 10];
@@ -55,7 +55,7 @@ fn check_evaluate(name: &str, file: &[u8], witness: &[u8], y_len: usize, expecte
     let random = &mut Random::new(1);
     let mut y = Guarded::holding(random, &vec![0xa5; y_len]);
     let ours = wivulameno::circuit::evaluate(file, witness, y.lent());
-    let ours = ours.map_err(|refusal| refusal.0);
+    let ours = ours.map_err(|refusal| refusal.number());
     assert_eq!(ours.map(|()| y.get().to_vec()), expected, "library: {name}");
     assert!(y.outside_unchanged(), "outside: {name}");
     assert!(expected.is_ok() || y.unchanged(), "y: {name}");

@@ -29,7 +29,7 @@ fn compare_read(random: &mut Random, file: &[u8]) -> Result<circuit::Sizes, u32>
 
     let middle = (&mut words[4..8]).try_into().expect("4 words");
     let ours = wivulameno::circuit::read_into(lent.get(), middle);
-    let ours = ours.map_err(|refusal| refusal.0);
+    let ours = ours.map_err(|refusal| refusal.number());
     assert_eq!(ours, second.map(|_| ()), "{}", shown(file));
     assert_eq!(words, expected, "sizes, {}", shown(file));
     assert!(lent.unchanged(), "circuit, {}", shown(file));
@@ -51,7 +51,7 @@ fn compare_evaluate(
 
     let ours = wivulameno::circuit::evaluate(file.get(), witness.get(), y.lent());
     let shown = shown(file.get());
-    assert_eq!(ours.map_err(|refusal| refusal.0), second, "{shown}");
+    assert_eq!(ours.map_err(|refusal| refusal.number()), second, "{shown}");
     assert!(y.get() == expected, "y, {shown}");
     assert!(y.outside_unchanged(), "outside, {shown}");
     assert!(second.is_ok() || y.unchanged(), "y of a refusal, {shown}");

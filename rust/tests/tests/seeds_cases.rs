@@ -33,7 +33,7 @@ fn refused(
 ) {
     let mut out = Guarded::new(&mut Random::new(1), 1, out_len);
     let answer = call(out.lent());
-    assert_eq!(answer, Err(wivulameno::Refusal(number)));
+    assert_eq!(answer, Err(wivulameno::Refusal::of(number)));
     assert!(out.unchanged());
 }
 

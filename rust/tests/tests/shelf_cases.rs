@@ -22,7 +22,7 @@ fn check_stock(name: &str, page: &[u8], root: &[u8], expected: Result<(), u32>) 
     let root = Guarded::holding(random, root);
     let mut ours = Guarded::holding(random, page);
     let answer = wivulameno::shelf::stock(ours.lent(), root.get());
-    assert_eq!(answer, expected.map_err(Refusal), "library: {name}");
+    assert_eq!(answer, expected.map_err(Refusal::of), "library: {name}");
     assert!(ours.get() == second, "page: {name}");
     assert!(ours.outside_unchanged() && root.unchanged(), "{name}");
     assert!(expected.is_ok() || ours.unchanged(), "page: {name}");
@@ -42,7 +42,7 @@ fn check_draw(name: &str, page: &[u8], count: u64, expected: Result<[u8; 16], u3
     let mut ours = Guarded::holding(random, page);
     let lent = root.lent().try_into().expect("16 bytes");
     let answer = wivulameno::shelf::draw_into(ours.lent(), count, lent);
-    let expected_status = expected.map(|_| ()).map_err(Refusal);
+    let expected_status = expected.map(|_| ()).map_err(Refusal::of);
     assert_eq!(answer, expected_status, "library: {name}");
     assert_eq!(root.get(), expected.unwrap_or([0xa5; 16]), "root: {name}");
     assert!(ours.get() == second, "page: {name}");
@@ -232,14 +232,14 @@ fn rollback_is_refused() {
     let mut restored = clean.clone();
     let mut root = [0xa5; 16];
     let again = wivulameno::shelf::draw_into(&mut restored, log, &mut root);
-    assert_eq!(again, Err(Refusal(15)));
+    assert_eq!(again, Err(Refusal::of(15)));
     assert_eq!(root, [0xa5; 16]);
     assert_eq!(restored, clean);
 
     // Stocking on the old page does not open it again.
     assert_eq!(wivulameno::shelf::stock(&mut restored, &[9; 16]), Ok(()));
     let again = wivulameno::shelf::draw_into(&mut restored, log, &mut root);
-    assert_eq!(again, Err(Refusal(15)));
+    assert_eq!(again, Err(Refusal::of(15)));
     assert_eq!(root, [0xa5; 16]);
 
     // The present page goes on, with the next root.

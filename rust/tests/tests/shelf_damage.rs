@@ -20,7 +20,7 @@ fn compare_stock(random: &mut Random, page: &[u8]) -> Result<(), u32> {
     let second = shelf::stock(&mut expected, root.get());
 
     let ours = wivulameno::shelf::stock(lent.lent(), root.get());
-    assert_eq!(ours, second.map_err(Refusal), "{page:02x?}");
+    assert_eq!(ours, second.map_err(Refusal::of), "{page:02x?}");
     assert!(lent.get() == expected, "page, {page:02x?}");
     assert!(lent.outside_unchanged() && root.unchanged(), "{page:02x?}");
     assert!(second.is_ok() || lent.unchanged(), "{page:02x?}");
@@ -35,7 +35,7 @@ fn compare_draw(random: &mut Random, page: &[u8], count: u64) -> Result<[u8; 16]
 
     let place = root.lent().try_into().expect("16 bytes");
     let ours = wivulameno::shelf::draw_into(lent.lent(), count, place);
-    assert_eq!(ours, second.map(|_| ()).map_err(Refusal), "{page:02x?}");
+    assert_eq!(ours, second.map(|_| ()).map_err(Refusal::of), "{page:02x?}");
     assert!(lent.get() == expected, "page, {page:02x?}");
     assert!(lent.outside_unchanged() && root.outside_unchanged());
     match second {

@@ -96,7 +96,7 @@ fn stock(random: &mut Random, page: &[u8], root: &[u8], expected: Answer) -> Vec
 
     let mut lent = Guarded::holding(random, page);
     let ours = wivulameno::shelf::stock(lent.lent(), root);
-    assert_eq!(ours.map_err(|refusal| refusal.0), status(expected));
+    assert_eq!(ours.map_err(|refusal| refusal.number()), status(expected));
     assert!(lent.get() == second, "page after a stocking");
     assert!(lent.outside_unchanged());
     second
@@ -115,7 +115,7 @@ fn draw(random: &mut Random, page: &[u8], count: u64, expected: Answer) -> Vec<u
 
     let mut lent = Guarded::holding(random, page);
     let ours = wivulameno::shelf::draw_into(lent.lent(), count, &mut root);
-    assert_eq!(ours.map_err(|refusal| refusal.0), status(expected));
+    assert_eq!(ours.map_err(|refusal| refusal.number()), status(expected));
     assert_eq!(root, expected_root);
     assert!(lent.get() == second, "page after a draw");
     assert!(lent.outside_unchanged());

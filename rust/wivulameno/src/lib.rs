@@ -4,21 +4,22 @@
 //! that is not null, its length, and no overlap with what is written.
 
 mod ffi;
+mod refusal;
 
 pub mod circuit;
 pub mod mpc;
 pub mod proof;
 pub mod seeds;
 pub mod shelf;
+pub mod store;
 
-/// The number of a refused call. Every lent byte is as it was.
-#[derive(Clone, Copy, Debug, PartialEq, Eq)]
-pub struct Refusal(pub u32);
+pub use refusal::Refusal;
+pub use store::{Log, Shelf};
 
 fn answer(status: u32) -> Result<(), Refusal> {
     match status {
         0 => Ok(()),
-        number => Err(Refusal(number)),
+        number => Err(Refusal::of(number)),
     }
 }
 

@@ -1,0 +1,235 @@
+/*
+ * A host in C. It lends its own buffers, allocates nothing, and shows each step
+ * of a depot's day: read a circuit, evaluate a row, stock a shelf, draw a root,
+ * prove, check, and the incident in which an old page is put back.
+ *
+ *   gcc -std=c99 -Iinclude examples/embed.c target/staticlib/libwivulameno.a
+ */
+#include <stdint.h>
+#include <stdio.h>
+#include <stdlib.h>
+#include <string.h>
+
+#include "wivulameno.h"
+
+/* The comparison is of 16 bits: the row's stock, and the order. */
+#define WIDTH 16
+#define INPUTS (2 * WIDTH)
+#define OUTPUTS (1 + WIDTH)
+#define GATES (4 * WIDTH - 1)
+#define CIRCUIT_LEN (8 + 2 * OUTPUTS + 8 * GATES)
+
+#define SLOTS 4
+#define PAGE_LEN (12 + 18 * SLOTS)
+
+enum { XOR = 1, AND = 2, INV = 3 };
+
+/* Everything that is lent. A host has such buffers in its own page cache. */
+static uint8_t circuit[CIRCUIT_LEN];
+static uint8_t witness[INPUTS / 8];
+static uint8_t y[(OUTPUTS + 7) / 8];
+static uint8_t page[PAGE_LEN];
+static uint8_t old_page[PAGE_LEN];
+static uint8_t root[16];
+
+static void must(const char *what, uint32_t answer, uint32_t expected)
+{
+    printf("%s: %lu\n", what, (unsigned long)answer);
+    if (answer != expected) {
+        printf("expected %lu\n", (unsigned long)expected);
+        exit(1);
+    }
+}
+
+static uint8_t *put_u16(uint8_t *place, unsigned number)
+{
+    place[0] = (uint8_t)(number & 255);
+    place[1] = (uint8_t)(number >> 8);
+    return place + 2;
+}
+
+/* Slot k of the circuit; the chain goes from slot to slot. Gives its wire. */
+static unsigned put_gate(unsigned slot, unsigned kind, unsigned a, unsigned b)
+{
+    uint8_t *place = circuit + 8 + 2 * OUTPUTS + 8 * (slot - 1);
+
+    place = put_u16(place, kind);
+    place = put_u16(place, a);
+    place = put_u16(place, b);
+    put_u16(place, slot == GATES ? 0 : slot + 1);
+    return INPUTS + slot - 1;
+}
+
+/*
+ * Output 0 is 1 if the stock (wires 0 to 15) covers the order (wires 16 to 31).
+ * The order's own bits follow as outputs, so that y tells which order. The
+ * borrow of stock - order goes from bit to bit, with one AND for each bit.
+ */
+static void make_circuit(void)
+{
+    uint8_t *place = circuit;
+    unsigned slot = 1, bit, differ, borrow, change;
+
+    place = put_u16(place, INPUTS);
+    place = put_u16(place, OUTPUTS);
+    place = put_u16(place, GATES);
+    place = put_u16(place, 1);
+    place = put_u16(place, INPUTS + GATES - 1);
+    for (bit = 0; bit < WIDTH; bit++)
+        place = put_u16(place, WIDTH + bit);
+
+    differ = put_gate(slot++, XOR, 0, WIDTH);
+    borrow = put_gate(slot++, AND, differ, WIDTH);
+    for (bit = 1; bit < WIDTH; bit++) {
+        differ = put_gate(slot++, XOR, bit, WIDTH + bit);
+        change = put_gate(slot++, XOR, WIDTH + bit, borrow);
+        change = put_gate(slot++, AND, differ, change);
+        borrow = put_gate(slot++, XOR, borrow, change);
+    }
+    put_gate(slot, INV, borrow, 0);
+}
+
+static void use_circuit(unsigned stock, unsigned order)
+{
+    uint32_t sizes[4];
+
+    make_circuit();
+    must("read the circuit", wv_read(circuit, sizeof circuit, sizes), 0);
+    printf("  I %lu, O %lu, G %lu, A %lu\n",
+           (unsigned long)sizes[0], (unsigned long)sizes[1],
+           (unsigned long)sizes[2], (unsigned long)sizes[3]);
+    put_u16(witness, stock);
+    put_u16(witness + 2, order);
+    must("evaluate the row",
+         wv_evaluate(circuit, sizeof circuit, witness, sizeof witness,
+                     y, sizeof y), 0);
+    printf("  the stock covers the order: %d\n", y[0] & 1);
+    must("evaluate a row of another length",
+         wv_evaluate(circuit, sizeof circuit, witness, sizeof witness - 1,
+                     y, sizeof y), 6);
+}
+
+/* A page without roots: all slots are on the spare chain, in order. */
+static void new_page(uint32_t draws)
+{
+    uint8_t *place = page;
+    unsigned slot;
+
+    memset(page, 0, sizeof page);
+    place = put_u16(place, SLOTS);
+    place = put_u16(place, 0);
+    place = put_u16(place, 1);
+    place = put_u16(place, 0);
+    place = put_u16(place, draws & 0xffff);
+    place = put_u16(place, draws >> 16);
+    for (slot = 1; slot <= SLOTS; slot++)
+        put_u16(place + 18 * (slot - 1), slot == SLOTS ? 0 : slot + 1);
+}
+
+/* Roots are random, and each is stocked once. */
+static void stock_shelf(unsigned count)
+{
+    FILE *source = fopen("/dev/urandom", "rb");
+
+    if (source == NULL) {
+        printf("no random source\n");
+        exit(1);
+    }
+    while (count-- > 0) {
+        if (fread(root, 1, sizeof root, source) != sizeof root)
+            exit(1);
+        must("stock a root", wv_stock(page, sizeof page, root, sizeof root), 0);
+        memset(root, 0, sizeof root);
+    }
+    fclose(source);
+}
+
+/*
+ * The count of accepted draws. A host has it in a log on disk, at a place that no
+ * rollback touches; here it is a variable. The comments are the host's work, in
+ * this order: a page whose draw is not counted must not get on disk, where a
+ * snapshot could keep it, and a root is used when its draw is counted on disk.
+ */
+static uint64_t log_count;
+
+static void draw_root(void)
+{
+    memcpy(old_page, page, sizeof page);
+    must("draw a root", wv_draw(page, sizeof page, log_count, root), 0);
+    log_count++;
+    /* write the log, with a digest of the new page; wait for the disk */
+    /* write the new page beside the old one, wait, rename it, wait */
+    /* only now use the root */
+}
+
+#define M 145
+#define TAU 66
+#define N 8
+/* A is WIDTH; log2 of N is 3. */
+#define PROOF_LEN (38 + 48 * (M - TAU) \
+                   + TAU * (16 * 3 + WIDTH / 8 + 32 + INPUTS / 8 \
+                            + (WIDTH + OUTPUTS + 7) / 8))
+
+static uint8_t proof[PROOF_LEN];
+static const uint8_t message[] = "order 4711";
+
+static void prove_and_check(void)
+{
+    uint64_t written = 0;
+    uint8_t claimed[sizeof y];
+    const size_t message_len = sizeof message - 1;
+
+    must("prove with too short a buffer",
+         wv_prove(circuit, sizeof circuit, witness, sizeof witness,
+                  y, sizeof y, message, message_len, root, sizeof root,
+                  M, TAU, N, proof, sizeof proof - 1, &written), 6);
+    must("prove",
+         wv_prove(circuit, sizeof circuit, witness, sizeof witness,
+                  y, sizeof y, message, message_len, root, sizeof root,
+                  M, TAU, N, proof, sizeof proof, &written), 0);
+    memset(root, 0, sizeof root);
+    printf("  %lu bytes\n", (unsigned long)written);
+
+    /* The buyer's end. It knows the order, and asks for these numbers. */
+    put_u16(claimed, 1 | 250 << 1);
+    claimed[2] = 250 >> 15;
+    if (proof[0] != M % 256 || proof[1] != M / 256 || proof[2] != TAU
+        || proof[3] != 0 || proof[4] != N)
+        exit(1);
+    must("check",
+         wv_check(circuit, sizeof circuit, claimed, sizeof claimed,
+                  message, message_len, proof, (size_t)written), 0);
+    claimed[0] ^= 2;
+    must("check for another order",
+         wv_check(circuit, sizeof circuit, claimed, sizeof claimed,
+                  message, message_len, proof, (size_t)written), 10);
+    must("check a proof that is cut",
+         wv_check(circuit, sizeof circuit, y, sizeof y,
+                  message, message_len, proof, (size_t)written - 1), 12);
+}
+
+/* The cache kept the page from before the draw, and puts it back. */
+static void incident(void)
+{
+    static const uint8_t untouched[16];
+
+    memcpy(page, old_page, sizeof page);
+    must("draw from the old page",
+         wv_draw(page, sizeof page, log_count, root), 15);
+    if (memcmp(page, old_page, sizeof page) != 0
+        || memcmp(root, untouched, sizeof root) != 0) {
+        printf("a refused call changed a lent byte\n");
+        exit(1);
+    }
+}
+
+int main(void)
+{
+    use_circuit(1000, 250);
+    new_page(0);
+    stock_shelf(2);
+    draw_root();
+    prove_and_check();
+    incident();
+    return 0;
+}

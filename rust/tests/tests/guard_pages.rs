@@ -1,0 +1,313 @@
+//! Legal and damaged calls of every C function, with pages around each lent
+//! buffer that may not be touched. A read or write past an end ends this test.
+
+use std::env;
+use std::os::unix::process::ExitStatusExt;
+use std::process::Command;
+use std::slice::from_ref;
+use tests::calls::{damage, Setting, NOT_A_COUNT};
+use tests::circuits::{any_sizes, any_slots, damaged, legal};
+use tests::outcomes::Outcomes;
+use tests::paged::{lend, Edge, Paged};
+use tests::pages::{self, any_draws, any_page, any_root, any_size};
+use tests::random::Random;
+use wivulameno::{circuit, mpc, seeds, shelf};
+
+/// The calls that each test makes.
+const BUDGET: usize = 4000;
+
+/// The library does with guarded buffers what it does with others.
+#[test]
+fn runs_showings_and_replays() {
+    let mut random = Random::new(0x6a1);
+    let mut outcomes = Outcomes::default();
+    for _ in 0..BUDGET {
+        let setting = Setting::any(&mut random);
+        let mut call = setting.any_call(&mut random);
+        if !random.once_in(3) {
+            damage(&mut random, &setting, &mut call);
+        }
+        let inputs: Vec<&[u8]> = [&call.circuit]
+            .into_iter()
+            .chain(&call.inputs)
+            .map(|bytes| &bytes[..])
+            .collect();
+        let lens = call.out_lens.iter();
+        let outputs: Vec<Vec<u8>> = lens.map(|&len| random.bytes(len)).collect();
+        let (answer, filled) = lend(&mut random, &inputs, &outputs, |inputs, out| {
+            call.with(inputs[0], inputs[1..].to_vec(), out)
+        });
+        outcomes.add_answer(&answer);
+        let expected = call.by_reference();
+        assert_eq!(answer.map(|()| filled), expected, "{}", call.shown());
+    }
+    outcomes.expect(&[0, 1, 2, 3, 4, 5, 6, 7, 8, 9, 10], 5);
+}
+
+#[test]
+fn circuits() {
+    let mut random = Random::new(0x6a2);
+    let mut outcomes = Outcomes::default();
+    for _ in 0..BUDGET {
+        let sizes = any_sizes(&mut random);
+        let slots = any_slots(&mut random, sizes[2]);
+        let file = legal(&mut random, sizes, &slots);
+        let bytes = match random.below(3) {
+            0 => file.bytes(),
+            _ => damaged(&mut random, &file, &slots),
+        };
+        outcomes.add_answer(&read(&mut random, &bytes));
+        evaluate(&mut random, &bytes, sizes, &mut outcomes);
+    }
+    outcomes.expect(&[0, 1, 2, 3, 4, 5, 6, 7], 5);
+}
+
+fn read(random: &mut Random, file: &[u8]) -> Result<(), u32> {
+    let (answer, filled) = lend(random, &[file], &[vec![0xee; 16]], |inputs, mut out| {
+        let sizes: *mut [u32; 4] = out[0].as_mut_ptr().cast();
+        assert!(sizes.is_aligned());
+        // SAFETY: these are 16 bytes, and aligned.
+        circuit::read_into(inputs[0], unsafe { &mut *sizes })
+    });
+    let expected = reference::circuit::read(file);
+    if let Ok(sizes) = &expected {
+        let first = u32::from_ne_bytes(filled[0][..4].try_into().unwrap());
+        assert_eq!(first as usize, sizes.inputs);
+    }
+    assert_eq!(answer, expected.map(|_| ()));
+    answer
+}
+
+fn evaluate(random: &mut Random, file: &[u8], sizes: [usize; 3], outcomes: &mut Outcomes) {
+    let exact = [sizes[0], sizes[1]].map(|bits| bits.div_ceil(8));
+    let [witness_len, y_len] = exact.map(|len| random.pick(&[len, len, len, len + 1, 0]));
+    let mut witness = random.bytes(witness_len);
+    if random.once_in(2) {
+        reference::bits::clear_rest(&mut witness, sizes[0].min(8 * witness_len));
+    }
+    let y = random.bytes(y_len);
+    let (answer, filled) = lend(random, &[file, &witness], from_ref(&y), |inputs, out| {
+        let [y] = out.try_into().unwrap_or_else(|_| panic!("one output"));
+        circuit::evaluate(inputs[0], inputs[1], y)
+    });
+    outcomes.add_answer(&answer);
+    let mut expected = y;
+    let second = reference::circuit::evaluate(file, &witness, &mut expected);
+    assert_eq!((answer, &filled[0]), (second, &expected));
+}
+
+#[test]
+fn shelves() {
+    let mut random = Random::new(0x6a3);
+    let mut outcomes = Outcomes::default();
+    for _ in 0..BUDGET {
+        let (size, draws) = (any_size(&mut random), any_draws(&mut random));
+        let mut page = any_page(&mut random, size, draws);
+        if random.once_in(2) {
+            pages::damage(&mut page, &mut random);
+        }
+        let stocked = stock(&mut random, &page);
+        outcomes.add_answer(&stocked);
+        let wide = random.word();
+        let count = random.pick(&[draws.into(), draws.into(), u64::from(draws) + 1, wide]);
+        outcomes.add_answer(&draw(&mut random, &page, count));
+    }
+    outcomes.expect(&[0, 6, 14, 15, 16, 17, 18], 5);
+}
+
+fn stock(random: &mut Random, page: &[u8]) -> Result<(), u32> {
+    let len = random.pick(&[16, 16, 16, 0, 15, 17]);
+    let root = [any_root(random), any_root(random)].concat();
+    let root = &root[..len];
+    let (answer, filled) = lend(random, &[root], &[page.to_vec()], |inputs, mut out| {
+        shelf::stock(out[0], inputs[0])
+    });
+    let mut expected = page.to_vec();
+    let plain = shelf::stock(&mut expected, root);
+    assert_eq!(answer, plain.map_err(|refusal| refusal.number()));
+    assert_eq!(filled[0], expected);
+    answer
+}
+
+fn draw(random: &mut Random, page: &[u8], count: u64) -> Result<(), u32> {
+    let outputs = [page.to_vec(), vec![0x77; 16]];
+    let (answer, filled) = lend(random, &[], &outputs, |_, out| {
+        let [page, root] = out.try_into().unwrap_or_else(|_| panic!("two outputs"));
+        shelf::draw_into(page, count, root.try_into().expect("16 bytes"))
+    });
+    let (mut expected, mut root) = (page.to_vec(), [0x77; 16]);
+    let plain = shelf::draw_into(&mut expected, count, &mut root);
+    assert_eq!(answer, plain.map_err(|refusal| refusal.number()));
+    assert_eq!(filled, [expected, root.to_vec()]);
+    answer
+}
+
+#[test]
+fn trees_and_challenges() {
+    let mut random = Random::new(0x6a4);
+    let mut outcomes = Outcomes::default();
+    for _ in 0..BUDGET {
+        let call = [expand, open, challenge][random.below(3)];
+        outcomes.add_answer(&call(&mut random));
+    }
+    outcomes.expect(&[0, 6, 8, 9], 5);
+}
+
+/// A number of parties, mostly a good one.
+fn parties(random: &mut Random) -> u32 {
+    match random.below(5) {
+        0 => random.pick(&NOT_A_COUNT),
+        _ => random.pick(&[2, 4, 8, 16]),
+    }
+}
+
+/// Mostly this length.
+fn near(random: &mut Random, len: usize) -> usize {
+    let less = len.saturating_sub(1);
+    random.pick(&[len, len, len, len, len, len + 1, less, 0])
+}
+
+fn any_instance(random: &mut Random) -> u32 {
+    random.pick(&[0, 1, 511, 65_535, 65_535, 65_536])
+}
+
+fn expand(random: &mut Random) -> Result<(), u32> {
+    let (j, n) = (any_instance(random), parties(random));
+    let (len, leaves_len) = (near(random, 16), near(random, 16 * n.min(32) as usize));
+    let (master, leaves) = (random.bytes(len), random.bytes(leaves_len));
+    let (answer, filled) = lend(random, &[&master], from_ref(&leaves), |inputs, mut out| {
+        seeds::expand(j, n, inputs[0], out[0])
+    });
+    let mut expected = leaves;
+    let plain = seeds::expand(j, n, &master, &mut expected);
+    assert_eq!(answer, plain.map_err(|refusal| refusal.number()));
+    assert_eq!(filled[0], expected);
+    answer
+}
+
+fn open(random: &mut Random) -> Result<(), u32> {
+    let (j, n) = (any_instance(random), parties(random));
+    let p = random.pick(&[0, 1, n - n.min(1), n, u32::MAX]);
+    let levels = n.max(1).ilog2() as usize;
+    let (len, siblings_len) = (near(random, 16), near(random, 16 * levels));
+    let (master, siblings) = (random.bytes(len), random.bytes(siblings_len));
+    let (answer, filled) = lend(
+        random,
+        &[&master],
+        from_ref(&siblings),
+        |inputs, mut out| seeds::open(j, n, p, inputs[0], out[0]),
+    );
+    let mut expected = siblings;
+    let plain = seeds::open(j, n, p, &master, &mut expected);
+    assert_eq!(answer, plain.map_err(|refusal| refusal.number()));
+    assert_eq!(filled[0], expected);
+    answer
+}
+
+fn challenge(random: &mut Random) -> Result<(), u32> {
+    let m = random.pick(&[2, 3, 20, 512, 512, 1, 513]);
+    let tau = random.pick(&[1, 1, m / 2, m - 1, m]);
+    let n = parties(random);
+    let (len, out_len) = (near(random, 32), near(random, 3 * tau as usize));
+    let message_len = random.pick(&[0, 1, 100, 4096, 4097]);
+    let (h_star, message) = (random.bytes(len), random.bytes(message_len));
+    let out = random.bytes(out_len);
+    let inputs = [&h_star[..], &message[..]];
+    let (answer, filled) = lend(random, &inputs, from_ref(&out), |inputs, mut out| {
+        seeds::challenge(m, tau, n, inputs[0], inputs[1], out[0])
+    });
+    let mut expected = out;
+    let plain = seeds::challenge(m, tau, n, &h_star, &message, &mut expected);
+    assert_eq!(answer, plain.map_err(|refusal| refusal.number()));
+    assert_eq!(filled[0], expected);
+    answer
+}
+
+#[test]
+fn hashes() {
+    let mut random = Random::new(0x6a5);
+    for _ in 0..BUDGET {
+        let lens = [(); 2].map(|()| {
+            let near_rate = random.pick(&[136, 168, 272, 336]) + random.below(3) - 1;
+            random.pick(&[0, 1, 7, 8, 9, near_rate, near_rate])
+        });
+        let (message, out) = (random.bytes(lens[0]), random.bytes(lens[1]));
+        let mut digest = [0; 32];
+        let outputs = [out.clone(), out.clone(), digest.to_vec()];
+        let (_, filled) = lend(&mut random, &[&message], &outputs, |inputs, mut out| {
+            wivulameno::shake128(inputs[0], out[0]);
+            wivulameno::shake256(inputs[0], out[1]);
+            let digest = (&mut *out[2]).try_into().expect("32 bytes");
+            wivulameno::sha3_256_into(inputs[0], digest);
+            Ok(())
+        });
+        let [mut first, mut second] = [out.clone(), out];
+        wivulameno::shake128(&message, &mut first);
+        wivulameno::shake256(&message, &mut second);
+        wivulameno::sha3_256_into(&message, &mut digest);
+        assert_eq!(filled, [first, second, digest.to_vec()]);
+    }
+}
+
+/// An empty buffer lies wholly on a page that may not be touched.
+#[test]
+fn empty_buffers_are_not_touched() {
+    let mut random = Random::new(0x6a6);
+    for _ in 0..20 {
+        let (answer, _) = lend(&mut random, &[&[], &[]], &[vec![]], |inputs, mut out| {
+            mpc::prepare(inputs[0], 2, inputs[1], out[0])
+        });
+        assert_eq!(answer, Err(1));
+        let (answer, _) = lend(&mut random, &[&[]], &[vec![]], |inputs, mut out| {
+            shelf::stock(out[0], inputs[0])
+        });
+        assert_eq!(answer, Err(14));
+    }
+}
+
+const CROSSING: &str = "WV_TEST_CROSSING";
+
+/// The net itself: each of these crossings ends a process of its own.
+#[test]
+fn a_crossing_is_a_crash() {
+    if let Ok(crossing) = env::var(CROSSING) {
+        cross(&crossing);
+        return;
+    }
+    for crossing in [
+        "none",
+        "read before",
+        "read behind",
+        "write",
+        "write behind",
+    ] {
+        let this = env::current_exe().expect("a path");
+        let ended = Command::new(this)
+            .args(["--exact", "a_crossing_is_a_crash"])
+            .env(CROSSING, crossing)
+            .output()
+            .expect("it runs");
+        let crash = (crossing != "none").then_some(11);
+        assert_eq!(ended.status.signal(), crash, "{crossing}");
+    }
+}
+
+fn cross(crossing: &str) {
+    let edge = match crossing {
+        "read before" => Edge::Start,
+        _ => Edge::End,
+    };
+    let mut buffer = Paged::holding(&[1, 2, 3], edge);
+    let start = buffer.lent().as_mut_ptr();
+    buffer.close();
+    // SAFETY: none, which is the point.
+    unsafe {
+        match crossing {
+            "none" => assert_eq!(start.read_volatile(), 1),
+            "read before" => drop(start.sub(1).read_volatile()),
+            "read behind" => drop(start.add(3).read_volatile()),
+            "write" => start.write_volatile(0),
+            _ => start.add(3).write_volatile(0),
+        }
+    }
+}

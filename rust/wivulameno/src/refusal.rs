@@ -1,0 +1,137 @@
+//! The refusals: a number and a sentence for each.
+
+use std::error::Error;
+use std::fmt;
+
+/// Why a call was refused. Every lent byte is as it was.
+#[derive(Clone, Copy, Debug, PartialEq, Eq, Hash)]
+#[non_exhaustive]
+pub enum Refusal {
+    CircuitLength = 1,
+    CircuitSizes = 2,
+    Gate = 3,
+    Chain = 4,
+    Wire = 5,
+    Length = 6,
+    UnusedBits = 7,
+    Counts = 8,
+    Party = 9,
+    Output = 10,
+    ProofHeader = 11,
+    ProofLength = 12,
+    ProofDigest = 13,
+    Unsound = 14,
+    AnotherCount = 15,
+    Empty = 16,
+    Full = 17,
+    Spent = 18,
+}
+
+impl Refusal {
+    /// All of them, by number from 1.
+    pub const ALL: [Refusal; 18] = [
+        Refusal::CircuitLength,
+        Refusal::CircuitSizes,
+        Refusal::Gate,
+        Refusal::Chain,
+        Refusal::Wire,
+        Refusal::Length,
+        Refusal::UnusedBits,
+        Refusal::Counts,
+        Refusal::Party,
+        Refusal::Output,
+        Refusal::ProofHeader,
+        Refusal::ProofLength,
+        Refusal::ProofDigest,
+        Refusal::Unsound,
+        Refusal::AnotherCount,
+        Refusal::Empty,
+        Refusal::Full,
+        Refusal::Spent,
+    ];
+
+    /// The number in the C interface.
+    pub fn number(self) -> u32 {
+        self as u32
+    }
+
+    /// The refusal that has this number.
+    pub fn from_number(number: u32) -> Option<Refusal> {
+        let place = usize::try_from(number).ok()?.checked_sub(1)?;
+        Refusal::ALL.get(place).copied()
+    }
+
+    /// The refusal that has this number, which must be one of the library's.
+    pub fn of(number: u32) -> Refusal {
+        let refusal = Refusal::from_number(number);
+        refusal.unwrap_or_else(|| panic!("no refusal has the number {number}"))
+    }
+
+    /// What is wrong, in a sentence without its full stop.
+    pub fn sentence(self) -> &'static str {
+        match self {
+            Refusal::CircuitLength => "the circuit's length is not what its header asks for",
+            Refusal::CircuitSizes => {
+                "the circuit has more inputs, outputs or gates than allowed, or no input or no output"
+            }
+            Refusal::Gate => "a gate record has an unknown kind or a field that should be zero",
+            Refusal::Chain => "the chain does not visit every gate exactly once and then end",
+            Refusal::Wire => {
+                "a gate reads a wire that is not written by then, or an output is no wire"
+            }
+            Refusal::Length => "an input or a buffer does not have the length that is asked for",
+            Refusal::UnusedBits => "a bit that must be zero is not",
+            Refusal::Counts => "the number of instances, of chosen ones or of parties is not allowed",
+            Refusal::Party => "there is no such party, or the cut is behind the last gate",
+            Refusal::Output => "the output is not the claimed one",
+            Refusal::ProofHeader => "the proof does not begin with a proof's header",
+            Refusal::ProofLength => "the proof's length is not what its challenge asks for",
+            Refusal::ProofDigest => "the proof does not fit its own digest",
+            Refusal::Unsound => "the shelf page is damaged",
+            Refusal::AnotherCount => {
+                "the shelf page is not the present one: its draws are not the log's count"
+            }
+            Refusal::Empty => "the shelf has no root ready",
+            Refusal::Full => "the shelf has no room for another root",
+            Refusal::Spent => "the shelf has counted as many draws as it can",
+        }
+    }
+}
+
+impl fmt::Display for Refusal {
+    fn fmt(&self, f: &mut fmt::Formatter) -> fmt::Result {
+        write!(f, "refused {}: {}", self.number(), self.sentence())
+    }
+}
+
+impl Error for Refusal {}
+
+#[cfg(test)]
+mod tests {
+    use super::*;
+    use std::collections::HashSet;
+
+    #[test]
+    fn numbers_go_both_ways() {
+        for (place, refusal) in Refusal::ALL.into_iter().enumerate() {
+            assert_eq!(refusal.number(), place as u32 + 1);
+            assert_eq!(Refusal::from_number(refusal.number()), Some(refusal));
+        }
+        assert_eq!(Refusal::from_number(0), None);
+        assert_eq!(Refusal::from_number(19), None);
+        assert_eq!(Refusal::from_number(u32::MAX), None);
+    }
+
+    #[test]
+    fn each_has_a_sentence_of_its_own() {
+        let sentences: HashSet<_> = Refusal::ALL.map(Refusal::sentence).into();
+        assert_eq!(sentences.len(), 18);
+        assert!(sentences.iter().all(|text| !text.ends_with('.')));
+    }
+
+    #[test]
+    fn number_and_sentence_are_shown() {
+        let shown = Refusal::Empty.to_string();
+        assert_eq!(shown, "refused 16: the shelf has no root ready");
+    }
+}

@@ -1,0 +1,108 @@
+//! Makes circuits that compare two numbers.
+
+const XOR: u8 = 1;
+const AND: u8 = 2;
+const INV: u8 = 3;
+
+/// A circuit whose witness is a number a and then a number b, of `width` bits
+/// each, lowest bit first. Output 0 is 1 if a is at least b. If `telling`, the
+/// bits of b follow as outputs, so that the claimed output says which b.
+pub fn at_least(width: u16, telling: bool) -> Vec<u8> {
+    let (gates, answer) = gates(width);
+    let mut outputs = vec![answer];
+    if telling {
+        outputs.extend(width..2 * width);
+    }
+    file(2 * width, &outputs, &gates)
+}
+
+/// The gates in order, each with its kind and two wires, and the answer's wire.
+///
+/// The borrow of a - b goes from bit to bit: where the bits differ it becomes
+/// that of b, else it stays. That is one AND for each bit:
+/// borrow ^ ((a ^ b) & (b ^ borrow)).
+fn gates(width: u16) -> (Vec<(u8, u16, u16)>, u16) {
+    let mut gates = vec![];
+    let mut gate = |kind, a, b| {
+        gates.push((kind, a, b));
+        2 * width + gates.len() as u16 - 1
+    };
+    let differ = gate(XOR, 0, width);
+    let mut borrow = gate(AND, differ, width);
+    for bit in 1..width {
+        let b = width + bit;
+        let differ = gate(XOR, bit, b);
+        let change = gate(XOR, b, borrow);
+        let change = gate(AND, differ, change);
+        borrow = gate(XOR, borrow, change);
+    }
+    let answer = gate(INV, borrow, 0);
+    (gates, answer)
+}
+
+/// The circuit file of gates that stand in chain order.
+fn file(inputs: u16, outputs: &[u16], gates: &[(u8, u16, u16)]) -> Vec<u8> {
+    let mut words = vec![inputs, outputs.len() as u16, gates.len() as u16, 1];
+    words.extend(outputs);
+    for (slot, (kind, a, b)) in gates.iter().enumerate() {
+        let next = (slot + 2) % (gates.len() + 1);
+        words.extend([u16::from(*kind), *a, *b, next as u16]);
+    }
+    words.iter().flat_map(|word| word.to_le_bytes()).collect()
+}
+
+/// The witness: the two numbers, packed.
+pub fn row(width: u16, a: u64, b: u64) -> Vec<u8> {
+    let both = u128::from(a) | u128::from(b) << width;
+    let len = usize::from(2 * width).div_ceil(8);
+    both.to_le_bytes()[..len].to_vec()
+}
+
+/// The output in which a is at least b, and b is told.
+pub fn covered(width: u16, b: u64) -> Vec<u8> {
+    let bits = 1 | u128::from(b) << 1;
+    let len = usize::from(width + 1).div_ceil(8);
+    bits.to_le_bytes()[..len].to_vec()
+}
+
+#[cfg(test)]
+mod tests {
+    use super::*;
+
+    #[test]
+    fn the_examples_are_these() {
+        let examples: [(u16, &[u8], &[u8]); 2] = [
+            (
+                16,
+                include_bytes!("../../../examples/stock16.circuit"),
+                include_bytes!("../../../examples/stock16.row"),
+            ),
+            (
+                32,
+                include_bytes!("../../../examples/stock32.circuit"),
+                include_bytes!("../../../examples/stock32.row"),
+            ),
+        ];
+        let rows = [row(16, 1000, 250), row(32, 3_000_000_000, 2_999_999_999)];
+        for ((width, circuit, example), row) in examples.into_iter().zip(rows) {
+            assert_eq!(at_least(width, false), circuit);
+            assert_eq!(row, example);
+        }
+    }
+
+    #[test]
+    fn all_pairs_of_three_bits() {
+        let circuit = at_least(3, true);
+        assert_eq!(wivulameno::circuit::read(&circuit), Ok([6, 4, 11, 3]));
+        for a in 0..8 {
+            for b in 0..8 {
+                let mut y = [0];
+                let answer = wivulameno::circuit::evaluate(&circuit, &row(3, a, b), &mut y);
+                assert_eq!(answer, Ok(()));
+                let expected = u8::from(a >= b) | (b as u8) << 1;
+                assert_eq!(y, [expected], "{a} and {b}");
+                assert_eq!(a >= b, y.to_vec() == covered(3, b));
+            }
+        }
+    }
+}

@@ -1,0 +1,187 @@
+//! The main job on an example, from the new shelf to the refused old page:
+//! `depot FOLDER` makes its files in that folder, which is emptied first.
+
+use std::error::Error;
+use std::fs;
+use std::path::{Path, PathBuf};
+use std::process::ExitCode;
+use wivulameno::store::Trouble;
+use wivulameno::{circuit, Shelf};
+use wv::at_least::{at_least, covered, row};
+use wv::fresh;
+
+type Done<T = ()> = Result<T, Box<dyn Error>>;
+
+/// The numbers of the example have this many bits.
+const WIDTH: u16 = 16;
+const STOCK: u64 = 1000;
+const ORDER: u64 = 250;
+const SLOTS: u16 = 8;
+const ROOTS: usize = 4;
+
+fn main() -> ExitCode {
+    let Some(folder) = std::env::args_os().nth(1) else {
+        eprintln!("usage: depot FOLDER");
+        return ExitCode::from(2);
+    };
+    match play(Path::new(&folder)) {
+        Ok(()) => ExitCode::SUCCESS,
+        Err(error) => {
+            eprintln!("depot: {error}");
+            ExitCode::FAILURE
+        }
+    }
+}
+
+fn play(folder: &Path) -> Done {
+    if folder.exists() {
+        fs::remove_dir_all(folder)?;
+    }
+    fs::create_dir_all(folder)?;
+    let files = [folder.join("shelf.page"), folder.join("shelf.log")];
+    let statement = example(folder)?;
+    let mut shelf = stocked(&files)?;
+    let before = fs::read(&files[0])?;
+    let root = drawn(&mut shelf)?;
+    drop(shelf);
+    proof::prove_and_check(folder, &statement, &root)?;
+    incident(&files, &before)
+}
+
+/// The circuit, the row that fulfils it, and the output that says so.
+struct Example {
+    circuit: Vec<u8>,
+    witness: Vec<u8>,
+    y: Vec<u8>,
+}
+
+fn example(folder: &Path) -> Done<Example> {
+    println!("The statement: the stock on hand covers an order of {ORDER}.");
+    let circuit = at_least(WIDTH, true);
+    let path = folder.join("covers16.circuit");
+    fs::write(&path, &circuit)?;
+    let [inputs, outputs, gates, ands] = circuit::read(&circuit)?;
+    println!(
+        "  {}: {} bytes, I {inputs}, O {outputs}, G {gates}, of them {ands} AND",
+        path.display(),
+        circuit.len()
+    );
+    let witness = row(WIDTH, STOCK, ORDER);
+    let mut y = vec![0; outputs.div_ceil(8) as usize];
+    circuit::evaluate(&circuit, &witness, &mut y)?;
+    assert_eq!(y, covered(WIDTH, ORDER));
+    println!("  the row has {STOCK} on hand, which stays in the depot");
+    println!("  the output tells that the order is covered, and the order\n");
+    Ok(Example {
+        circuit,
+        witness,
+        y,
+    })
+}
+
+fn stocked([page, log]: &[PathBuf; 2]) -> Done<Shelf> {
+    println!(
+        "A shelf of {SLOTS} slots, with {ROOTS} roots from the operating system's random source."
+    );
+    let mut shelf = Shelf::create(page, log, SLOTS)?;
+    for _ in 0..ROOTS {
+        shelf.stock(&fresh::root().map_err(|failure| failure.to_string())?)?;
+    }
+    println!("  {}: {} bytes", page.display(), fs::metadata(page)?.len());
+    tell(&mut shelf)?;
+    Ok(shelf)
+}
+
+fn tell(shelf: &mut Shelf) -> Done {
+    let status = shelf.status()?;
+    let (ready, draws, count) = (status.ready, status.draws, status.count);
+    println!("  {ready} roots ready, the page has seen {draws} draws, the log counts {count}\n");
+    Ok(())
+}
+
+fn drawn(shelf: &mut Shelf) -> Done<[u8; 16]> {
+    println!("One root is drawn. The log counts it before it is used.");
+    let root = shelf.draw()?;
+    tell(shelf)?;
+    Ok(root)
+}
+
+/// The cache keeps the page from before the draw, and puts it back.
+fn incident([page, log]: &[PathBuf; 2], before: &[u8]) -> Done {
+    println!("The incident: the page from before the draw is put back.");
+    fs::write(page, before)?;
+    let mut shelf = Shelf::open(page, log)?;
+    let status = shelf.status()?;
+    let (ready, draws, count) = (status.ready, status.draws, status.count);
+    println!("  {ready} roots ready, the page has seen {draws} draws, the log counts {count}");
+    match shelf.draw() {
+        Err(Trouble::Refused(refusal)) if refusal.number() == 15 => {
+            println!("  a draw: {refusal}");
+            Ok(())
+        }
+        Err(trouble) => Err(trouble.into()),
+        Ok(_) => Err("a root went out twice".into()),
+    }
+}
+
+mod proof {
+    use super::{Done, Example};
+    use std::fs;
+    use std::path::Path;
+    use std::time::Instant;
+    use wivulameno::proof::{check, prove, Counts, Statement};
+    use wv::cost::{Sizes, USUAL};
+
+    const MESSAGE: &[u8] = b"order 4711 of 15 November";
+
+    pub fn prove_and_check(folder: &Path, example: &Example, root: &[u8; 16]) -> Done {
+        let statement = Statement {
+            circuit: &example.circuit,
+            y: &example.y,
+            message: MESSAGE,
+        };
+        let wv::cost::Counts { m, tau, n } = USUAL;
+        println!("The proof, with M {m}, tau {tau}, n {n}.");
+        let mut proof = vec![0; USUAL.longest(sizes(&example.circuit)?)];
+        let start = Instant::now();
+        let counts = Counts { m, tau, n };
+        let len = prove(statement, &example.witness, root, counts, &mut proof)?;
+        println!("  made in {}", milliseconds(start));
+        proof.truncate(len);
+        let path = folder.join("order.proof");
+        fs::write(&path, &proof)?;
+        println!("  {}: {len} bytes", path.display());
+        println!("  soundness {} bits\n", USUAL.bits_shown());
+        check_as_buyer(statement, &fs::read(path)?)
+    }
+
+    fn check_as_buyer(statement: Statement, proof: &[u8]) -> Done {
+        println!("The buyer's end has the circuit, the output, the message and the proof.");
+        let start = Instant::now();
+        check(statement, proof)?;
+        println!("  accepted in {}", milliseconds(start));
+        let message = b"order 4712 of 15 November";
+        let other = Statement {
+            message,
+            ..statement
+        };
+        match check(other, proof) {
+            Err(refusal) => println!("  for another message: {refusal}\n"),
+            Ok(()) => return Err("accepted for another message".into()),
+        }
+        Ok(())
+    }
+
+    fn sizes(circuit: &[u8]) -> Done<Sizes> {
+        let [inputs, outputs, _, ands] = wivulameno::circuit::read(circuit)?;
+        Ok(Sizes {
+            inputs: inputs as usize,
+            outputs: outputs as usize,
+            ands: ands as usize,
+        })
+    }
+
+    fn milliseconds(start: Instant) -> String {
+        format!("{:.2} ms", start.elapsed().as_secs_f64() * 1e3)
+    }
+}

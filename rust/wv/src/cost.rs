@@ -1,0 +1,250 @@
+//! What a proof costs: its size, its soundness, and times as they were measured.
+
+use crate::soundness;
+
+/// I, O and A of a circuit.
+#[derive(Clone, Copy, Debug, PartialEq, Eq)]
+pub struct Sizes {
+    pub inputs: usize,
+    pub outputs: usize,
+    pub ands: usize,
+}
+
+/// M instances, τ of them chosen, n parties.
+#[derive(Clone, Copy, Debug, PartialEq, Eq)]
+pub struct Counts {
+    pub m: u32,
+    pub tau: u32,
+    pub n: u32,
+}
+
+const fn counts(m: u32, tau: u32, n: u32) -> Counts {
+    Counts { m, tau, n }
+}
+
+/// Counts of one kind, by rising n.
+pub struct Family {
+    pub name: &'static str,
+    pub goal: f64,
+    pub members: &'static [Counts],
+}
+
+/// Shortest is for a comparison of 16 bits, the circuit `covers16`.
+pub const FAMILIES: [Family; 3] = [
+    Family {
+        name: "40 bits, shortest",
+        goal: 40.0,
+        members: &[
+            counts(69, 44, 2),
+            counts(51, 26, 4),
+            counts(47, 20, 8),
+            counts(47, 17, 16),
+        ],
+    },
+    Family {
+        name: "128 bits, shortest",
+        goal: 128.0,
+        members: &[
+            counts(220, 141, 2),
+            counts(163, 80, 4),
+            counts(145, 66, 8),
+            counts(142, 56, 16),
+        ],
+    },
+    Family {
+        name: "128 bits, the paper's table 1",
+        goal: 128.0,
+        members: &[counts(218, 65, 4), counts(252, 44, 8), counts(352, 33, 16)],
+    },
+];
+
+/// What `wv prove` takes when nothing else is said.
+pub const USUAL: Counts = counts(145, 66, 8);
+
+impl Counts {
+    /// Soundness in bits.
+    pub fn bits(self) -> f64 {
+        soundness::bits(self.m, self.tau, self.n)
+    }
+
+    /// The bits with one digit after the point, rounded down.
+    pub fn bits_shown(self) -> String {
+        format!("{:.1}", (self.bits() * 10.0).floor() / 10.0)
+    }
+
+    /// The most bytes that a proof can have.
+    pub fn longest(self, sizes: Sizes) -> usize {
+        let Sizes {
+            inputs,
+            outputs,
+            ands,
+        } = sizes;
+        let oct = |bits: usize| bits.div_ceil(8);
+        let siblings = 16 * self.n.ilog2() as usize;
+        let chosen = siblings + oct(ands) + 32 + oct(inputs) + oct(ands + outputs);
+        38 + 48 * (self.m - self.tau) as usize + self.tau as usize * chosen
+    }
+}
+
+/// A measured proof; times in milliseconds.
+#[derive(Clone, Debug, PartialEq)]
+pub struct Measured {
+    pub circuit: String,
+    pub counts: Counts,
+    pub bytes: usize,
+    pub prove: f64,
+    pub check: f64,
+}
+
+/// The head of a data file; `machine` says where it was measured.
+pub fn data_head(machine: &str) -> String {
+    format!("# Measured on {machine}\n# circuit M tau n bytes prove_ms check_ms\n")
+}
+
+impl Measured {
+    /// A line of a data file.
+    pub fn line(&self) -> String {
+        let Counts { m, tau, n } = self.counts;
+        let Measured {
+            circuit,
+            bytes,
+            prove,
+            check,
+            ..
+        } = self;
+        format!("{circuit} {m} {tau} {n} {bytes} {prove:.3} {check:.3}\n")
+    }
+
+    fn read(line: &str) -> Option<Measured> {
+        let words: Vec<&str> = line.split_whitespace().collect();
+        let [circuit, m, tau, n, bytes, prove, check] = words[..] else {
+            return None;
+        };
+        Some(Measured {
+            circuit: circuit.into(),
+            counts: counts(m.parse().ok()?, tau.parse().ok()?, n.parse().ok()?),
+            bytes: bytes.parse().ok()?,
+            prove: prove.parse().ok()?,
+            check: check.parse().ok()?,
+        })
+    }
+}
+
+/// The lines of a data file, without its comments; `Err` is a line that is none.
+pub fn read_data(text: &str) -> Result<Vec<Measured>, String> {
+    let lines = text.lines();
+    let lines = lines.filter(|line| !line.starts_with('#') && !line.is_empty());
+    lines
+        .map(|line| Measured::read(line).ok_or(line.to_string()))
+        .collect()
+}
+
+/// The table of all families for these circuits, in Markdown. A time that was
+/// not measured is a dash.
+pub fn table(circuits: &[(&str, Sizes)], data: &[Measured]) -> String {
+    let mut text = "| soundness in bits | M | τ | n |".to_string();
+    for (name, _) in circuits {
+        text += &format!(" `{name}`: bytes | prove, ms | check, ms |");
+    }
+    text += "\n|---|---|---|---|";
+    text += &"---|---|---|".repeat(circuits.len());
+    for counts in FAMILIES.iter().flat_map(|family| family.members) {
+        let Counts { m, tau, n } = counts;
+        text += &format!("\n| {} | {m} | {tau} | {n} |", counts.bits_shown());
+        for (name, sizes) in circuits {
+            text += &cells(name, *counts, *sizes, data);
+        }
+    }
+    text + "\n"
+}
+
+fn cells(name: &str, counts: Counts, sizes: Sizes, data: &[Measured]) -> String {
+    let is_it = |row: &&Measured| row.circuit == name && row.counts == counts;
+    let found = data.iter().find(is_it);
+    let time = |time: Option<f64>| time.map_or("–".into(), |time| format!("{time:.1}"));
+    format!(
+        " {} | {} | {} |",
+        counts.longest(sizes),
+        time(found.map(|row| row.prove)),
+        time(found.map(|row| row.check))
+    )
+}
+
+#[cfg(test)]
+mod tests {
+    use super::*;
+
+    const COVERS: Sizes = Sizes {
+        inputs: 32,
+        outputs: 17,
+        ands: 16,
+    };
+
+    /// m10 of the paper: circuit K, M = 4, τ = 1, n = 2 has 233 bytes.
+    #[test]
+    fn the_longest_proof_of_a_marked_case() {
+        let sizes = Sizes {
+            inputs: 2,
+            outputs: 1,
+            ands: 1,
+        };
+        assert_eq!(counts(4, 1, 2).longest(sizes), 233);
+    }
+
+    #[test]
+    fn families_reach_their_goals() {
+        for family in &FAMILIES {
+            for member in family.members {
+                assert!(member.bits() >= family.goal, "{member:?}");
+                assert!(member.bits() < family.goal + 1.0, "{member:?}");
+            }
+        }
+        assert!(USUAL.bits() >= 128.0);
+    }
+
+    /// No other M and τ of the same n reach the goal with a shorter proof.
+    #[test]
+    fn shortest_is_shortest() {
+        for family in &FAMILIES[..2] {
+            for member in family.members {
+                let shortest = (1..=150).filter_map(|tau| {
+                    let m = soundness::least_m(family.goal, tau, member.n, 230)?;
+                    Some(counts(m, tau, member.n).longest(COVERS))
+                });
+                assert_eq!(shortest.min(), Some(member.longest(COVERS)), "{member:?}");
+            }
+        }
+    }
+
+    #[test]
+    fn data_is_read_as_written() {
+        let row = Measured {
+            circuit: "covers16".into(),
+            counts: USUAL,
+            bytes: 9000,
+            prove: 1.5,
+            check: 1.25,
+        };
+        let text = data_head("a test") + &row.line() + &row.line();
+        assert_eq!(read_data(&text), Ok(vec![row.clone(), row]));
+        assert_eq!(read_data("covers16 1 2"), Err("covers16 1 2".into()));
+    }
+
+    #[test]
+    fn a_table_has_a_line_for_each() {
+        let row = Measured {
+            circuit: "covers16".into(),
+            counts: USUAL,
+            bytes: 9000,
+            prove: 1.26,
+            check: 1.0,
+        };
+        let table = table(&[("covers16", COVERS)], &[row]);
+        assert_eq!(table.lines().count(), 2 + 11);
+        assert!(
+            table.contains("| 145 | 66 | 8 | 9836 | 1.3 | 1.0 |"),
+            "{table}"
+        );
+        assert!(table.contains("| 69 | 44 | 2 | 3834 | – | – |"), "{table}");
+    }
+}
