@@ -1,4 +1,6 @@
 pub mod Fill
 pub mod Loading
 pub mod Eights
+pub mod Spreads
+pub mod Groups
 pub mod Turns

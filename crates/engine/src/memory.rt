@@ -1,6 +1,9 @@
 // Bringing tapes, rows and witness into the work memory, and packing rows out of it.
 ghost use mathlib.Core.Path.{_≡_};
-ghost use Prim.Native.Nat.{_+_, _*_, _≤_, _<_};
+ghost use mathlib.Core.Bool.{_&&_};
+ghost use mathlib.Core.List.{List};
+ghost use Prim.Native.Nat.{ℕ, _+_, _*_, _/_, _%_, _≤_, _<_};
+ghost use lib.Dec.{ltb};
 ghost use lib.ListN.{length, replicate};
 ghost use Rattle.bits.specs.Bits.{odd, bitVal, testBit, fromBits, bitAt};
 ghost use Rattle.engine.specs.Memory.{at, fill, unpacked, packed, packedByte, loadedRow, loadedTapes, maskByte, maskedInputs, packedRows};
@@ -58,6 +61,97 @@ pub fn load_row(row: &[u8], wires: usize, inputs: usize, ands: usize, i: usize, 
     unpack(row, inputs + ands, ands, memory, 48 * wires + i);
 }
 
+// Four windows of 8 bits, 16 places apart: the bits from bit r of byte j on, and of every step-th byte after it.
+fn windows4(s: &[u8], step: usize, j: usize, r: usize) -> u64
+    requires { ⌜ (r < 8) × (j + 3 * step + 2 ≤ length (now s)) ⌝ }
+    ensures { λ x. ⌜ x ≡ fromBits 64 (λ b. ltb (b % 16) 8 && bitAt (now (s .entry)) (8 * (j + b / 16 * step) + (r + b % 16))) ⌝ }
+{
+    let x = (bits::read_u16(s, j) as u64)
+        + (bits::read_u16(s, j + step) as u64) * 65536
+        + (bits::read_u16(s, j + 2 * step) as u64) * 4294967296
+        + (bits::read_u16(s, j + 3 * step) as u64) * 281474976710656;
+    (x >> (r as u64)) & 0x00FF00FF00FF00FF
+}
+
+// Eight windows of 8 bits, one after the other: the bits from bit r of byte j on, and of every len-th byte after it.
+fn windows8(s: &[u8], len: usize, j: usize, r: usize) -> u64
+    requires { ⌜ (r < 8) × (j + 7 * len + 2 ≤ length (now s)) ⌝ }
+    ensures { λ x. ⌜ x ≡ fromBits 64 (λ b. bitAt (now (s .entry)) (8 * (j + b / 8 * len) + (r + b % 8))) ⌝ }
+{
+    let step = 2 * len;
+    let evens = windows4(s, step, j, r);
+    let odds = windows4(s, step, j + len, r);
+    evens | (odds << 8)
+}
+
+// Spreads the 8 bytes of x: bit z of each goes to the 8 bytes of the memory from to + 16 z on.
+fn spread8(x: u64, memory: &mut [u8], to: usize)
+    requires { ⌜ to + 120 ≤ length (now memory) ⌝ }
+    ensures { λ _. ⌜ now (memory .exit) ≡ fill (λ k. to + 16 * (k / 8) + k % 8) (λ k. bitVal (testBit x (8 * (k % 8) + k / 8))) 64 (now (memory .entry)) ⌝ }
+{
+    let mut z = 0;
+    while z < 8 {
+        bits::write_u64(memory, to + 16 * z, (x >> (z as u64)) & 0x0101010101010101);
+        z += 1;
+    }
+}
+
+// Bit r of byte j of s, as 0 or 1.
+fn bit_of(s: &[u8], j: usize, r: usize) -> u8
+    requires { ⌜ (r < 8) × (j < length (now s)) ⌝ }
+    ensures { λ b. ⌜ b ≡ bitVal (bitAt (now (s .entry)) (8 * j + r)) ⌝ }
+{
+    (s[j] >> (r as u8)) % 2
+}
+
+// Unpacks count bits of each of 8 rows of len bytes, of which the first starts at byte a of s: bit `from` of each to the
+// 8 bytes of the memory from `to` on, and the next bits to every 16th byte after them.
+fn unpack_eight(
+    s: &[u8],
+    len: usize,
+    a: usize,
+    from: usize,
+    count: usize,
+    memory: &mut [u8],
+    to: usize,
+)
+    requires { ⌜ (a + 8 * len ≤ length (now s)) × ((from + count ≤ 8 * len) × ((from + count < 65536) × ((to < 4294967296) × (to + 16 * count ≤ length (now memory) + 8)))) ⌝ }
+    ensures { λ _. ⌜ now (memory .exit) ≡ fill (λ k. to + 16 * (k / 8) + k % 8) (λ k. bitVal (bitAt (now (s .entry)) (8 * (a + k % 8 * len) + (from + k / 8)))) (8 * count) (now (memory .entry)) ⌝ }
+{
+    let mut t = 0;
+    while t + 8 < count {
+        let k = from + t;
+        let x = windows8(s, len, a + k / 8, k % 8);
+        spread8(x, memory, to + 16 * t);
+        t += 8;
+    }
+    let mut u = 8 * t;
+    while u < 8 * count {
+        let k = from + u / 8;
+        memory[to + 16 * (u / 8) + u % 8] = bit_of(s, a + (u % 8) * len + k / 8, k % 8);
+        u += 1;
+    }
+}
+
+// Brings the tape rows of 8 parties, from party i on, into the memory.
+fn load_eight(
+    tapes: &[u8],
+    len: usize,
+    i: usize,
+    wires: usize,
+    inputs: usize,
+    ands: usize,
+    memory: &mut [u8],
+)
+    requires { ⌜ Room wires (i + 8) (now memory) × ((inputs ≤ wires) × ((ands ≤ wires) × ((inputs + 2 * ands ≤ 8 * len) × (i * len + 8 * len ≤ length (now tapes))))) ⌝ }
+    ensures { λ _. ⌜ ((w : List ℕ) → now (memory .entry) ≡ loadedTapes wires inputs ands len (now (tapes .entry)) i w → now (memory .exit) ≡ loadedTapes wires inputs ands len (now (tapes .entry)) (i + 8) w) ⌝ }
+{
+    let a = i * len;
+    unpack_eight(tapes, len, a, 0, inputs, memory, i);
+    unpack_eight(tapes, len, a, inputs, ands, memory, 32 * wires + i);
+    unpack_eight(tapes, len, a, inputs + ands, ands, memory, 48 * wires + i);
+}
+
 // Brings the tape rows of n parties, of len bytes each, into the memory.
 pub fn load_tapes(
     tapes: &[u8],
@@ -72,6 +166,10 @@ pub fn load_tapes(
     ensures { λ _. ⌜ now (memory .exit) ≡ loadedTapes wires inputs ands len (now (tapes .entry)) n (now (memory .entry)) ⌝ }
 {
     let mut i = 0;
+    while i + 8 <= n {
+        load_eight(tapes, len, i, wires, inputs, ands, memory);
+        i += 8;
+    }
     while i < n {
         let row = bits::row(tapes, len, i);
         load_row(row, wires, inputs, ands, i, memory);
