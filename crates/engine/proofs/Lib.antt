@@ -4,3 +4,4 @@ pub mod Eights
 pub mod Spreads
 pub mod Groups
 pub mod Turns
+pub mod Words

@@ -3,13 +3,13 @@
 use mathlib.Core.Path.{_≡_, refl, sym, ap, ap₂, _∙_}
 use mathlib.Core.Bool.{Bool, true, false, cond}
 use mathlib.Core.List.{List}
-use Prim.Native.Nat.{ℕ, zero, suc, _+_, _-_, _*_, _≤_, _<_}
+use Prim.Native.Nat.{ℕ, zero, suc, _+_, _-_, _*_, _%_, _≤_, _<_}
 use native.Mathlib.Omega.{arith}
 use native.Mathlib.Numerals.{add-one}
 use lib.Dec.{eqb}
 use lib.ListN.{length, getD, set}
 use lib.Bits.{bitXor, bitAnd}
-use Rattle.engine.specs.Memory.{shareAt, valueAt, maskAt, saidAt, at, fill}
+use Rattle.engine.specs.Memory.{shareAt, valueAt, saidAt, at, fill}
 use Rattle.circuit.specs.File.{inputsOf, outputWire, nextOf}
 use Rattle.circuit.specs.Records.{gateOf, recordOf, andOne}
 use Rattle.circuit.specs.declared.Gate.{Gate}
@@ -19,15 +19,9 @@ use Rattle.engine.specs.Fits.{Room, Fit}
 use Rattle.engine.specs.Steps.{correctStep, broadcastStep, maskedProduct, takeStep, andStep, gateStep, walked, broadcastByte, outputByte, outputStep, unmasked, spoken, outputValues}
 use Rattle.engine.proofs.Fill.{fill-none, fill-turn, fill-read}
 
--- what the loops of XOR, of INV and of an AND gate's output store for party i
+-- what XOR stores for party i
 abbrev pub xorShare : List ℕ → ℕ → ℕ → ℕ → ℕ
 xorShare m a b i = bitXor (at m (shareAt a i)) (at m (shareAt b i))
-
-abbrev pub ownShare : List ℕ → ℕ → ℕ → ℕ
-ownShare m a i = at m (shareAt a i)
-
-abbrev pub maskShare : List ℕ → ℕ → ℕ → ℕ → ℕ
-maskShare m W t i = at m (maskAt W t i)
 
 -- the loop has filled the shares of i parties of wire c, with f: the memory was w, and is m
 module _ (f : ℕ → ℕ) (w m : List ℕ) (c n i : ℕ) (e : m ≡ fill (shareAt c) f i w) (h : i < n) (few : n ≤ 16) where
@@ -44,17 +38,12 @@ xor-turn w m a b c n i e h few =
     share-turn f w m c n i e h few (bitXor (getD m (16 * a + i) 0) (getD m (16 * b + i) 0))
     (ap₂ bitXor (share-same f w m c n i e h few a) (share-same f w m c n i e h few b))
 
-pub own-turn : (w m : List ℕ) (a c n i : ℕ) → m ≡ fill (shareAt c) (ownShare w a) i w → i < n → n ≤ 16
-    → set m (16 * c + i) (getD m (16 * a + i) 0) ≡ fill (shareAt c) (ownShare w a) (i + 1) w
-own-turn w m a c n i e h few =
-    share-turn (ownShare w a) w m c n i e h few (getD m (16 * a + i) 0) (share-same (ownShare w a) w m c n i e h few a)
-
--- the output masks lie above the shares
-pub mask-turn : (w m : List ℕ) (W c t n i : ℕ) → m ≡ fill (shareAt c) (maskShare w W t) i w → i < n → n ≤ 16 → c < W
-    → set m (16 * c + i) (getD m (32 * W + 16 * t + i) 0) ≡ fill (shareAt c) (maskShare w W t) (i + 1) w
-mask-turn w m W c t n i e h few l =
-    share-turn (maskShare w W t) w m c n i e h few (getD m (32 * W + 16 * t + i) 0)
-    (fill-read (shareAt c) (maskShare w W t) w m i (32 * W + 16 * t + i) e (λ u k q. omega arith))
+-- rows lie at multiples of 16
+pub copy-turn : (w m : List ℕ) (a c n i : ℕ) → m ≡ fill (shareAt c) (λ k. at w (a + k)) i w → i < n → n ≤ 16 → a % 16 ≡ 0
+    → set m (16 * c + i) (getD m (a + i) 0) ≡ fill (shareAt c) (λ k. at w (a + k)) (i + 1) w
+copy-turn w m a c n i e h few l =
+    let f : ℕ → ℕ = λ k. at w (a + k) in
+    share-turn f w m c n i e h few (getD m (a + i) 0) (fill-read (shareAt c) f w m i (a + i) e (λ u k q. omega arith))
 
 -- the loop has filled i parties' broadcasts t, with f: the memory was w, and is m
 module _ (f : ℕ → ℕ) (w m : List ℕ) (W t n i : ℕ) (e : m ≡ fill (saidAt W t) f i w) (h : i < n) (few : n ≤ 16) where

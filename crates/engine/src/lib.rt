@@ -2,3 +2,4 @@
 pub mod chain;
 pub mod gates;
 pub mod memory;
+mod rows;

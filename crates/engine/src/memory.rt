@@ -8,6 +8,8 @@ ghost use lib.ListN.{length, replicate};
 ghost use Rattle.bits.specs.Bits.{odd, bitVal, testBit, fromBits, bitAt};
 ghost use Rattle.engine.specs.Memory.{at, fill, unpacked, packed, packedByte, loadedRow, loadedTapes, maskByte, maskedInputs, packedRows};
 ghost use Rattle.engine.specs.Fits.{Room};
+use crate::rows::sum8;
+use crate::rows::sum16;
 
 // The 8 bits of s from bit k on; at least one bit follows them.
 fn window(s: &[u8], k: usize) -> u8
@@ -182,6 +184,12 @@ pub(crate) fn mask(memory: &[u8], n: usize, w: usize) -> u8
     requires { ⌜ (n ≤ 16) × ((w < 65536) × (16 * w + 16 ≤ length (now memory))) ⌝ }
     ensures { λ r. ⌜ r ≡ maskByte n (now (memory .entry)) w ⌝ }
 {
+    if n == 16 {
+        return sum16(memory, 16 * w);
+    }
+    if n == 8 {
+        return sum8(memory, 16 * w);
+    }
     let mut sum: u8 = 0;
     let mut i = 0;
     while i < n {

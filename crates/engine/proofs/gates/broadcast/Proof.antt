@@ -4,23 +4,51 @@ use native.Mathlib.Omega.{arith}
 use mathlib.Core.Path.{_≡_, refl, _∙_, ap₂}
 use Prim.Native.Nat.{_-_, _≤_}
 use lib.ListN.{length, length-set}
-use Rattle.engine.proofs.gates.broadcast.Statement.{statement}
-use Rattle.engine.proofs.gates.broadcast.Tie as tie
 use lib.Bits.{bitAnd}
 use Rattle.engine.specs.Memory.{valueAt, saidAt, at, fill, xorBytes}
 use Rattle.engine.specs.Steps.{broadcastByte, broadcastStep, maskedProduct}
 use Rattle.engine.proofs.Fill.{fill-none, fill-turn, xorBytes-none, xorBytes-turn}
 use Rattle.engine.proofs.Turns.{broadcast-turn}
+use Rattle.engine.proofs.gates.broadcast.Statement.{statement}
+use Rattle.engine.proofs.gates.broadcast.Tie as tie
 
 abbrev Inv-loop : tie.InvT-loop
-Inv-loop memory₀ wires n p a b t x y sum₀ i₀ memory sum i =
+Inv-loop memory₀ wires n p a b t last x y sum₀ i₀ memory sum i =
     (i ≤ n)
     × ((length memory ≡ length memory₀)
     × ((memory ≡ fill (saidAt wires t) (broadcastByte wires p a b t memory₀) i memory₀)
     × (sum ≡ xorBytes (broadcastByte wires p a b t memory₀) (bitAnd (at memory₀ (valueAt wires a)) (at memory₀ (valueAt wires b))) i)))
 
 abbrev μ-loop : tie.MeasureT-loop
-μ-loop memory₀ wires n p a b t x y sum₀ i₀ memory sum i = n - i
+μ-loop memory₀ wires n p a b t last x y sum₀ i₀ memory sum i = n - i
+
+broadcast16-requires : tie.Need-broadcast16-requires Inv-loop μ-loop
+broadcast16-requires c κs =
+    let start = c .before .before .before in
+    let e : start .args .n ≡ 16 = omega arith in
+    (rw e at (start .pre .0), start .pre .1 .0 e)
+
+same-length : tie.Need-same-length Inv-loop μ-loop
+same-length c = c .before .before .broadcast16 .kept .0
+
+returns : tie.Need-returns Inv-loop μ-loop
+returns c =
+    let e : c .before .before .before .before .before .before .args .n ≡ 16 = omega arith in
+    rw e (c .before .before .broadcast16 .ensures)
+
+broadcast8-requires : tie.Need-broadcast8-requires Inv-loop μ-loop
+broadcast8-requires c κs =
+    let start = c .before .before .before .before in
+    let e : start .args .n ≡ 8 = omega arith in
+    (rw e at (start .pre .0), start .pre .1 .1 e)
+
+same-length-2 : tie.Need-same-length-2 Inv-loop μ-loop
+same-length-2 c = c .before .before .broadcast8 .kept .0
+
+returns-2 : tie.Need-returns-2 Inv-loop μ-loop
+returns-2 c =
+    let e : c .before .before .before .before .before .before .before .args .n ≡ 8 = omega arith in
+    rw e (c .before .before .broadcast8 .ensures)
 
 masked-requires : tie.Need-masked-requires Inv-loop μ-loop
 masked-requires c κs = omega arith
@@ -30,7 +58,7 @@ masked-requires-2 c κs = omega arith
 
 loop-holds : tie.Need-loop-holds Inv-loop μ-loop
 loop-holds c =
-    let x = c .before .before .before .before .before .args in
+    let x = c .before .before .before .before .before .before .before .args in
     let f = broadcastByte (x .wires) (x .p) (x .a) (x .b) (x .t) (x .memory .now) in (
       omega arith,
       (
@@ -118,7 +146,7 @@ loop-again : tie.Need-loop-again Inv-loop μ-loop
 loop-again c =
     let l = c .before .before .before .before .before .before .loop in
     let d = c .before .before .before .before .before .before .before in
-    let x = d .before .before .before .before .before .args in
+    let x = d .before .before .before .before .before .before .before .args in
     let m = x .memory .now in
     let f = broadcastByte (x .wires) (x .p) (x .a) (x .b) (x .t) m in
     let v = broadcast-turn m (l .memory) (x .wires) (x .n) (x .p) (x .a) (x .b) (x .t) (l .i) _ _ (c .unless-hidden .result)
@@ -141,14 +169,14 @@ loop-again c =
       ),
     )
 
-same-length : tie.Need-same-length Inv-loop μ-loop
-same-length c = c .before .loop .inv .1 .0
+same-length-3 : tie.Need-same-length-3 Inv-loop μ-loop
+same-length-3 c = c .before .loop .inv .1 .0
 
-returns : tie.Need-returns Inv-loop μ-loop
+returns-3 : tie.Need-returns-3 Inv-loop μ-loop
 unfolding broadcastStep maskedProduct
-returns c =
+returns-3 c =
     let l = c .before .loop in
-    let e : l .i ≡ c .before .before .before .before .before .before .before .args .n = omega arith in
+    let e : l .i ≡ c .before .before .before .before .before .before .before .before .before .args .n = omega arith in
     rw (← e) (l .inv .1 .1)
 
 pub broadcast-spec : {M : Type 1} → statement M
@@ -157,6 +185,12 @@ broadcast-spec =
     (tie.spec
     Inv-loop
     μ-loop
+    broadcast16-requires
+    same-length
+    returns
+    broadcast8-requires
+    same-length-2
+    returns-2
     masked-requires
     masked-requires-2
     loop-holds
@@ -185,5 +219,5 @@ broadcast-spec =
     add-i
     loop-less
     loop-again
-    same-length
-    returns)
+    same-length-3
+    returns-3)

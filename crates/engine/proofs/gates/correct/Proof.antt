@@ -2,8 +2,8 @@
 -- Assumes nothing.
 use native.Mathlib.Omega.{arith}
 use lib.ListN.{length-set}
-use borrow.Author.Needs.{needs}
 use Rattle.engine.specs.Steps.{correctStep}
+use borrow.Author.Needs.{needs}
 use Rattle.engine.proofs.gates.correct.Statement.{statement}
 use Rattle.engine.proofs.gates.correct.Tie as tie
 
@@ -48,7 +48,7 @@ same-length c = search needs
 
 returns : tie.Need-returns
 unfolding correctStep
-returns c = rw (c .correction .ensures)
+returns c = (rw (c .correction .ensures), c .correction .ensures)
 
 pub correct-spec : {M : Type 1} → statement M
 correct-spec =

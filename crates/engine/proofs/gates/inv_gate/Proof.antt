@@ -1,117 +1,60 @@
--- `engine::gates::inv_gate` meets its contract. The loop's invariant: the shares of the first i parties are filled.
+-- `engine::gates::inv_gate` meets its contract.
 -- Assumes nothing.
-use native.Mathlib.Omega.{arith}
-use mathlib.Core.Path.{_≡_, refl}
-use Prim.Native.Nat.{_-_, _≤_}
-use lib.ListN.{length, length-set}
+use Rattle.engine.specs.Steps.{invStep}
+use borrow.Author.Needs.{needs}
 use Rattle.engine.proofs.gates.inv_gate.Statement.{statement}
 use Rattle.engine.proofs.gates.inv_gate.Tie as tie
-use Rattle.engine.specs.Memory.{shareAt, fill}
-use Rattle.engine.specs.Steps.{invStep}
-use Rattle.engine.proofs.Fill.{fill-none}
-use Rattle.engine.proofs.Turns.{ownShare, own-turn}
 
-abbrev Inv-loop : tie.InvT-loop
-Inv-loop memory₀ wires n a c x i₀ memory i =
-    (i ≤ n) × ((length memory ≡ length memory₀) × (memory ≡ fill (shareAt c) (ownShare memory₀ a) i memory₀))
+mul-x : tie.Need-mul-x
+mul-x c = search needs
 
-abbrev μ-loop : tie.MeasureT-loop
-μ-loop memory₀ wires n a c x i₀ memory i = n - i
+mul-x-2 : tie.Need-mul-x-2
+mul-x-2 c = search needs
 
-mul-x : tie.Need-mul-x Inv-loop μ-loop
-mul-x c = omega arith
+add-x : tie.Need-add-x
+add-x c = search needs
 
-mul-x-2 : tie.Need-mul-x-2 Inv-loop μ-loop
-mul-x-2 c = omega arith
+slice-read-x : tie.Need-slice-read-x
+slice-read-x c = search needs
 
-add-x : tie.Need-add-x Inv-loop μ-loop
-add-x c = omega arith
+mul-copy-shares : tie.Need-mul-copy-shares
+mul-copy-shares c = search needs
 
-slice-read-x : tie.Need-slice-read-x Inv-loop μ-loop
-slice-read-x c = omega arith
+copy-shares-requires : tie.Need-copy-shares-requires
+copy-shares-requires c κs = search needs
 
-loop-holds : tie.Need-loop-holds Inv-loop μ-loop
-loop-holds c =
-    let x = c .before .args in
-    (omega arith, (refl, fill-none (shareAt (x .c)) (ownShare (x .memory .now) (x .a)) (x .memory .now)))
+mul-memory : tie.Need-mul-memory
+mul-memory c = search needs
 
-mul-memory : tie.Need-mul-memory Inv-loop μ-loop
-mul-memory c = omega arith
+mul-memory-2 : tie.Need-mul-memory-2
+mul-memory-2 c = search needs
 
-add-memory : tie.Need-add-memory Inv-loop μ-loop
-add-memory c = omega arith
+add-memory : tie.Need-add-memory
+add-memory c = search needs
 
-slice-read-memory : tie.Need-slice-read-memory Inv-loop μ-loop
-slice-read-memory c = omega arith
+slice-write-memory : tie.Need-slice-write-memory
+slice-write-memory c = search needs
 
-mul-memory-2 : tie.Need-mul-memory-2 Inv-loop μ-loop
-mul-memory-2 c = omega arith
+same-length : tie.Need-same-length
+same-length c = search needs
 
-add-memory-2 : tie.Need-add-memory-2 Inv-loop μ-loop
-add-memory-2 c = omega arith
-
-slice-write-memory : tie.Need-slice-write-memory Inv-loop μ-loop
-slice-write-memory c = omega arith
-
-add-i : tie.Need-add-i Inv-loop μ-loop
-add-i c = omega arith
-
-loop-less : tie.Need-loop-less Inv-loop μ-loop
-loop-less c = omega arith
-
-loop-again : tie.Need-loop-again Inv-loop μ-loop
-loop-again c =
-    let l = c .before .before .loop in
-    let x = c .before .before .before .before .args in (
-      omega arith,
-      (simp length-set (omega arith), own-turn (x .memory .now) (l .memory) (x .a) (x .c) (x .n) (l .i) (l .inv .1 .1) (omega arith) (omega arith)),
-    )
-
-mul-memory-3 : tie.Need-mul-memory-3 Inv-loop μ-loop
-mul-memory-3 c = omega arith
-
-mul-memory-4 : tie.Need-mul-memory-4 Inv-loop μ-loop
-mul-memory-4 c = omega arith
-
-add-memory-3 : tie.Need-add-memory-3 Inv-loop μ-loop
-add-memory-3 c = omega arith
-
-slice-write-memory-2 : tie.Need-slice-write-memory-2 Inv-loop μ-loop
-slice-write-memory-2 c = omega arith
-
-same-length : tie.Need-same-length Inv-loop μ-loop
-same-length c = simp length-set (omega arith)
-
-returns : tie.Need-returns Inv-loop μ-loop
+returns : tie.Need-returns
 unfolding invStep
-returns c =
-    let l = c .before .loop in
-    let e : l .i ≡ c .before .before .before .args .n = omega arith in
-    rw (l .inv .1 .1, e)
+returns c = rw (c .before .before .copy-shares .ensures)
 
 pub inv-gate-spec : {M : Type 1} → statement M
 inv-gate-spec =
     tie.close
     (tie.spec
-    Inv-loop
-    μ-loop
     mul-x
     mul-x-2
     add-x
     slice-read-x
-    loop-holds
+    mul-copy-shares
+    copy-shares-requires
     mul-memory
-    add-memory
-    slice-read-memory
     mul-memory-2
-    add-memory-2
+    add-memory
     slice-write-memory
-    add-i
-    loop-less
-    loop-again
-    mul-memory-3
-    mul-memory-4
-    add-memory-3
-    slice-write-memory-2
     same-length
     returns)

@@ -4,12 +4,12 @@ use native.Mathlib.Omega.{arith}
 use mathlib.Core.Path.{_≡_, refl}
 use Prim.Native.Nat.{_-_, _≤_}
 use lib.ListN.{length, length-set}
-use Rattle.engine.proofs.gates.output.Statement.{statement}
-use Rattle.engine.proofs.gates.output.Tie as tie
 use Rattle.engine.specs.Memory.{saidAt, fill, xorBytes}
 use Rattle.engine.specs.Steps.{outputByte, outputStep, unmasked}
 use Rattle.engine.proofs.Fill.{fill-none, fill-turn, xorBytes-none, xorBytes-turn}
 use Rattle.engine.proofs.Turns.{output-turn}
+use Rattle.engine.proofs.gates.output.Statement.{statement}
+use Rattle.engine.proofs.gates.output.Tie as tie
 
 abbrev Inv-loop : tie.InvT-loop
 Inv-loop memory₀ wires n p w t sum₀ i₀ memory sum i =
@@ -20,6 +20,32 @@ Inv-loop memory₀ wires n p w t sum₀ i₀ memory sum i =
 
 abbrev μ-loop : tie.MeasureT-loop
 μ-loop memory₀ wires n p w t sum₀ i₀ memory sum i = n - i
+
+output16-requires : tie.Need-output16-requires Inv-loop μ-loop
+output16-requires c κs =
+    let e : c .before .before .before .args .n ≡ 16 = omega arith in
+    rw e at (c .before .before .before .pre)
+
+same-length : tie.Need-same-length Inv-loop μ-loop
+same-length c = c .before .before .output16 .kept .0
+
+returns : tie.Need-returns Inv-loop μ-loop
+returns c =
+    let e : c .before .before .before .before .before .before .args .n ≡ 16 = omega arith in
+    rw e (c .before .before .output16 .ensures)
+
+output8-requires : tie.Need-output8-requires Inv-loop μ-loop
+output8-requires c κs =
+    let e : c .before .before .before .before .args .n ≡ 8 = omega arith in
+    rw e at (c .before .before .before .before .pre)
+
+same-length-2 : tie.Need-same-length-2 Inv-loop μ-loop
+same-length-2 c = c .before .before .output8 .kept .0
+
+returns-2 : tie.Need-returns-2 Inv-loop μ-loop
+returns-2 c =
+    let e : c .before .before .before .before .before .before .before .args .n ≡ 8 = omega arith in
+    rw e (c .before .before .output8 .ensures)
 
 mul-sum : tie.Need-mul-sum Inv-loop μ-loop
 mul-sum c = omega arith
@@ -35,7 +61,7 @@ slice-read-sum c = omega arith
 
 loop-holds : tie.Need-loop-holds Inv-loop μ-loop
 loop-holds c =
-    let x = c .before .before .args in
+    let x = c .before .before .before .before .args in
     let f = outputByte (x .wires) (x .p) (x .w) (x .t) (x .memory .now) in
     (omega arith, (refl, (fill-none (saidAt (x .wires) (x .t)) f (x .memory .now), xorBytes-none f _)))
 
@@ -90,7 +116,7 @@ loop-less c = omega arith
 loop-again : tie.Need-loop-again Inv-loop μ-loop
 loop-again c =
     let l = c .before .before .before .before .loop in
-    let x = c .before .before .before .before .before .before .before .args in
+    let x = c .before .before .before .before .before .before .before .before .before .args in
     let m = x .memory .now in
     let f = outputByte (x .wires) (x .p) (x .w) (x .t) m in
     let v = output-turn m (l .memory) (x .wires) (x .n) (x .p) (x .w) (x .t) (l .i) (c .unless-hidden .result) (l .inv .1 .1 .0)
@@ -105,14 +131,14 @@ loop-again c =
       ),
     )
 
-same-length : tie.Need-same-length Inv-loop μ-loop
-same-length c = c .before .loop .inv .1 .0
+same-length-3 : tie.Need-same-length-3 Inv-loop μ-loop
+same-length-3 c = c .before .loop .inv .1 .0
 
-returns : tie.Need-returns Inv-loop μ-loop
+returns-3 : tie.Need-returns-3 Inv-loop μ-loop
 unfolding outputStep unmasked
-returns c =
+returns-3 c =
     let l = c .before .loop in
-    let e : l .i ≡ c .before .before .before .before .args .n = omega arith in
+    let e : l .i ≡ c .before .before .before .before .before .before .args .n = omega arith in
     rw (← e) (l .inv .1 .1)
 
 pub output-spec : {M : Type 1} → statement M
@@ -121,6 +147,12 @@ output-spec =
     (tie.spec
     Inv-loop
     μ-loop
+    output16-requires
+    same-length
+    returns
+    output8-requires
+    same-length-2
+    returns-2
     mul-sum
     mul-sum-2
     add-sum
@@ -143,5 +175,5 @@ output-spec =
     add-i
     loop-less
     loop-again
-    same-length
-    returns)
+    same-length-3
+    returns-3)

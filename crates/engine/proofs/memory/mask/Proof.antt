@@ -1,8 +1,8 @@
 -- `engine::memory::mask` meets its contract. The loop's invariant: the sum is the XOR of the first i shares.
 -- Assumes nothing.
+use native.Mathlib.Omega.{arith}
 use mathlib.Core.Path.{_≡_, refl}
 use Prim.Native.Nat.{_-_, _≤_}
-use native.Mathlib.Omega.{arith}
 use Rattle.engine.specs.Memory.{at, shareAt, xorBytes, maskByte}
 use Rattle.engine.proofs.Fill.{xorBytes-none, xorBytes-turn}
 use Rattle.engine.proofs.memory.mask.Statement.{statement}
@@ -13,6 +13,30 @@ Inv-loop memory n w sum₀ i₀ sum i = (i ≤ n) × (sum ≡ xorBytes (λ k. at
 
 abbrev μ-loop : tie.MeasureT-loop
 μ-loop memory n w sum₀ i₀ sum i = n - i
+
+mul-sum16 : tie.Need-mul-sum16 Inv-loop μ-loop
+mul-sum16 c = omega arith
+
+sum16-requires : tie.Need-sum16-requires Inv-loop μ-loop
+sum16-requires c κs = omega arith
+
+returns : tie.Need-returns Inv-loop μ-loop
+unfolding maskByte
+returns c =
+    let e : c .before .before .before .args .n ≡ 16 = omega arith in
+    rw e (c .sum16 .ensures)
+
+mul-sum8 : tie.Need-mul-sum8 Inv-loop μ-loop
+mul-sum8 c = omega arith
+
+sum8-requires : tie.Need-sum8-requires Inv-loop μ-loop
+sum8-requires c κs = omega arith
+
+returns-2 : tie.Need-returns-2 Inv-loop μ-loop
+unfolding maskByte
+returns-2 c =
+    let e : c .before .before .before .before .args .n ≡ 8 = omega arith in
+    rw e (c .sum8 .ensures)
 
 loop-holds : tie.Need-loop-holds Inv-loop μ-loop
 loop-holds c = (omega arith, xorBytes-none _ 0)
@@ -35,10 +59,10 @@ loop-less c = omega arith
 loop-again : tie.Need-loop-again Inv-loop μ-loop
 loop-again c = (omega arith, xorBytes-turn _ 0 _ _ _ (c .before .before .loop .inv .1) refl)
 
-returns : tie.Need-returns Inv-loop μ-loop
+returns-3 : tie.Need-returns-3 Inv-loop μ-loop
 unfolding maskByte
-returns c =
-    let e : c .before .loop .i ≡ c .before .before .args .n = omega arith in
+returns-3 c =
+    let e : c .before .loop .i ≡ c .before .before .before .before .before .args .n = omega arith in
     rw (← e) (c .before .loop .inv .1)
 
 pub mask-spec : {M : Type 1} → statement M
@@ -47,6 +71,12 @@ mask-spec =
     (tie.spec
     Inv-loop
     μ-loop
+    mul-sum16
+    sum16-requires
+    returns
+    mul-sum8
+    sum8-requires
+    returns-2
     loop-holds
     mul-sum
     add-sum
@@ -54,4 +84,4 @@ mask-spec =
     add-i
     loop-less
     loop-again
-    returns)
+    returns-3)

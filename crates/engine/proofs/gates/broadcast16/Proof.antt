@@ -1,0 +1,162 @@
+-- `engine::gates::broadcast16` meets its contract: the two words have the broadcasts of 8 parties each.
+-- Assumes nothing.
+use native.Mathlib.Omega.{arith}
+use mathlib.Core.Path.{_∙_, ap₂}
+use Prim.Native.Nat.{ℕ, _+_, _*_, _<_}
+use lib.ListN.{getD}
+use lib.Bits.{bitXor, bitAnd}
+use Rattle.engine.specs.Memory.{at, valueAt}
+use Rattle.engine.specs.Steps.{broadcastByte, broadcastStep, maskedProduct}
+use Rattle.engine.proofs.Words.{broadcast-word, row-stored, row-summed}
+use borrow.Author.Needs.{needs}
+use Rattle.engine.proofs.gates.broadcast16.Statement.{statement}
+use Rattle.engine.proofs.gates.broadcast16.Tie as tie
+
+masked-requires : tie.Need-masked-requires
+masked-requires c κs = search needs
+
+masked-requires-2 : tie.Need-masked-requires-2
+masked-requires-2 c κs = search needs
+
+mul-s : tie.Need-mul-s
+mul-s c = search needs
+
+mul-s-2 : tie.Need-mul-s-2
+mul-s-2 c = search needs
+
+add-s : tie.Need-add-s
+add-s c = search needs
+
+mul-m : tie.Need-mul-m
+mul-m c = search needs
+
+mul-m-2 : tie.Need-mul-m-2
+mul-m-2 c = search needs
+
+add-m : tie.Need-add-m
+add-m c = search needs
+
+read-u64-requires : tie.Need-read-u64-requires
+read-u64-requires c κs = search needs
+
+mul-said8 : tie.Need-mul-said8
+mul-said8 c = search needs
+
+mul-said8-2 : tie.Need-mul-said8-2
+mul-said8-2 c = search needs
+
+said8-requires : tie.Need-said8-requires
+said8-requires c κs = search needs
+
+unless-hidden8-requires : tie.Need-unless-hidden8-requires
+unless-hidden8-requires c κs = search needs
+
+mul-said8-3 : tie.Need-mul-said8-3
+mul-said8-3 c = search needs
+
+add-said8 : tie.Need-add-said8
+add-said8 c = search needs
+
+mul-said8-4 : tie.Need-mul-said8-4
+mul-said8-4 c = search needs
+
+add-said8-2 : tie.Need-add-said8-2
+add-said8-2 c = search needs
+
+add-said8-3 : tie.Need-add-said8-3
+add-said8-3 c = search needs
+
+said8-requires-2 : tie.Need-said8-requires-2
+said8-requires-2 c κs = search needs
+
+unless-hidden8-requires-2 : tie.Need-unless-hidden8-requires-2
+unless-hidden8-requires-2 c κs = search needs
+
+put-requires : tie.Need-put-requires
+put-requires c κs = search needs
+
+fold-requires : tie.Need-fold-requires
+fold-requires c κs = search needs
+
+same-length : tie.Need-same-length
+same-length c = search needs
+
+returns : tie.Need-returns
+unfolding broadcastStep maskedProduct
+returns c =
+    let put = c .before .before .before in
+    let hidden2 = put .before .before in
+    let said2 = hidden2 .before in
+    let hidden1 = said2 .before .before in
+    let said1 = hidden1 .before in
+    let read = said1 .before .before in
+    let masked2 = read .before .before in
+    let masked1 = masked2 .before .before in
+    let known = masked1 .before .before in
+    let x = known .before .args in
+    let m = x .memory .now in
+    let small : (i : ℕ) → getD m i 0 < 256 = λ i. known .slice-known .given i .fits in
+    let f = broadcastByte (x .wires) (x .p) (x .a) (x .b) (x .t) m in
+    let u = masked1 .masked .result in
+    let v = masked2 .masked2 .result in
+    let lo = hidden1 .unless-hidden8 .result in
+    let hi = hidden2 .unless-hidden82 .result in
+    let s = 48 * x .wires + 16 * x .t in
+    let k = 32 * x .wires + 16 * x .t in
+    let low = broadcast-word m small (x .wires) 16 (x .p) (x .a) (x .b) (x .t) 0 (16 * x .a) (16 * x .b) s k u v (read .read-u64 .result) (said1 .said8 .result) lo
+    (omega arith)
+    (omega arith)
+    (omega arith)
+    (omega arith)
+    (omega arith)
+    (known .before .pre .0)
+    (masked1 .masked .ensures)
+    (masked2 .masked2 .ensures)
+    (read .read-u64 .ensures)
+    (said1 .said8 .ensures)
+    (hidden1 .unless-hidden8 .ensures) in
+    let high = broadcast-word m small (x .wires) 16 (x .p) (x .a) (x .b) (x .t) 8 (16 * x .a + 8) (16 * x .b + 8) (s + 8) (k + 8) u v (x .last) (said2 .said82 .result) hi
+    (omega arith)
+    (omega arith)
+    (omega arith)
+    (omega arith)
+    (omega arith)
+    (known .before .pre .0)
+    (masked1 .masked .ensures)
+    (masked2 .masked2 .ensures)
+    (known .before .pre .1)
+    (said2 .said82 .ensures)
+    (hidden2 .unless-hidden82 .ensures) in (
+      put .put .ensures ∙ row-stored f lo hi s m low high,
+      ap₂ (λ (y z : ℕ). bitXor (bitAnd y z) (c .fold .result)) (masked1 .masked .ensures) (masked2 .masked2 .ensures)
+          ∙ row-summed f lo hi (bitAnd (at m (valueAt (x .wires) (x .a))) (at m (valueAt (x .wires) (x .b)))) (c .fold .result) low high (c .fold .ensures),
+    )
+
+pub broadcast16-spec : {M : Type 1} → statement M
+broadcast16-spec =
+    tie.close
+    (tie.spec
+    masked-requires
+    masked-requires-2
+    mul-s
+    mul-s-2
+    add-s
+    mul-m
+    mul-m-2
+    add-m
+    read-u64-requires
+    mul-said8
+    mul-said8-2
+    said8-requires
+    unless-hidden8-requires
+    mul-said8-3
+    add-said8
+    mul-said8-4
+    add-said8-2
+    add-said8-3
+    said8-requires-2
+    unless-hidden8-requires-2
+    put-requires
+    fold-requires
+    same-length
+    returns)

@@ -1,0 +1,114 @@
+-- `engine::gates::broadcast8` meets its contract: the word has the broadcasts of 8 parties.
+-- Assumes nothing.
+use native.Mathlib.Omega.{arith}
+use mathlib.Core.Path.{_∙_, ap₂}
+use Prim.Native.Nat.{ℕ, _+_, _*_, _<_}
+use lib.ListN.{getD}
+use lib.Bits.{bitXor, bitAnd}
+use Rattle.engine.specs.Memory.{at, valueAt}
+use Rattle.engine.specs.Steps.{broadcastByte, broadcastStep, maskedProduct}
+use Rattle.engine.proofs.Words.{broadcast-word, word-stored, word-summed}
+use borrow.Author.Needs.{needs}
+use Rattle.engine.proofs.gates.broadcast8.Statement.{statement}
+use Rattle.engine.proofs.gates.broadcast8.Tie as tie
+
+masked-requires : tie.Need-masked-requires
+masked-requires c κs = search needs
+
+masked-requires-2 : tie.Need-masked-requires-2
+masked-requires-2 c κs = search needs
+
+mul-m : tie.Need-mul-m
+mul-m c = search needs
+
+mul-m-2 : tie.Need-mul-m-2
+mul-m-2 c = search needs
+
+add-m : tie.Need-add-m
+add-m c = search needs
+
+mul-said8 : tie.Need-mul-said8
+mul-said8 c = search needs
+
+mul-said8-2 : tie.Need-mul-said8-2
+mul-said8-2 c = search needs
+
+said8-requires : tie.Need-said8-requires
+said8-requires c κs = search needs
+
+unless-hidden8-requires : tie.Need-unless-hidden8-requires
+unless-hidden8-requires c κs = search needs
+
+mul-write-u64 : tie.Need-mul-write-u64
+mul-write-u64 c = search needs
+
+mul-write-u64-2 : tie.Need-mul-write-u64-2
+mul-write-u64-2 c = search needs
+
+add-write-u64 : tie.Need-add-write-u64
+add-write-u64 c = search needs
+
+write-u64-requires : tie.Need-write-u64-requires
+write-u64-requires c κs = search needs
+
+fold-requires : tie.Need-fold-requires
+fold-requires c κs = search needs
+
+same-length : tie.Need-same-length
+same-length c = search needs
+
+returns : tie.Need-returns
+unfolding broadcastStep maskedProduct
+returns c =
+    let write = c .before .before .before in
+    let hidden = write .before .before in
+    let said = hidden .before in
+    let masked2 = said .before .before in
+    let masked1 = masked2 .before .before in
+    let known = masked1 .before .before in
+    let x = known .before .args in
+    let m = x .memory .now in
+    let small : (i : ℕ) → getD m i 0 < 256 = λ i. known .slice-known .given i .fits in
+    let f = broadcastByte (x .wires) (x .p) (x .a) (x .b) (x .t) m in
+    let u = masked1 .masked .result in
+    let v = masked2 .masked2 .result in
+    let new = hidden .unless-hidden8 .result in
+    let s = 48 * x .wires + 16 * x .t in
+    let k = 32 * x .wires + 16 * x .t in
+    let holds = broadcast-word m small (x .wires) 8 (x .p) (x .a) (x .b) (x .t) 0 (16 * x .a) (16 * x .b) s k u v (x .last) (said .said8 .result) new
+    (omega arith)
+    (omega arith)
+    (omega arith)
+    (omega arith)
+    (omega arith)
+    (known .before .pre .0)
+    (masked1 .masked .ensures)
+    (masked2 .masked2 .ensures)
+    (known .before .pre .1)
+    (said .said8 .ensures)
+    (hidden .unless-hidden8 .ensures) in (
+      write .write-u64 .ensures ∙ word-stored f new s m holds,
+      ap₂ (λ (y z : ℕ). bitXor (bitAnd y z) (c .fold .result)) (masked1 .masked .ensures) (masked2 .masked2 .ensures)
+          ∙ word-summed f new (bitAnd (at m (valueAt (x .wires) (x .a))) (at m (valueAt (x .wires) (x .b)))) (c .fold .result) holds (c .fold .ensures),
+    )
+
+pub broadcast8-spec : {M : Type 1} → statement M
+broadcast8-spec =
+    tie.close
+    (tie.spec
+    masked-requires
+    masked-requires-2
+    mul-m
+    mul-m-2
+    add-m
+    mul-said8
+    mul-said8-2
+    said8-requires
+    unless-hidden8-requires
+    mul-write-u64
+    mul-write-u64-2
+    add-write-u64
+    write-u64-requires
+    fold-requires
+    same-length
+    returns)
