@@ -1,1 +1,2 @@
 pub mod Permutation
+pub mod Planes

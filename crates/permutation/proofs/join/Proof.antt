@@ -1,20 +1,18 @@
--- `permutation::rho` meets its contract: it computes ρ on lanes. Each index is below 25.
+-- `permutation::join` meets its contract: it lays five planes out one after the other.
 -- Assumes nothing.
 use borrow.Author.Needs.{needs}
 use lib.Dec.{lit<}
-use lib.ListN.{getD}
-use mir.Syntax.{w64}
-use mir.Val.{Fits}
-use Rattle.permutation.proofs.Lanes.{rho-lanes}
-use Rattle.permutation.proofs.rho.Statement.{statement}
-use Rattle.permutation.proofs.rho.Tie as tie
+use Rattle.permutation.proofs.Lanes.{join-planes}
+use Rattle.permutation.proofs.join.Statement.{statement}
+use Rattle.permutation.proofs.join.Tie as tie
 
 returns : tie.Need-returns
 returns c =
-    rho-lanes (c .args .t1) (λ k. let h : Fits w64 (getD (c .args .t1) k 0) = search needs in h .fits)
+    let s = c .args in
+    join-planes (s .t1) (s .t2) (s .t3) (s .t4) (s .t5) (search needs) (search needs) (search needs) (search needs) (search needs)
 
-pub rho-spec : {M : Type 1} → statement M
-rho-spec =
+pub join-spec : {M : Type 1} → statement M
+join-spec =
     tie.close
     (tie.spec
     (λ c. lit< tt) (λ c. lit< tt) (λ c. lit< tt) (λ c. lit< tt) (λ c. lit< tt)

@@ -1,0 +1,23 @@
+-- `permutation::chi_3` meets its contract: it computes χ on the plane 3, whose lanes are mixed by OR where the list says so.
+-- Assumes nothing.
+use mathlib.Core.Bool.{true, false}
+use mathlib.Core.List.{[], _∷_}
+use borrow.Author.Needs.{needs}
+use lib.Dec.{lit<}
+use lib.ListN.{getD}
+use mir.Syntax.{w64}
+use mir.Val.{Fits}
+use Rattle.permutation.proofs.Lanes.{chi-plane}
+use Rattle.permutation.proofs.chi_3.Statement.{statement}
+use Rattle.permutation.proofs.chi_3.Tie as tie
+
+returns : tie.Need-returns
+returns c =
+    chi-plane (λ x. getD (false ∷ true ∷ true ∷ false ∷ true ∷ []) x false) (c .args .t1) (λ k. let h : Fits w64 (getD (c .args .t1) k 0) = search needs in h .fits) 3
+
+pub chi-3-spec : {M : Type 1} → statement M
+chi-3-spec =
+    tie.close
+    (tie.spec
+    (λ c. lit< tt) (λ c. lit< tt) (λ c. lit< tt) (λ c. lit< tt) (λ c. lit< tt)
+    returns)
