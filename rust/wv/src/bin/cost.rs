@@ -78,7 +78,7 @@ mod measuring {
     use wivulameno::proof::{check, prove, Counts, Statement};
     use wv::cost::{data_head, Measured, FAMILIES};
 
-    const ROUNDS: usize = 5;
+    const ROUNDS: usize = 20;
 
     /// A row that each circuit is happy with.
     fn witness(name: &str) -> Vec<u8> {
