@@ -284,7 +284,7 @@ fn iota(mut a: [u64; 25], ir: usize, c: u64) -> [u64; 25]
 }
 
 // 3.3: the round ir, whose constant is c, with the lanes kept complemented before and after. Four functions with the same text,
-// as the compiler takes into a loop only what is called at one place; the planes in the order that compiles to the fewest instructions.
+// as the compiler takes into a loop only what is called at one place; the planes in an order that compiles to few instructions.
 fn round_0(a: [u64; 25], ir: usize, c: u64) -> [u64; 25]
     requires { ⌜ c ≡ roundConstant ir ⌝ }
     ensures { λ r. ⌜ r ≡ lanes (flip kept (Rnd (flip kept (laneArray a)) ir)) ⌝ }
