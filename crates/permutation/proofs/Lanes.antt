@@ -1,4 +1,4 @@
--- The parts of a round on lanes, numbers of 64 bits, as the code computes them: each gives the lanes that its contract names.
+-- The step mappings on lanes, numbers of 64 bits, as the code computes them: each gives the lanes that its contract names.
 -- Assumes nothing.
 use mathlib.Core.Path.{_≡_, refl, sym, ap, ap₂, _∙_}
 use mathlib.Core.Bool.{Bool, true, false, cond, _&&_, _||_}
@@ -16,9 +16,9 @@ use Rattle.bits.proofs.Numbers.{fromBits-lt, testBit-fromBits, fromBits-testBit
 use Rattle.bits.proofs.Ops.{testBit-xor, testBit-and, testBit-or, testBit-not, testBit-rotl}
 use Rattle.bits.proofs.Tabulate.{getD-tabulate, tabulate-cong, tabulate-getD}
 use Rattle.bits.proofs.Xor.{taut, xor-false, xor-true}
-use Rattle.permutation.specs.Permutation.{columnParity, thetaEffect, θ, putLane, ρ, π, χ, RC, roundConstant, ι, lane, lanes, laneArray}
-use Rattle.permutation.specs.Planes.{plane, effects, planeArray, kept, moved, flip}
-use Rattle.permutation.proofs.Agree.{grid, grid-lanes}
+use Rattle.permutation.specs.Permutation.{StateArray, columnParity, thetaEffect, θ, putLane, ρ, π, χ, RC, roundConstant, ι, lane, lanes, laneArray}
+use Rattle.permutation.specs.Planes.{plane, effects, kept, moved, flip}
+use Rattle.permutation.proofs.Agree.{grid, grid-lanes, lanes-at}
 use Rattle.permutation.proofs.Offsets.{offset, offset-lt, rho-bits}
 
 -- a lane rotated to the left
@@ -49,9 +49,17 @@ parityLane a x = bitXor (bitXor (bitXor (bitXor (at a x 0) (at a x 1)) (at a x 2
 abbrev pub effectLane : List ℕ → ℕ → ℕ
 effectLane a x = bitXor (parityLane a ((x + 4) % 5)) (rotl (parityLane a ((x + 1) % 5)) 1)
 
--- lane (x, y) of the state after θ, ρ and π, where d has the lanes D[x]
-abbrev pub gatherLane : List ℕ → List ℕ → ℕ → ℕ → ℕ
-gatherLane a d y x = rotl (bitXor (at a ((x + 3 * y) % 5) x) (getD d ((x + 3 * y) % 5) 0)) (offset ((x + 3 * y) % 5) x)
+-- lane (x, y) of θ, where d has the lanes D[x]
+abbrev pub thetaLane : List ℕ → List ℕ → ℕ → ℕ → ℕ
+thetaLane a d x y = bitXor (at a x y) (getD d x 0)
+
+-- lane (x, y) of ρ
+abbrev pub rhoLane : List ℕ → ℕ → ℕ → ℕ
+rhoLane a x y = rotl (at a x y) (offset x y)
+
+-- lane (x, y) of π
+abbrev pub piLane : List ℕ → ℕ → ℕ → ℕ
+piLane a x y = at a ((x + 3 * y) % 5) x
 
 -- a lane complemented
 abbrev pub compl : ℕ → ℕ
@@ -68,10 +76,10 @@ either true v w = bitOr v w
 either false v w = bitAnd v w
 
 -- lane (x, y) of χ, by OR or by AND, where the lanes of `moved` come complemented, and those of `kept` are to be
-abbrev pub chiLane : (ℕ → Bool) → List ℕ → ℕ → ℕ → ℕ
-chiLane o b y x =
-    bitXor (signed (moved x y ⊕ kept x y ⊕ o x) (getD b x 0))
-    (either (o x) (signed (moved ((x + 1) % 5) y ⊕ true ⊕ o x) (getD b ((x + 1) % 5) 0)) (signed (moved ((x + 2) % 5) y ⊕ o x) (getD b ((x + 2) % 5) 0)))
+abbrev pub chiLane : (ℕ → ℕ → Bool) → List ℕ → ℕ → ℕ → ℕ
+chiLane o a x y =
+    bitXor (signed (moved x y ⊕ kept x y ⊕ o x y) (at a x y))
+    (either (o x y) (signed (moved ((x + 1) % 5) y ⊕ true ⊕ o x y) (at a ((x + 1) % 5) y)) (signed (moved ((x + 2) % 5) y ⊕ o x y) (at a ((x + 2) % 5) y)))
 
 -- lane (x, y) with those of `kept` complemented
 abbrev pub keptLane : List ℕ → ℕ → ℕ → ℕ
@@ -113,10 +121,6 @@ five : (f : ℕ → ℕ) (g : ℕ → ℕ → Bool) → ((x : ℕ) → f x < 2 ^
 five f g small bits =
     tabulate-cong 5 f (λ x. fromBits 64 (g x)) (λ x h. sym (fromBits-testBit 64 (f x) (small x)) ∙ fromBits-cong 64 (testBit (f x)) (g x) (λ z hz. bits x z h hz))
 
--- a number modulo 5 is less than 5
-mod5 : (x : ℕ) → x % 5 < 5
-mod5 x = mod-lt x (omega arith)
-
 -- each lane has 64 bits
 abbrev pub Lanes64 : List ℕ → Type 0
 Lanes64 a = (k : ℕ) → getD a k 0 < 2 ^ 64
@@ -132,32 +136,17 @@ pub join-planes : (p q r s t : List ℕ) → length p ≡ 5 → length q ≡ 5 �
 join-planes p q r s t hp hq hr hs ht =
     ap₂ _++_ (spread5 p hp) (ap₂ _++_ (spread5 q hq) (ap₂ _++_ (spread5 r hr) (ap₂ _++_ (spread5 s hs) (spread5 t ht))))
 
--- χ on a plane's lanes
-pub chi-plane : (o : ℕ → Bool) (b : List ℕ) → Lanes64 b → (y : ℕ) → tabulate 5 (chiLane o b y) ≡ plane (flip kept (χ (flip moved (planeArray b)))) y
-unfolding plane lane χ flip planeArray
-chi-plane o b small y =
-    five (chiLane o b y) (λ x. flip kept (χ (flip moved (planeArray b))) x y)
-    (λ x. xor-lt 64 (part (moved x y ⊕ kept x y ⊕ o x) x) (either (o x) (part (moved ((x + 1) % 5) y ⊕ true ⊕ o x) ((x + 1) % 5)) (part (moved ((x + 2) % 5) y ⊕ o x) ((x + 2) % 5)))
-    (part-lt (moved x y ⊕ kept x y ⊕ o x) x)
-    (either-lt (o x) (part (moved ((x + 1) % 5) y ⊕ true ⊕ o x) ((x + 1) % 5)) (part (moved ((x + 2) % 5) y ⊕ o x) ((x + 2) % 5))
-    (part-lt (moved ((x + 1) % 5) y ⊕ true ⊕ o x) ((x + 1) % 5)) (part-lt (moved ((x + 2) % 5) y ⊕ o x) ((x + 2) % 5))))
-    (λ x z hx hz.
-    testBit-xor (part (moved x y ⊕ kept x y ⊕ o x) x) (either (o x) (part (moved ((x + 1) % 5) y ⊕ true ⊕ o x) ((x + 1) % 5)) (part (moved ((x + 2) % 5) y ⊕ o x) ((x + 2) % 5))) z
-    ∙ ap₂ _⊕_ (part-bits (moved x y ⊕ kept x y ⊕ o x) x z hz)
-    (either-bits (o x) (part (moved ((x + 1) % 5) y ⊕ true ⊕ o x) ((x + 1) % 5)) (part (moved ((x + 2) % 5) y ⊕ o x) ((x + 2) % 5)) z
-    ∙ ap₂ (λ (s t : Bool). cond (o x) (s || t) (s && t)) (part-bits (moved ((x + 1) % 5) y ⊕ true ⊕ o x) ((x + 1) % 5) z hz) (part-bits (moved ((x + 2) % 5) y ⊕ o x) ((x + 2) % 5) z hz))
-    ∙ chi-bit (o x) (kept x y) (moved x y) (moved ((x + 1) % 5) y) (moved ((x + 2) % 5) y) (testBit (getD b x 0) z) (testBit (getD b ((x + 1) % 5) 0) z) (testBit (getD b ((x + 2) % 5) 0) z))
-  where
-    part : Bool → ℕ → ℕ
-    part s k = signed s (getD b k 0)
+-- the plane y of 25 lanes
+pub plane-of : (A : StateArray) (b : List ℕ) → b ≡ lanes A → (y : ℕ) → y < 5 → tabulate 5 (λ x. getD b (5 * y + x) 0) ≡ plane A y
+unfolding plane
+plane-of A b e y hy =
+    tabulate-cong 5 (λ x. getD b (5 * y + x) 0) (λ x. lane A x y) (λ x hx. ap (λ (l : List ℕ). getD l (5 * y + x) 0) e ∙ lanes-at A x y hx hy)
 
-    part-lt : (s : Bool) (k : ℕ) → signed s (getD b k 0) < 2 ^ 64
-    part-lt s k = signed-lt s (getD b k 0) (small k)
+-- a lane complemented in its place
+abbrev pub complAt : ℕ → List ℕ → List ℕ
+complAt k l = set l k (compl (getD l k 0))
 
-    part-bits : (s : Bool) (k z : ℕ) → z < 64 → testBit (signed s (getD b k 0)) z ≡ testBit (getD b k 0) z ⊕ s
-    part-bits s k z hz = signed-bits s (getD b k 0) z (small k) hz
-
--- what the parts make of lanes of 64 bits
+-- what the step mappings make of lanes of 64 bits
 module _ (a : List ℕ) (small : Lanes64 a) where
   -- each lane by its place
   at-lt : (x y : ℕ) → at a x y < 2 ^ 64
@@ -195,37 +184,69 @@ module _ (a : List ℕ) (small : Lanes64 a) where
   unfolding effects
   effect-lanes = five (effectLane a) (thetaEffect (laneArray a)) effect-lt (λ x z hx hz. effect-bits x z hz)
 
-  -- θ, ρ and π on the lanes of a plane, where d has the lanes D[x]
-  pub gather-plane : (d : List ℕ) → d ≡ effects (laneArray a) → (y : ℕ) → tabulate 5 (gatherLane a d y) ≡ plane (π (ρ (θ (laneArray a)))) y
-  unfolding plane lane π effects θ laneArray
-  gather-plane d e y =
-      five (gatherLane a d y) (λ x. ρ (θ (laneArray a)) ((x + 3 * y) % 5) x)
-      (λ x. rotl-lt (sum ((x + 3 * y) % 5) x) (offset ((x + 3 * y) % 5) x) (sum-lt ((x + 3 * y) % 5) x (mod5 (x + 3 * y))))
-      (λ x z hx hz.
-      rotl-bits (sum ((x + 3 * y) % 5) x) (offset ((x + 3 * y) % 5) x) z (sum-lt ((x + 3 * y) % 5) x (mod5 (x + 3 * y))) (offset-lt ((x + 3 * y) % 5) x) hz
-      ∙ sum-bits ((x + 3 * y) % 5) x ((z + (64 - offset ((x + 3 * y) % 5) x)) % 64) (mod5 (x + 3 * y)) (mod-lt (z + (64 - offset ((x + 3 * y) % 5) x)) (omega arith))
-      ∙ sym (rho-bits (θ (laneArray a)) ((x + 3 * y) % 5) x z hz))
+  -- θ on lanes, where d has the lanes D[x]
+  pub theta-lanes : (d : List ℕ) → d ≡ effects (laneArray a) → grid (thetaLane a d) ≡ lanes (θ (laneArray a))
+  unfolding effects θ laneArray
+  theta-lanes d e =
+      tabulate-cong 25 (λ k. thetaLane a d (k % 5) (k / 5)) (λ k. sum (k % 5) (k / 5)) (λ k h. ap (bitXor (at a (k % 5) (k / 5))) (d-at (k % 5) (mod-lt k (omega arith))))
+      ∙ grid-lanes sum (θ (laneArray a)) (λ x y. xor-lt 64 (at a x y) (effectLane a x) (at-lt x y) (effect-lt x))
+      (λ x y z hx hy hz. testBit-xor (at a x y) (effectLane a x) z ∙ ap (λ (b : Bool). testBit (at a x y) z ⊕ b) (effect-bits x z hz))
     where
       sum : ℕ → ℕ → ℕ
-      sum p q = bitXor (at a p q) (getD d p 0)
+      sum x y = bitXor (at a x y) (effectLane a x)
 
-      d-at : (p : ℕ) → p < 5 → getD d p 0 ≡ fromBits 64 (thetaEffect (laneArray a) p)
-      d-at p h = ap (λ (l : List ℕ). getD l p 0) e ∙ getD-tabulate 5 (λ x. fromBits 64 (thetaEffect (laneArray a) x)) p 0 h
+      d-at : (x : ℕ) → x < 5 → getD d x 0 ≡ effectLane a x
+      d-at x h = ap (λ (l : List ℕ). getD l x 0) (e ∙ sym effect-lanes) ∙ getD-tabulate 5 (effectLane a) x 0 h
 
-      sum-lt : (p q : ℕ) → p < 5 → bitXor (at a p q) (getD d p 0) < 2 ^ 64
-      sum-lt p q h = xor-lt 64 (at a p q) (getD d p 0) (at-lt p q) (rw (d-at p h) (fromBits-lt 64 (thetaEffect (laneArray a) p)))
+  -- the bits of ρ's lanes
+  rho-lane-bits : (x y z : ℕ) → x < 5 → y < 5 → z < 64 → testBit (rhoLane a x y) z ≡ ρ (laneArray a) x y z
+  unfolding laneArray
+  rho-lane-bits x y z hx hy hz = rotl-bits (at a x y) (offset x y) z (at-lt x y) (offset-lt x y) hz ∙ sym (rho-bits (laneArray a) x y z hz)
 
-      sum-bits : (p q z : ℕ) → p < 5 → z < 64 → testBit (bitXor (at a p q) (getD d p 0)) z ≡ θ (laneArray a) p q z
-      sum-bits p q z h hz =
-          testBit-xor (at a p q) (getD d p 0) z
-          ∙ ap (λ (b : Bool). testBit (at a p q) z ⊕ b) (ap (λ (n : ℕ). testBit n z) (d-at p h) ∙ testBit-fromBits 64 (thetaEffect (laneArray a) p) z hz)
+  -- ρ on lanes
+  pub rho-lanes : grid (rhoLane a) ≡ lanes (ρ (laneArray a))
+  rho-lanes = grid-lanes (rhoLane a) (ρ (laneArray a)) (λ x y. rotl-lt (at a x y) (offset x y) (at-lt x y)) rho-lane-bits
 
-  -- the lanes of `kept` complemented
-  pub kept-lanes : grid (keptLane a) ≡ lanes (flip kept (laneArray a))
-  unfolding flip laneArray
-  kept-lanes =
-      grid-lanes (keptLane a) (flip kept (laneArray a)) (λ x y. signed-lt (kept x y) (at a x y) (at-lt x y))
-      (λ x y z hx hy hz. signed-bits (kept x y) (at a x y) z (at-lt x y) hz)
+  -- π on lanes
+  pub pi-lanes : grid (piLane a) ≡ lanes (π (laneArray a))
+  unfolding π laneArray
+  pi-lanes = grid-lanes (piLane a) (π (laneArray a)) (λ x y. at-lt ((x + 3 * y) % 5) x) (λ x y z hx hy hz. refl)
+
+  -- a lane, complemented or not, has 64 bits
+  part-lt : (s : Bool) (x y : ℕ) → signed s (at a x y) < 2 ^ 64
+  part-lt s x y = signed-lt s (at a x y) (at-lt x y)
+
+  -- and its bits
+  part-bits : (s : Bool) (x y z : ℕ) → z < 64 → testBit (signed s (at a x y)) z ≡ testBit (at a x y) z ⊕ s
+  part-bits s x y z hz = signed-bits s (at a x y) z (at-lt x y) hz
+
+  -- χ on lanes, with its complements
+  pub chi-lanes : (o : ℕ → ℕ → Bool) → grid (chiLane o a) ≡ lanes (flip kept (χ (flip moved (laneArray a))))
+  unfolding χ flip laneArray
+  chi-lanes o = grid-lanes (chiLane o a) (flip kept (χ (flip moved (laneArray a)))) small-chi bits-chi
+    where
+      p : ℕ → ℕ → ℕ
+      p x y = signed (moved x y ⊕ kept x y ⊕ o x y) (at a x y)
+
+      q : ℕ → ℕ → ℕ
+      q x y = signed (moved ((x + 1) % 5) y ⊕ true ⊕ o x y) (at a ((x + 1) % 5) y)
+
+      r : ℕ → ℕ → ℕ
+      r x y = signed (moved ((x + 2) % 5) y ⊕ o x y) (at a ((x + 2) % 5) y)
+
+      small-chi : (x y : ℕ) → chiLane o a x y < 2 ^ 64
+      small-chi x y =
+          xor-lt 64 (p x y) (either (o x y) (q x y) (r x y)) (part-lt (moved x y ⊕ kept x y ⊕ o x y) x y)
+          (either-lt (o x y) (q x y) (r x y) (part-lt (moved ((x + 1) % 5) y ⊕ true ⊕ o x y) ((x + 1) % 5) y) (part-lt (moved ((x + 2) % 5) y ⊕ o x y) ((x + 2) % 5) y))
+
+      bits-chi : (x y z : ℕ) → x < 5 → y < 5 → z < 64 → testBit (chiLane o a x y) z ≡ flip kept (χ (flip moved (laneArray a))) x y z
+      bits-chi x y z hx hy hz =
+          testBit-xor (p x y) (either (o x y) (q x y) (r x y)) z
+          ∙ ap₂ _⊕_ (part-bits (moved x y ⊕ kept x y ⊕ o x y) x y z hz)
+          (either-bits (o x y) (q x y) (r x y) z
+          ∙ ap₂ (λ (s t : Bool). cond (o x y) (s || t) (s && t)) (part-bits (moved ((x + 1) % 5) y ⊕ true ⊕ o x y) ((x + 1) % 5) y z hz)
+          (part-bits (moved ((x + 2) % 5) y ⊕ o x y) ((x + 2) % 5) y z hz))
+          ∙ chi-bit (o x y) (kept x y) (moved x y) (moved ((x + 1) % 5) y) (moved ((x + 2) % 5) y) (testBit (at a x y) z) (testBit (at a ((x + 1) % 5) y) z) (testBit (at a ((x + 2) % 5) y) z)
 
   -- 25 lanes, laid out
   spread : length a ≡ 25 → a ≡ grid (at a)
@@ -237,6 +258,14 @@ module _ (a : List ℕ) (small : Lanes64 a) where
   pub lanes-array : length a ≡ 25 → a ≡ lanes (laneArray a)
   unfolding laneArray
   lanes-array len = spread len ∙ grid-lanes (at a) (laneArray a) at-lt (λ x y z hx hy hz. refl)
+
+  -- the lanes of `kept` complemented, one after the other
+  pub kept-lanes : length a ≡ 25
+      → complAt 20 (complAt 17 (complAt 12 (complAt 8 (complAt 2 (complAt 1 a))))) ≡ lanes (flip kept (laneArray a))
+  unfolding flip laneArray
+  kept-lanes len =
+      ap (λ (l : List ℕ). complAt 20 (complAt 17 (complAt 12 (complAt 8 (complAt 2 (complAt 1 l)))))) (spread len)
+      ∙ grid-lanes (keptLane a) (flip kept (laneArray a)) (λ x y. part-lt (kept x y) x y) (λ x y z hx hy hz. part-bits (kept x y) x y z hz)
 
   -- ι on lanes, where c is the round's constant
   pub iota-lanes : length a ≡ 25 → (c ir : ℕ) → c ≡ roundConstant ir → set a 0 (bitXor (getD a 0 0) c) ≡ lanes (ι (laneArray a) ir)

@@ -5,21 +5,19 @@ use mathlib.Core.Path.{_≡_, refl, sym, ap, ap₂, _∙_}
 use mathlib.Core.Bool.{Bool, true, false, cond, _&&_}
 use mathlib.Core.List.{List, _++_}
 use Prim.Native.Nat.{ℕ, suc, _+_, _-_, _*_, _/_, _%_, _<_}
-use native.Mathlib.Nat.{mod-lt}
 use native.Mathlib.Omega.{arith}
 use borrow.Author.Tests.{eqb-true}
 use lib.Dec.{eqb}
 use lib.ListN.{length, getD}
-use Rattle.bits.specs.Bits.{tabulate, testBit, fromBits}
+use Rattle.bits.specs.Bits.{tabulate}
 use Rattle.bits.specs.Xor.{_⊕_}
-use Rattle.bits.proofs.Numbers.{testBit-fromBits, fromBits-cong}
-use Rattle.bits.proofs.Tabulate.{getD-tabulate, tabulate-cong}
+use Rattle.bits.proofs.Tabulate.{getD-tabulate}
 use Rattle.bits.proofs.Tests.{and-true-left, and-true-right}
 use Rattle.bits.proofs.Xor.{taut, xor-self-right}
-use Rattle.permutation.specs.Permutation.{StateArray, columnParity, thetaEffect, θ, putLane, ρ, π, χ, RC, ι, Rnd, rounds, lane, lanes, laneArray}
-use Rattle.permutation.specs.Planes.{plane, planeArray, kept, moved, flip}
-use Rattle.permutation.proofs.Agree.{Agree, lanes-cong, array-lanes, chi-cong, iota-cong, round-cong, rounds-cong}
-use Rattle.permutation.proofs.Lanes.{Lanes64, lanes-array}
+use Rattle.permutation.specs.Permutation.{StateArray, columnParity, thetaEffect, θ, putLane, ρ, π, χ, RC, ι, Rnd, rounds, lanes, laneArray}
+use Rattle.permutation.specs.Planes.{plane, kept, moved, flip}
+use Rattle.permutation.proofs.Agree.{Agree, lanes-cong, array-lanes, rho-cong, pi-cong, chi-cong, iota-cong, round-cong, rounds-cong}
+use Rattle.permutation.proofs.Lanes.{Lanes64, lanes-array, plane-of}
 use Rattle.permutation.proofs.Offsets.{offset, rho-bits}
 
 -- a mapping that keeps agreement, on the lanes of X, gives the lanes of its value at X
@@ -32,6 +30,10 @@ after f keeps X t r e h =
 pub flip-cong : (M : ℕ → ℕ → Bool) (A B : StateArray) → Agree A B → Agree (flip M A) (flip M B)
 unfolding flip
 flip-cong M A B e x y z hx hy hz = ap (λ (b : Bool). b ⊕ M x y) (e x y z hx hy hz)
+
+-- so does χ with its complements
+chi-flip-cong : (A B : StateArray) → Agree A B → Agree (flip kept (χ (flip moved A))) (flip kept (χ (flip moved B)))
+chi-flip-cong A B e = flip-cong kept (χ (flip moved A)) (χ (flip moved B)) (chi-cong (flip moved A) (flip moved B) (flip-cong moved A B e))
 
 -- twice is not at all
 pub flip-flip : (M : ℕ → ℕ → Bool) (A : StateArray) → Agree (flip M (flip M A)) A
@@ -113,42 +115,26 @@ pub planes-lanes : (A : StateArray) → plane A 0 ++ (plane A 1 ++ (plane A 2 ++
 unfolding plane lanes
 planes-lanes A = refl
 
--- a plane through χ, with its complements
-pub through-chi : (B : StateArray) (y : ℕ) → y < 5 → (b p : List ℕ) → b ≡ plane B y → p ≡ plane (flip kept (χ (flip moved (planeArray b)))) y
-    → p ≡ plane (flip kept (χ (flip moved B))) y
-unfolding plane lane planeArray flip χ
-through-chi B y hy b p e h =
-    h ∙ tabulate-cong 5 (λ x. fromBits 64 (flip kept (χ (flip moved (planeArray b))) x y)) (λ x. fromBits 64 (flip kept (χ (flip moved B)) x y))
-    (λ x hx. fromBits-cong 64 (flip kept (χ (flip moved (planeArray b))) x y) (flip kept (χ (flip moved B)) x y) (λ z hz. same x z hx hz))
-  where
-    here : (x z : ℕ) → x < 5 → z < 64 → planeArray b x y z ≡ B x y z
-    here x z hx hz =
-        ap (λ (l : List ℕ). testBit (getD l x 0) z) e ∙ ap (λ (n : ℕ). testBit n z) (getD-tabulate 5 (λ x. fromBits 64 (B x y)) x 0 hx)
-        ∙ testBit-fromBits 64 (B x y) z hz
+-- a plane after the four steps
+pub plane-is : (X : StateArray) (t r p c : List ℕ) → t ≡ lanes (θ X) → r ≡ lanes (ρ (laneArray t)) → p ≡ lanes (π (laneArray r))
+    → c ≡ lanes (flip kept (χ (flip moved (laneArray p)))) → (y : ℕ) → y < 5
+    → tabulate 5 (λ x. getD c (5 * y + x) 0) ≡ plane (flip kept (χ (flip moved (π (ρ (θ X)))))) y
+plane-is X t r p c et er ep ec y hy =
+    plane-of (flip kept (χ (flip moved (π (ρ (θ X)))))) c
+    (after (λ A. flip kept (χ (flip moved A))) chi-flip-cong (π (ρ (θ X))) p c (after π pi-cong (ρ (θ X)) r p (after ρ rho-cong (θ X) t r et er) ep) ec) y hy
 
-    same : (x z : ℕ) → x < 5 → z < 64 → flip kept (χ (flip moved (planeArray b))) x y z ≡ flip kept (χ (flip moved B)) x y z
-    same x z hx hz =
-        ap₂ (λ (u v : Bool). ((u ⊕ moved x y) ⊕ v) ⊕ kept x y) (here x z hx hz)
-        (ap₂ (λ (u v : Bool). ((u ⊕ moved ((x + 1) % 5) y) ⊕ true) && (v ⊕ moved ((x + 2) % 5) y)) (here ((x + 1) % 5) z (mod-lt (x + 1) (omega arith)) hz)
-        (here ((x + 2) % 5) z (mod-lt (x + 2) (omega arith)) hz))
-
--- five planes after χ, and ι: the round
-pub round-is : (X : StateArray) (ir : ℕ) (b₀ b₁ b₂ b₃ b₄ p₀ p₁ p₂ p₃ p₄ j i : List ℕ)
-    → b₀ ≡ plane (π (ρ (θ X))) 0 → b₁ ≡ plane (π (ρ (θ X))) 1 → b₂ ≡ plane (π (ρ (θ X))) 2 → b₃ ≡ plane (π (ρ (θ X))) 3 → b₄ ≡ plane (π (ρ (θ X))) 4
-    → p₀ ≡ plane (flip kept (χ (flip moved (planeArray b₀)))) 0 → p₁ ≡ plane (flip kept (χ (flip moved (planeArray b₁)))) 1
-    → p₂ ≡ plane (flip kept (χ (flip moved (planeArray b₂)))) 2 → p₃ ≡ plane (flip kept (χ (flip moved (planeArray b₃)))) 3
-    → p₄ ≡ plane (flip kept (χ (flip moved (planeArray b₄)))) 4
+-- five planes after the four steps, and ι: the round
+pub round-is : (X : StateArray) (ir : ℕ) (p₀ p₁ p₂ p₃ p₄ j i : List ℕ)
+    → p₀ ≡ plane (flip kept (χ (flip moved (π (ρ (θ X)))))) 0 → p₁ ≡ plane (flip kept (χ (flip moved (π (ρ (θ X)))))) 1
+    → p₂ ≡ plane (flip kept (χ (flip moved (π (ρ (θ X)))))) 2 → p₃ ≡ plane (flip kept (χ (flip moved (π (ρ (θ X)))))) 3
+    → p₄ ≡ plane (flip kept (χ (flip moved (π (ρ (θ X)))))) 4
     → j ≡ p₀ ++ (p₁ ++ (p₂ ++ (p₃ ++ p₄))) → i ≡ lanes (ι (laneArray j) ir) → i ≡ lanes (flip kept (Rnd (flip kept X) ir))
 unfolding Rnd
-round-is X ir b₀ b₁ b₂ b₃ b₄ p₀ p₁ p₂ p₃ p₄ j i e₀ e₁ e₂ e₃ e₄ h₀ h₁ h₂ h₃ h₄ ej ei =
+round-is X ir p₀ p₁ p₂ p₃ p₄ j i e₀ e₁ e₂ e₃ e₄ ej ei =
     let B = π (ρ (θ X)) in
     let W = χ (flip moved B) in
     let U = χ (π (ρ (θ (flip kept X)))) in
-    let planes : j ≡ lanes (flip kept W) =
-    ej
-    ∙ ap₂ _++_ (through-chi B 0 (omega arith) b₀ p₀ e₀ h₀) (ap₂ _++_ (through-chi B 1 (omega arith) b₁ p₁ e₁ h₁)
-    (ap₂ _++_ (through-chi B 2 (omega arith) b₂ p₂ e₂ h₂) (ap₂ _++_ (through-chi B 3 (omega arith) b₃ p₃ e₃ h₃) (through-chi B 4 (omega arith) b₄ p₄ e₄ h₄))))
-    ∙ planes-lanes (flip kept W) in
+    let planes : j ≡ lanes (flip kept W) = ej ∙ ap₂ _++_ e₀ (ap₂ _++_ e₁ (ap₂ _++_ e₂ (ap₂ _++_ e₃ e₄))) ∙ planes-lanes (flip kept W) in
     after (λ A. ι A ir) (λ A B e. iota-cong A B e ir) (flip kept W) j i planes ei
     ∙ lanes-cong (ι (flip kept W) ir) (flip kept (ι W ir)) (iota-flip W ir)
     ∙ lanes-cong (flip kept (ι W ir)) (flip kept (ι U ir))

@@ -4,7 +4,7 @@ use mathlib.Core.Bool.{Bool, true, false}
 use mathlib.Core.List.{List, [], _∷_}
 use Prim.Native.Nat.{ℕ, _+_, _*_}
 use lib.ListN.{getD}
-use Rattle.bits.specs.Bits.{tabulate, testBit, fromBits}
+use Rattle.bits.specs.Bits.{tabulate, fromBits}
 use Rattle.bits.specs.Xor.{_⊕_}
 use Rattle.permutation.specs.Permutation.{StateArray, thetaEffect, lane}
 
@@ -15,10 +15,6 @@ plane A y = tabulate 5 (λ x. lane A x y)
 -- Algorithm 1, step 2: D[x, z], as the five lanes D[x]
 unfoldable pub effects : StateArray → List ℕ
 effects A = tabulate 5 (λ x. fromBits 64 (thetaEffect A x))
-
--- the state array each of whose planes has the five lanes b
-unfoldable pub planeArray : List ℕ → StateArray
-planeArray b x y z = testBit (getD b x 0) z
 
 -- whether lane (x, y) is kept complemented between the rounds
 abbrev pub kept : ℕ → ℕ → Bool

@@ -1,10 +1,11 @@
 // Keccak-f[1600] on 25 lanes: the step mappings, the round and the permutation (FIPS 202, section 3).
-// Lane (x, y) stands at 5 y + x, as in 3.1.3. A round goes plane by plane, so that few lanes are needed at a time, and six lanes
-// are kept complemented from round to round (specs/Planes.antt): then χ needs one complement for each plane.
+// Lane (x, y) stands at 5 y + x, as in 3.1.3. Six lanes are kept complemented from round to round (specs/Planes.antt): then χ
+// needs one complement for each plane. A round asks for the steps' result plane by plane: the compiler leaves of the steps what a
+// plane needs, so that few lanes are needed at a time.
 ghost use mathlib.Core.Path.{_≡_};
 ghost use mathlib.Core.List.{_++_};
 ghost use Rattle.permutation.specs.Permutation.{θ, ρ, π, χ, roundConstant, ι, Rnd, rounds, lanes, laneArray};
-ghost use Rattle.permutation.specs.Planes.{plane, effects, planeArray, kept, moved, flip};
+ghost use Rattle.permutation.specs.Planes.{plane, effects, kept, moved, flip};
 
 // RC[ir] of Algorithm 6, as lanes.
 const ROUND_CONSTANTS: [u64; 24] = [
@@ -51,194 +52,187 @@ fn theta_effect(a: [u64; 25]) -> [u64; 5]
     [d0, d1, d2, d3, d4]
 }
 
-// Algorithm 1, step 3, and Algorithms 2 and 3, for the plane 0: each lane with the parities d, rotated by its offset, at its new place.
-fn theta_rho_pi_0(a: [u64; 25], d: [u64; 5]) -> [u64; 5]
+// Algorithm 1, step 3: each lane with the parities d.
+fn theta(a: [u64; 25], d: [u64; 5]) -> [u64; 25]
     requires { ⌜ d ≡ effects (laneArray a) ⌝ }
-    ensures { λ r. ⌜ r ≡ plane (π (ρ (θ (laneArray a)))) 0 ⌝ }
+    ensures { λ r. ⌜ r ≡ lanes (θ (laneArray a)) ⌝ }
 {
-    let b0 = a[0] ^ d[0];
-    let b1 = a[6] ^ d[1];
-    let b2 = a[12] ^ d[2];
-    let b3 = a[18] ^ d[3];
-    let b4 = a[24] ^ d[4];
     [
-        b0,
-        (b1 << 44) | (b1 >> 20),
-        (b2 << 43) | (b2 >> 21),
-        (b3 << 21) | (b3 >> 43),
-        (b4 << 14) | (b4 >> 50),
+        a[0] ^ d[0],
+        a[1] ^ d[1],
+        a[2] ^ d[2],
+        a[3] ^ d[3],
+        a[4] ^ d[4],
+        a[5] ^ d[0],
+        a[6] ^ d[1],
+        a[7] ^ d[2],
+        a[8] ^ d[3],
+        a[9] ^ d[4],
+        a[10] ^ d[0],
+        a[11] ^ d[1],
+        a[12] ^ d[2],
+        a[13] ^ d[3],
+        a[14] ^ d[4],
+        a[15] ^ d[0],
+        a[16] ^ d[1],
+        a[17] ^ d[2],
+        a[18] ^ d[3],
+        a[19] ^ d[4],
+        a[20] ^ d[0],
+        a[21] ^ d[1],
+        a[22] ^ d[2],
+        a[23] ^ d[3],
+        a[24] ^ d[4],
     ]
+}
+
+// Algorithm 2: the lanes rotated, each by its offset.
+fn rho(a: [u64; 25]) -> [u64; 25]
+    ensures { λ r. ⌜ r ≡ lanes (ρ (laneArray a)) ⌝ }
+{
+    [
+        a[0],
+        (a[1] << 1) | (a[1] >> 63),
+        (a[2] << 62) | (a[2] >> 2),
+        (a[3] << 28) | (a[3] >> 36),
+        (a[4] << 27) | (a[4] >> 37),
+        (a[5] << 36) | (a[5] >> 28),
+        (a[6] << 44) | (a[6] >> 20),
+        (a[7] << 6) | (a[7] >> 58),
+        (a[8] << 55) | (a[8] >> 9),
+        (a[9] << 20) | (a[9] >> 44),
+        (a[10] << 3) | (a[10] >> 61),
+        (a[11] << 10) | (a[11] >> 54),
+        (a[12] << 43) | (a[12] >> 21),
+        (a[13] << 25) | (a[13] >> 39),
+        (a[14] << 39) | (a[14] >> 25),
+        (a[15] << 41) | (a[15] >> 23),
+        (a[16] << 45) | (a[16] >> 19),
+        (a[17] << 15) | (a[17] >> 49),
+        (a[18] << 21) | (a[18] >> 43),
+        (a[19] << 8) | (a[19] >> 56),
+        (a[20] << 18) | (a[20] >> 46),
+        (a[21] << 2) | (a[21] >> 62),
+        (a[22] << 61) | (a[22] >> 3),
+        (a[23] << 56) | (a[23] >> 8),
+        (a[24] << 14) | (a[24] >> 50),
+    ]
+}
+
+// Algorithm 3: the lanes rearranged.
+fn pi(a: [u64; 25]) -> [u64; 25]
+    ensures { λ r. ⌜ r ≡ lanes (π (laneArray a)) ⌝ }
+{
+    [
+        a[0],
+        a[6],
+        a[12],
+        a[18],
+        a[24],
+        a[3],
+        a[9],
+        a[10],
+        a[16],
+        a[22],
+        a[1],
+        a[7],
+        a[13],
+        a[19],
+        a[20],
+        a[4],
+        a[5],
+        a[11],
+        a[17],
+        a[23],
+        a[2],
+        a[8],
+        a[14],
+        a[15],
+        a[21],
+    ]
+}
+
+// Algorithm 4: each lane with the next two of its plane, by OR or by AND, as the complemented lanes ask.
+fn chi(a: [u64; 25]) -> [u64; 25]
+    ensures { λ r. ⌜ r ≡ lanes (flip kept (χ (flip moved (laneArray a)))) ⌝ }
+{
+    let n2 = !a[2];
+    let n9 = !a[9];
+    let n13 = !a[13];
+    let n18 = !a[18];
+    let n21 = !a[21];
+    [
+        a[0] ^ (a[1] | a[2]),
+        a[1] ^ (n2 | a[3]),
+        a[2] ^ (a[3] & a[4]),
+        a[3] ^ (a[4] | a[0]),
+        a[4] ^ (a[0] & a[1]),
+        a[5] ^ (a[6] | a[7]),
+        a[6] ^ (a[7] & a[8]),
+        a[7] ^ (a[8] | n9),
+        a[8] ^ (a[9] | a[5]),
+        a[9] ^ (a[5] & a[6]),
+        a[10] ^ (a[11] | a[12]),
+        a[11] ^ (a[12] & a[13]),
+        a[12] ^ (n13 & a[14]),
+        n13 ^ (a[14] | a[10]),
+        a[14] ^ (a[10] & a[11]),
+        a[15] ^ (a[16] & a[17]),
+        a[16] ^ (a[17] | a[18]),
+        a[17] ^ (n18 | a[19]),
+        n18 ^ (a[19] & a[15]),
+        a[19] ^ (a[15] | a[16]),
+        a[20] ^ (n21 & a[22]),
+        n21 ^ (a[22] | a[23]),
+        a[22] ^ (a[23] & a[24]),
+        a[23] ^ (a[24] | a[20]),
+        a[24] ^ (a[20] & a[21]),
+    ]
+}
+
+// The plane 0 after the four steps.
+fn plane_0(a: [u64; 25], d: [u64; 5]) -> [u64; 5]
+    requires { ⌜ d ≡ effects (laneArray a) ⌝ }
+    ensures { λ r. ⌜ r ≡ plane (flip kept (χ (flip moved (π (ρ (θ (laneArray a))))))) 0 ⌝ }
+{
+    let b = chi(pi(rho(theta(a, d))));
+    [b[0], b[1], b[2], b[3], b[4]]
 }
 
 // The same for the plane 1.
-fn theta_rho_pi_1(a: [u64; 25], d: [u64; 5]) -> [u64; 5]
+fn plane_1(a: [u64; 25], d: [u64; 5]) -> [u64; 5]
     requires { ⌜ d ≡ effects (laneArray a) ⌝ }
-    ensures { λ r. ⌜ r ≡ plane (π (ρ (θ (laneArray a)))) 1 ⌝ }
+    ensures { λ r. ⌜ r ≡ plane (flip kept (χ (flip moved (π (ρ (θ (laneArray a))))))) 1 ⌝ }
 {
-    let b0 = a[3] ^ d[3];
-    let b1 = a[9] ^ d[4];
-    let b2 = a[10] ^ d[0];
-    let b3 = a[16] ^ d[1];
-    let b4 = a[22] ^ d[2];
-    [
-        (b0 << 28) | (b0 >> 36),
-        (b1 << 20) | (b1 >> 44),
-        (b2 << 3) | (b2 >> 61),
-        (b3 << 45) | (b3 >> 19),
-        (b4 << 61) | (b4 >> 3),
-    ]
+    let b = chi(pi(rho(theta(a, d))));
+    [b[5], b[6], b[7], b[8], b[9]]
 }
 
 // The same for the plane 2.
-fn theta_rho_pi_2(a: [u64; 25], d: [u64; 5]) -> [u64; 5]
+fn plane_2(a: [u64; 25], d: [u64; 5]) -> [u64; 5]
     requires { ⌜ d ≡ effects (laneArray a) ⌝ }
-    ensures { λ r. ⌜ r ≡ plane (π (ρ (θ (laneArray a)))) 2 ⌝ }
+    ensures { λ r. ⌜ r ≡ plane (flip kept (χ (flip moved (π (ρ (θ (laneArray a))))))) 2 ⌝ }
 {
-    let b0 = a[1] ^ d[1];
-    let b1 = a[7] ^ d[2];
-    let b2 = a[13] ^ d[3];
-    let b3 = a[19] ^ d[4];
-    let b4 = a[20] ^ d[0];
-    [
-        (b0 << 1) | (b0 >> 63),
-        (b1 << 6) | (b1 >> 58),
-        (b2 << 25) | (b2 >> 39),
-        (b3 << 8) | (b3 >> 56),
-        (b4 << 18) | (b4 >> 46),
-    ]
+    let b = chi(pi(rho(theta(a, d))));
+    [b[10], b[11], b[12], b[13], b[14]]
 }
 
 // The same for the plane 3.
-fn theta_rho_pi_3(a: [u64; 25], d: [u64; 5]) -> [u64; 5]
+fn plane_3(a: [u64; 25], d: [u64; 5]) -> [u64; 5]
     requires { ⌜ d ≡ effects (laneArray a) ⌝ }
-    ensures { λ r. ⌜ r ≡ plane (π (ρ (θ (laneArray a)))) 3 ⌝ }
+    ensures { λ r. ⌜ r ≡ plane (flip kept (χ (flip moved (π (ρ (θ (laneArray a))))))) 3 ⌝ }
 {
-    let b0 = a[4] ^ d[4];
-    let b1 = a[5] ^ d[0];
-    let b2 = a[11] ^ d[1];
-    let b3 = a[17] ^ d[2];
-    let b4 = a[23] ^ d[3];
-    [
-        (b0 << 27) | (b0 >> 37),
-        (b1 << 36) | (b1 >> 28),
-        (b2 << 10) | (b2 >> 54),
-        (b3 << 15) | (b3 >> 49),
-        (b4 << 56) | (b4 >> 8),
-    ]
+    let b = chi(pi(rho(theta(a, d))));
+    [b[15], b[16], b[17], b[18], b[19]]
 }
 
 // The same for the plane 4.
-fn theta_rho_pi_4(a: [u64; 25], d: [u64; 5]) -> [u64; 5]
+fn plane_4(a: [u64; 25], d: [u64; 5]) -> [u64; 5]
     requires { ⌜ d ≡ effects (laneArray a) ⌝ }
-    ensures { λ r. ⌜ r ≡ plane (π (ρ (θ (laneArray a)))) 4 ⌝ }
+    ensures { λ r. ⌜ r ≡ plane (flip kept (χ (flip moved (π (ρ (θ (laneArray a))))))) 4 ⌝ }
 {
-    let b0 = a[2] ^ d[2];
-    let b1 = a[8] ^ d[3];
-    let b2 = a[14] ^ d[4];
-    let b3 = a[15] ^ d[0];
-    let b4 = a[21] ^ d[1];
-    [
-        (b0 << 62) | (b0 >> 2),
-        (b1 << 55) | (b1 >> 9),
-        (b2 << 39) | (b2 >> 25),
-        (b3 << 41) | (b3 >> 23),
-        (b4 << 2) | (b4 >> 62),
-    ]
-}
-
-// Algorithm 4 for the plane 0: each lane with the next two of its plane, by OR or by AND, as its complemented lanes ask.
-fn chi_0(b: [u64; 5]) -> [u64; 5]
-    ensures { λ r. ⌜ r ≡ plane (flip kept (χ (flip moved (planeArray b)))) 0 ⌝ }
-{
-    let b0 = b[0];
-    let b1 = b[1];
-    let b2 = b[2];
-    let b3 = b[3];
-    let b4 = b[4];
-    let n2 = !b2;
-    [
-        b0 ^ (b1 | b2),
-        b1 ^ (n2 | b3),
-        b2 ^ (b3 & b4),
-        b3 ^ (b4 | b0),
-        b4 ^ (b0 & b1),
-    ]
-}
-
-// The same for the plane 1.
-fn chi_1(b: [u64; 5]) -> [u64; 5]
-    ensures { λ r. ⌜ r ≡ plane (flip kept (χ (flip moved (planeArray b)))) 1 ⌝ }
-{
-    let b0 = b[0];
-    let b1 = b[1];
-    let b2 = b[2];
-    let b3 = b[3];
-    let b4 = b[4];
-    let n4 = !b4;
-    [
-        b0 ^ (b1 | b2),
-        b1 ^ (b2 & b3),
-        b2 ^ (b3 | n4),
-        b3 ^ (b4 | b0),
-        b4 ^ (b0 & b1),
-    ]
-}
-
-// The same for the plane 2.
-fn chi_2(b: [u64; 5]) -> [u64; 5]
-    ensures { λ r. ⌜ r ≡ plane (flip kept (χ (flip moved (planeArray b)))) 2 ⌝ }
-{
-    let b0 = b[0];
-    let b1 = b[1];
-    let b2 = b[2];
-    let b3 = b[3];
-    let b4 = b[4];
-    let n3 = !b3;
-    [
-        b0 ^ (b1 | b2),
-        b1 ^ (b2 & b3),
-        b2 ^ (n3 & b4),
-        n3 ^ (b4 | b0),
-        b4 ^ (b0 & b1),
-    ]
-}
-
-// The same for the plane 3.
-fn chi_3(b: [u64; 5]) -> [u64; 5]
-    ensures { λ r. ⌜ r ≡ plane (flip kept (χ (flip moved (planeArray b)))) 3 ⌝ }
-{
-    let b0 = b[0];
-    let b1 = b[1];
-    let b2 = b[2];
-    let b3 = b[3];
-    let b4 = b[4];
-    let n3 = !b3;
-    [
-        b0 ^ (b1 & b2),
-        b1 ^ (b2 | b3),
-        b2 ^ (n3 | b4),
-        n3 ^ (b4 & b0),
-        b4 ^ (b0 | b1),
-    ]
-}
-
-// The same for the plane 4.
-fn chi_4(b: [u64; 5]) -> [u64; 5]
-    ensures { λ r. ⌜ r ≡ plane (flip kept (χ (flip moved (planeArray b)))) 4 ⌝ }
-{
-    let b0 = b[0];
-    let b1 = b[1];
-    let b2 = b[2];
-    let b3 = b[3];
-    let b4 = b[4];
-    let n1 = !b1;
-    [
-        b0 ^ (n1 & b2),
-        n1 ^ (b2 | b3),
-        b2 ^ (b3 & b4),
-        b3 ^ (b4 | b0),
-        b4 ^ (b0 & b1),
-    ]
+    let b = chi(pi(rho(theta(a, d))));
+    [b[20], b[21], b[22], b[23], b[24]]
 }
 
 // The state array of five planes.
@@ -290,11 +284,11 @@ fn round_0(a: [u64; 25], ir: usize, c: u64) -> [u64; 25]
     ensures { λ r. ⌜ r ≡ lanes (flip kept (Rnd (flip kept (laneArray a)) ir)) ⌝ }
 {
     let d = theta_effect(a);
-    let p1 = chi_1(theta_rho_pi_1(a, d));
-    let p0 = chi_0(theta_rho_pi_0(a, d));
-    let p2 = chi_2(theta_rho_pi_2(a, d));
-    let p4 = chi_4(theta_rho_pi_4(a, d));
-    let p3 = chi_3(theta_rho_pi_3(a, d));
+    let p1 = plane_1(a, d);
+    let p0 = plane_0(a, d);
+    let p2 = plane_2(a, d);
+    let p4 = plane_4(a, d);
+    let p3 = plane_3(a, d);
     iota(join(p0, p1, p2, p3, p4), ir, c)
 }
 
@@ -304,11 +298,11 @@ fn round_1(a: [u64; 25], ir: usize, c: u64) -> [u64; 25]
     ensures { λ r. ⌜ r ≡ lanes (flip kept (Rnd (flip kept (laneArray a)) ir)) ⌝ }
 {
     let d = theta_effect(a);
-    let p1 = chi_1(theta_rho_pi_1(a, d));
-    let p0 = chi_0(theta_rho_pi_0(a, d));
-    let p2 = chi_2(theta_rho_pi_2(a, d));
-    let p4 = chi_4(theta_rho_pi_4(a, d));
-    let p3 = chi_3(theta_rho_pi_3(a, d));
+    let p1 = plane_1(a, d);
+    let p0 = plane_0(a, d);
+    let p2 = plane_2(a, d);
+    let p4 = plane_4(a, d);
+    let p3 = plane_3(a, d);
     iota(join(p0, p1, p2, p3, p4), ir, c)
 }
 
@@ -318,11 +312,11 @@ fn round_2(a: [u64; 25], ir: usize, c: u64) -> [u64; 25]
     ensures { λ r. ⌜ r ≡ lanes (flip kept (Rnd (flip kept (laneArray a)) ir)) ⌝ }
 {
     let d = theta_effect(a);
-    let p1 = chi_1(theta_rho_pi_1(a, d));
-    let p0 = chi_0(theta_rho_pi_0(a, d));
-    let p2 = chi_2(theta_rho_pi_2(a, d));
-    let p4 = chi_4(theta_rho_pi_4(a, d));
-    let p3 = chi_3(theta_rho_pi_3(a, d));
+    let p1 = plane_1(a, d);
+    let p0 = plane_0(a, d);
+    let p2 = plane_2(a, d);
+    let p4 = plane_4(a, d);
+    let p3 = plane_3(a, d);
     iota(join(p0, p1, p2, p3, p4), ir, c)
 }
 
@@ -332,45 +326,25 @@ fn round_3(a: [u64; 25], ir: usize, c: u64) -> [u64; 25]
     ensures { λ r. ⌜ r ≡ lanes (flip kept (Rnd (flip kept (laneArray a)) ir)) ⌝ }
 {
     let d = theta_effect(a);
-    let p1 = chi_1(theta_rho_pi_1(a, d));
-    let p0 = chi_0(theta_rho_pi_0(a, d));
-    let p2 = chi_2(theta_rho_pi_2(a, d));
-    let p4 = chi_4(theta_rho_pi_4(a, d));
-    let p3 = chi_3(theta_rho_pi_3(a, d));
+    let p1 = plane_1(a, d);
+    let p0 = plane_0(a, d);
+    let p2 = plane_2(a, d);
+    let p4 = plane_4(a, d);
+    let p3 = plane_3(a, d);
     iota(join(p0, p1, p2, p3, p4), ir, c)
 }
 
 // The lanes that are kept complemented between the rounds, complemented.
-fn complemented(a: [u64; 25]) -> [u64; 25]
+fn complemented(mut a: [u64; 25]) -> [u64; 25]
     ensures { λ r. ⌜ r ≡ lanes (flip kept (laneArray a)) ⌝ }
 {
-    [
-        a[0],
-        !a[1],
-        !a[2],
-        a[3],
-        a[4],
-        a[5],
-        a[6],
-        a[7],
-        !a[8],
-        a[9],
-        a[10],
-        a[11],
-        !a[12],
-        a[13],
-        a[14],
-        a[15],
-        a[16],
-        !a[17],
-        a[18],
-        a[19],
-        !a[20],
-        a[21],
-        a[22],
-        a[23],
-        a[24],
-    ]
+    a[1] = !a[1];
+    a[2] = !a[2];
+    a[8] = !a[8];
+    a[12] = !a[12];
+    a[17] = !a[17];
+    a[20] = !a[20];
+    a
 }
 
 // 3.4: Keccak-f[1600], the 24 rounds, four in each turn. The table is laid down once, before the loop.

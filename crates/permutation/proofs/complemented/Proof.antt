@@ -10,7 +10,7 @@ use Rattle.permutation.proofs.complemented.Statement.{statement}
 use Rattle.permutation.proofs.complemented.Tie as tie
 
 returns : tie.Need-returns
-returns c = kept-lanes (c .args .t1) (λ k. let h : Fits w64 (getD (c .args .t1) k 0) = search needs in h .fits)
+returns c = kept-lanes (c .args .t1) (λ k. let h : Fits w64 (getD (c .args .t1) k 0) = search needs in h .fits) (search needs)
 
 pub complemented-spec : {M : Type 1} → statement M
 complemented-spec =
@@ -18,7 +18,5 @@ complemented-spec =
     (tie.spec
     (λ c. lit< tt) (λ c. lit< tt) (λ c. lit< tt) (λ c. lit< tt) (λ c. lit< tt)
     (λ c. lit< tt) (λ c. lit< tt) (λ c. lit< tt) (λ c. lit< tt) (λ c. lit< tt)
-    (λ c. lit< tt) (λ c. lit< tt) (λ c. lit< tt) (λ c. lit< tt) (λ c. lit< tt)
-    (λ c. lit< tt) (λ c. lit< tt) (λ c. lit< tt) (λ c. lit< tt) (λ c. lit< tt)
-    (λ c. lit< tt) (λ c. lit< tt) (λ c. lit< tt) (λ c. lit< tt) (λ c. lit< tt)
+    (λ c. lit< tt) (λ c. lit< tt)
     returns)

@@ -1,0 +1,25 @@
+-- `permutation::pi` meets its contract: it computes π on lanes. Each index is below 25.
+-- Assumes nothing.
+use borrow.Author.Needs.{needs}
+use lib.Dec.{lit<}
+use lib.ListN.{getD}
+use mir.Syntax.{w64}
+use mir.Val.{Fits}
+use Rattle.permutation.proofs.Lanes.{pi-lanes}
+use Rattle.permutation.proofs.pi.Statement.{statement}
+use Rattle.permutation.proofs.pi.Tie as tie
+
+returns : tie.Need-returns
+returns c =
+    pi-lanes (c .args .t1) (λ k. let h : Fits w64 (getD (c .args .t1) k 0) = search needs in h .fits)
+
+pub pi-spec : {M : Type 1} → statement M
+pi-spec =
+    tie.close
+    (tie.spec
+    (λ c. lit< tt) (λ c. lit< tt) (λ c. lit< tt) (λ c. lit< tt) (λ c. lit< tt)
+    (λ c. lit< tt) (λ c. lit< tt) (λ c. lit< tt) (λ c. lit< tt) (λ c. lit< tt)
+    (λ c. lit< tt) (λ c. lit< tt) (λ c. lit< tt) (λ c. lit< tt) (λ c. lit< tt)
+    (λ c. lit< tt) (λ c. lit< tt) (λ c. lit< tt) (λ c. lit< tt) (λ c. lit< tt)
+    (λ c. lit< tt) (λ c. lit< tt) (λ c. lit< tt) (λ c. lit< tt) (λ c. lit< tt)
+    returns)
