@@ -13,6 +13,8 @@ use lib.Pow.{pow-pos, pow-lt}
 use lib.ListN.{length, take, drop, replicate, length-append, length-take, length-drop, drop-of-length-le}
 use lib.Seq.{take-all, take-at, drop-at, length-take-le}
 use borrow.Rule.Slice.PartMut.{putMid}
+use mir.Syntax.{w32}
+use mir.Val.{Fits}
 use Rattle.seeds.specs.Tree.{children, leftChild, rightChild, leavesBelow, siblingsBelow, openedBelow}
 
 -- what is left of a height that is not 0
@@ -96,6 +98,70 @@ right-length c l = length-take-le 16 (drop 16 c) (rw length-drop (omega arith))
 -- what is left after the first sibling
 pub rest-length : (s : List ℕ) → length (take (length s - 16) (drop 16 s)) ≡ length s - 16
 rest-length s = length-take-le (length s - 16) (drop 16 s) (rw length-drop (omega arith))
+
+-- the height of a child is below that of its node
+pub falls-one : {t h : ℕ} → h ≡ t → 1 ≤ h → h - 1 < t
+falls-one e some = omega arith
+
+-- the numbers of a node's children fit 32 bits
+pub twice-fits : {k h : ℕ} → Room k h → Fits w32 (2 * k)
+twice-fits r = record { fits = omega arith }
+
+pub twice-one-fits : {k h : ℕ} → Room k h → Fits w32 (2 * k + 1)
+twice-one-fits r = record { fits = omega arith }
+
+-- leaf p of the right child
+pub right-leaf : {k h p half : ℕ} → Room k h → half ≡ 2 ^ (h - 1) → half ≤ p → p < 2 ^ h → p - half < 2 ^ (h - 1)
+right-leaf r e w v = omega arith
+
+-- the first 16 of 16 h places
+pub first-fits : {h n : ℕ} → 1 ≤ h → n ≡ 16 * h → 16 ≤ n
+first-fits some e = omega arith
+
+pub first-length : {h : ℕ} (s : List ℕ) → 1 ≤ h → length s ≡ 16 * h → length (take 16 s) ≡ 16
+first-length s some e = length-take-le 16 s (first-fits some e)
+
+pub left-length : (c : List ℕ) → length c ≡ 32 → length (take 16 c) ≡ 16
+left-length c l = length-take-le 16 c (omega arith)
+
+-- what is left of 16 h places
+pub rest-is : (h : ℕ) (s : List ℕ) → length s ≡ 16 * h → length (take (length s - 16) (drop 16 s)) ≡ 16 * (h - 1)
+rest-is h s e = rest-length s ∙ omega arith
+
+-- half of the places
+pub half-le : (n : ℕ) → n / 2 ≤ n
+half-le n = omega arith
+
+pub half-length : (out : List ℕ) → length (take (length out / 2) out) ≡ length out / 2
+half-length out = length-take-le (length out / 2) out (half-le (length out))
+
+pub half-is : {k h : ℕ} (out : List ℕ) → Room k h → length out ≡ 16 * 2 ^ h → length (take (length out / 2) out) ≡ 16 * 2 ^ (h - 1)
+half-is out r o = half-length out ∙ omega arith
+
+-- places of which the first half is written
+module _ (out L : List ℕ) (l : length L ≡ length (take (length out / 2) out)) where
+  pub halves-room : length out / 2 ≤ length (L ++ drop (length out / 2) out)
+  halves-room = rw (both-length out L (length out / 2) (l ∙ half-length out) (half-le (length out))) (half-le (length out))
+
+  pub halves-second : {k h : ℕ} → Room k h → length out ≡ 16 * 2 ^ h
+      → length (take (length (L ++ drop (length out / 2) out) - length out / 2) (drop (length out / 2) (L ++ drop (length out / 2) out))) ≡ 16 * 2 ^ (h - 1)
+  halves-second r o = second-part out L (length out / 2) (l ∙ half-length out) (half-le (length out)) ∙ omega arith
+
+  pub halves-kept : (R : List ℕ) → length R ≡ length (take (length (L ++ drop (length out / 2) out) - length out / 2) (drop (length out / 2) (L ++ drop (length out / 2) out)))
+      → length (putMid (length out / 2) (length (L ++ drop (length out / 2) out) - length out / 2) (L ++ drop (length out / 2) out) R) ≡ length out
+  halves-kept R = both-kept out L R (length out / 2) (l ∙ half-length out) (half-le (length out))
+
+-- 16 h places, of which the first 16 are written
+module _ (h : ℕ) (out L : List ℕ) (some : 1 ≤ h) (o : length out ≡ 16 * h) (l : length L ≡ length (take 16 out)) where
+  pub first-room : 16 ≤ length (L ++ drop 16 out)
+  first-room = rw (both-length out L 16 (l ∙ first-length out some o) (first-fits some o)) (first-fits some o)
+
+  pub first-second : length (take (length (L ++ drop 16 out) - 16) (drop 16 (L ++ drop 16 out))) ≡ 16 * (h - 1)
+  first-second = second-part out L 16 (l ∙ first-length out some o) (first-fits some o) ∙ omega arith
+
+  pub first-kept : (R : List ℕ) → length R ≡ length (take (length (L ++ drop 16 out) - 16) (drop 16 (L ++ drop 16 out)))
+      → length (putMid 16 (length (L ++ drop 16 out) - 16) (L ++ drop 16 out) R) ≡ length out
+  first-kept R = both-kept out L R 16 (l ∙ first-length out some o) (first-fits some o)
 
 -- a leaf is its own subtree
 pub leaves-none : (j k h : ℕ) (v : List ℕ) → h ≡ 0 → v ≡ leavesBelow j h k v

@@ -1,12 +1,11 @@
 -- `seeds::tree::leaves_below` meets its contract: by the remaining height: the leaves below the left child, then those below the right one.
 -- Assumes nothing.
-use Rattle.seeds.proofs.Nodes.{room, leaves-joined, leaves-none, both-length, both-kept, second-part, right-length}
-use lib.Seq.{length-take-le}
+use Rattle.seeds.proofs.Nodes.{room, leaves-joined, leaves-none, falls-one, twice-fits, twice-one-fits, left-length, right-length, half-le, half-length, half-is, halves-room, halves-second, halves-kept}
+use native.Mathlib.Nat.{le-refl}
 use borrow.Author.Needs.{needs}
 use native.Mathlib.Omega.{arith}
 use mathlib.Core.Path.{refl, sym, ap, _∙_}
-use lib.ListN.{length}
-use Prim.Native.Nat.{ℕ, _<_, _*_, _/_, _^_}
+use Prim.Native.Nat.{ℕ, _<_, _*_, _^_}
 use borrow.Fn.Kinds.{In}
 use borrow.Fn.PlainCycle.{Measures, is, falls, and}
 use Rattle.seeds.proofs.tree.leaves_below.Reads as leaves-below
@@ -53,7 +52,7 @@ leaves-below-children-requires : (t : ℕ) → leaves-below-lts.Need-children-re
 leaves-below-children-requires t c κs = refl
 
 leaves-below-mul-leaves-below : (t : ℕ) → leaves-below-lts.Need-mul-leaves-below (calls t) (leaves-below-at t) leaves-below.Post
-leaves-below-mul-leaves-below t c = let r = room (c .before .before .before .before .before .before .args .k) (c .before .before .before .before .before .before .args .h) (c .before .before .before .if1 .left) (c .before .before .before .before .before .before .pre .1 .1 .1) in record { fits = omega arith }
+leaves-below-mul-leaves-below t c = twice-fits (room (c .before .before .before .before .before .before .args .k) (c .before .before .before .before .before .before .args .h) (c .before .before .before .if1 .left) (c .before .before .before .before .before .before .pre .1 .1 .1))
 
 leaves-below-sub-leaves-below : (t : ℕ) → leaves-below-lts.Need-sub-leaves-below (calls t) (leaves-below-at t) leaves-below.Post
 leaves-below-sub-leaves-below t c = let r = room (c .before .before .before .before .before .before .args .k) (c .before .before .before .before .before .before .args .h) (c .before .before .before .if1 .left) (c .before .before .before .before .before .before .pre .1 .1 .1) in r .some
@@ -62,30 +61,30 @@ leaves-below-array-share-prefix-c : (t : ℕ) → leaves-below-lts.Need-array-sh
 leaves-below-array-share-prefix-c t c = omega (arith, c .before .children .kept .1 .1 .1 .0)
 
 leaves-below-slice-aggregate-leaves-below : (t : ℕ) → leaves-below-lts.Need-slice-aggregate-leaves-below (calls t) (leaves-below-at t) leaves-below.Post
-leaves-below-slice-aggregate-leaves-below t c = sym (length-take-le 16 (c .before .before .children .last .1 .1 .1 .0) (omega (arith, c .before .before .children .kept .1 .1 .1 .0)))
+leaves-below-slice-aggregate-leaves-below t c = sym (left-length (c .before .before .children .last .1 .1 .1 .0) (c .before .before .children .kept .1 .1 .1 .0))
 
 leaves-below-slice-relend-prefix-leaves-below : (t : ℕ) → leaves-below-lts.Need-slice-relend-prefix-leaves-below (calls t) (leaves-below-at t) leaves-below.Post
-leaves-below-slice-relend-prefix-leaves-below t c = omega arith
+leaves-below-slice-relend-prefix-leaves-below t c = half-le _
 
 leaves-below-slice-aggregate-leaves-below-2 : (t : ℕ) → leaves-below-lts.Need-slice-aggregate-leaves-below-2 (calls t) (leaves-below-at t) leaves-below.Post
-leaves-below-slice-aggregate-leaves-below-2 t c = sym (length-take-le _ _ (omega arith))
+leaves-below-slice-aggregate-leaves-below-2 t c = sym (half-length (c .before .before .before .before .before .before .before .before .args .out .now))
 
 leaves-below-leaves-below-requires : (t : ℕ) → leaves-below-lts.Need-leaves-below-requires (calls t) (leaves-below-at t) leaves-below.Post
 leaves-below-leaves-below-requires t c κs =
     let b = c .before .before .before .before .before .before .before .before in
     let r = room (c .before .before .before .before .before .before .before .before .args .k) (c .before .before .before .before .before .before .before .before .args .h) (c .before .before .before .before .before .if1 .left) (c .before .before .before .before .before .before .before .before .pre .1 .1 .1) in (
-      omega (arith, b .pre .0),
+      falls-one (b .pre .0) (r .some),
       (
-        length-take-le 16 (c .before .before .before .children .last .1 .1 .1 .0) (omega (arith, c .before .before .before .children .kept .1 .1 .1 .0)),
-        (length-take-le (length (b .args .out .now) / 2) (b .args .out .now) (omega arith) ∙ omega (arith, b .pre .1 .1 .0), r .left),
+        left-length (c .before .before .before .children .last .1 .1 .1 .0) (c .before .before .before .children .kept .1 .1 .1 .0),
+        (half-is (b .args .out .now) r (b .pre .1 .1 .0), r .left),
       ),
     )
 
 leaves-below-mul-leaves-below-2 : (t : ℕ) → leaves-below-lts.Need-mul-leaves-below-2 (calls t) (leaves-below-at t) leaves-below.Post
-leaves-below-mul-leaves-below-2 t c = let r = room (c .before .before .before .before .before .before .before .before .before .before .before .args .k) (c .before .before .before .before .before .before .before .before .before .before .before .args .h) (c .before .before .before .before .before .before .before .before .if1 .left) (c .before .before .before .before .before .before .before .before .before .before .before .pre .1 .1 .1) in record { fits = omega arith }
+leaves-below-mul-leaves-below-2 t c = twice-fits (room (c .before .before .before .before .before .before .before .before .before .before .before .args .k) (c .before .before .before .before .before .before .before .before .before .before .before .args .h) (c .before .before .before .before .before .before .before .before .if1 .left) (c .before .before .before .before .before .before .before .before .before .before .before .pre .1 .1 .1))
 
 leaves-below-add-leaves-below : (t : ℕ) → leaves-below-lts.Need-add-leaves-below (calls t) (leaves-below-at t) leaves-below.Post
-leaves-below-add-leaves-below t c = let r = room (c .before .before .before .before .before .before .before .before .before .before .before .args .k) (c .before .before .before .before .before .before .before .before .before .before .before .args .h) (c .before .before .before .before .before .before .before .before .if1 .left) (c .before .before .before .before .before .before .before .before .before .before .before .pre .1 .1 .1) in record { fits = omega arith }
+leaves-below-add-leaves-below t c = twice-one-fits (room (c .before .before .before .before .before .before .before .before .before .before .before .args .k) (c .before .before .before .before .before .before .before .before .before .before .before .args .h) (c .before .before .before .before .before .before .before .before .if1 .left) (c .before .before .before .before .before .before .before .before .before .before .before .pre .1 .1 .1))
 
 leaves-below-sub-leaves-below-2 : (t : ℕ) → leaves-below-lts.Need-sub-leaves-below-2 (calls t) (leaves-below-at t) leaves-below.Post
 leaves-below-sub-leaves-below-2 t c = let r = room (c .before .before .before .before .before .before .before .before .before .before .before .args .k) (c .before .before .before .before .before .before .before .before .before .before .before .args .h) (c .before .before .before .before .before .before .before .before .if1 .left) (c .before .before .before .before .before .before .before .before .before .before .before .pre .1 .1 .1) in r .some
@@ -100,27 +99,22 @@ leaves-below-part-leaves-below-end : (t : ℕ) → leaves-below-lts.Need-part-le
 leaves-below-part-leaves-below-end t c = search needs
 
 leaves-below-sub-leaves-below-4 : (t : ℕ) → leaves-below-lts.Need-sub-leaves-below-4 (calls t) (leaves-below-at t) leaves-below.Post
-leaves-below-sub-leaves-below-4 t c =
-    let o = c .before .before .before .before .before .before .before .before .before .before .before .before .before .args .out .now in
-    let l = c .before .before .before .before .leaves-below .kept .1 .1 .1 .1 .0 ∙ length-take-le (length o / 2) o (omega arith) in
-    rw (both-length o _ (length o / 2) l (omega arith)) (omega arith)
+leaves-below-sub-leaves-below-4 t c = halves-room (c .before .before .before .before .before .before .before .before .before .before .before .before .before .args .out .now) (c .before .before .before .before .leaves-below .last .1 .1 .1 .1 .0) (c .before .before .before .before .leaves-below .kept .1 .1 .1 .1 .0)
 
 leaves-below-part-leaves-below-start-2 : (t : ℕ) → leaves-below-lts.Need-part-leaves-below-start-2 (calls t) (leaves-below-at t) leaves-below.Post
-leaves-below-part-leaves-below-start-2 t c = search needs
+leaves-below-part-leaves-below-start-2 t c = leaves-below-sub-leaves-below-4 t c
 
 leaves-below-part-leaves-below-end-2 : (t : ℕ) → leaves-below-lts.Need-part-leaves-below-end-2 (calls t) (leaves-below-at t) leaves-below.Post
-leaves-below-part-leaves-below-end-2 t c = search needs
+leaves-below-part-leaves-below-end-2 t c = le-refl _
 
 leaves-below-leaves-below-requires-2 : (t : ℕ) → leaves-below-lts.Need-leaves-below-requires-2 (calls t) (leaves-below-at t) leaves-below.Post
 leaves-below-leaves-below-requires-2 t c κs =
     let b = c .before .before .before .before .before .before .before .before .before .before .before .before .before .before in
-    let r = room (c .before .before .before .before .before .before .before .before .before .before .before .before .before .before .args .k) (c .before .before .before .before .before .before .before .before .before .before .before .before .before .before .args .h) (c .before .before .before .before .before .before .before .before .before .before .before .if1 .left) (c .before .before .before .before .before .before .before .before .before .before .before .before .before .before .pre .1 .1 .1) in
-    let o = b .args .out .now in
-    let l = c .before .before .before .before .before .leaves-below .kept .1 .1 .1 .1 .0 ∙ length-take-le (length o / 2) o (omega arith) in (
-      omega (arith, b .pre .0),
+    let r = room (c .before .before .before .before .before .before .before .before .before .before .before .before .before .before .args .k) (c .before .before .before .before .before .before .before .before .before .before .before .before .before .before .args .h) (c .before .before .before .before .before .before .before .before .before .before .before .if1 .left) (c .before .before .before .before .before .before .before .before .before .before .before .before .before .before .pre .1 .1 .1) in (
+      falls-one (b .pre .0) (r .some),
       (
         right-length (c .before .before .before .before .before .before .before .before .before .children .last .1 .1 .1 .0) (c .before .before .before .before .before .before .before .before .before .children .kept .1 .1 .1 .0),
-        (second-part o (c .before .before .before .before .before .leaves-below .last .1 .1 .1 .1 .0) (length o / 2) l (omega arith) ∙ omega (arith, b .pre .1 .1 .0), r .right),
+        (halves-second (b .args .out .now) (c .before .before .before .before .before .leaves-below .last .1 .1 .1 .1 .0) (c .before .before .before .before .before .leaves-below .kept .1 .1 .1 .1 .0) r (b .pre .1 .1 .0), r .right),
       ),
     )
 
@@ -131,9 +125,7 @@ leaves-below-returns : (t : ℕ) → leaves-below-lts.Need-returns (calls t) (le
 leaves-below-returns t c = c .before .before .copy .ensures ∙ leaves-none (c .before .before .before .before .before .before .before .args .j) (c .before .before .before .before .before .before .before .args .k) (c .before .before .before .before .before .before .before .args .h) (c .before .before .before .before .before .before .before .args .value .now) (c .before .before .before .before .if1 .taken)
 
 leaves-below-same-length-2 : (t : ℕ) → leaves-below-lts.Need-same-length-2 (calls t) (leaves-below-at t) leaves-below.Post
-leaves-below-same-length-2 t c =
-    let o = c .before .before .before .before .before .before .before .before .before .before .before .before .before .before .before .before .before .args .out .now in
-    both-kept o (c .before .before .before .before .before .before .before .before .leaves-below .last .1 .1 .1 .1 .0) (c .before .before .leaves-below2 .last .1 .1 .1 .1 .0) (length o / 2) (c .before .before .before .before .before .before .before .before .leaves-below .kept .1 .1 .1 .1 .0 ∙ length-take-le (length o / 2) o (omega arith)) (omega arith) (c .before .before .leaves-below2 .kept .1 .1 .1 .1 .0)
+leaves-below-same-length-2 t c = halves-kept (c .before .before .before .before .before .before .before .before .before .before .before .before .before .before .before .before .before .args .out .now) (c .before .before .before .before .before .before .before .before .leaves-below .last .1 .1 .1 .1 .0) (c .before .before .before .before .before .before .before .before .leaves-below .kept .1 .1 .1 .1 .0) (c .before .before .leaves-below2 .last .1 .1 .1 .1 .0) (c .before .before .leaves-below2 .kept .1 .1 .1 .1 .0)
 
 leaves-below-returns-2 : (t : ℕ) → leaves-below-lts.Need-returns-2 (calls t) (leaves-below-at t) leaves-below.Post
 leaves-below-returns-2 t c =
