@@ -1,7 +1,7 @@
 //! Hashing: absorbing, squeezing, and the tapes of an instance.
 
 use crate::openssl::OpenSsl;
-use crate::rows::{call, digest, megabytes_per_second, Call, Row, Table};
+use crate::rows::{call, digest, megabytes_per_second, Call, Row, Table, ROUNDS};
 use reference::fips202;
 use std::hint::black_box;
 
@@ -19,7 +19,7 @@ pub fn table<'a>(message: &'a [u8], openssl: Option<&'a OpenSsl>) -> Table<'a> {
     rows.push(tapes_row(openssl));
     Table {
         title: "MB/s; B is a byte, MB a million".into(),
-        rounds: 40,
+        rounds: ROUNDS,
         told: megabytes_per_second,
         rows,
     }

@@ -1,6 +1,6 @@
 //! Runs and replays of the worst circuit, and the challenge.
 
-use crate::rows::{call, nanoseconds_each, Call, Row, Table};
+use crate::rows::{call, nanoseconds_each, Call, Row, Table, ROUNDS};
 use reference::bits::clear_rest;
 use reference::circuit::Sizes;
 use reference::seeds;
@@ -85,7 +85,7 @@ pub fn gates_table(instance: &Instance) -> Table<'_> {
     let Sizes { inputs, ands, .. } = instance.sizes;
     Table {
         title: format!("ns for each AND gate and party, I {inputs}, A {ands}, n {PARTIES}"),
-        rounds: 40,
+        rounds: ROUNDS,
         told: nanoseconds_each,
         rows: vec![
             prepare_row(instance),
@@ -178,7 +178,7 @@ fn replay_row(instance: &Instance) -> Row<'_> {
 pub fn challenge_table() -> Table<'static> {
     Table {
         title: "ns for each chosen instance".into(),
-        rounds: 40,
+        rounds: ROUNDS,
         told: nanoseconds_each,
         rows: [1, 64, 256, 511].map(challenge_row).into(),
     }

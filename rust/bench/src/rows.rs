@@ -3,8 +3,12 @@
 use std::hint::black_box;
 use std::time::{Duration, Instant};
 
-/// Within a round each call has this time, or one batch if that takes longer.
-const SLICE: Duration = Duration::from_millis(2);
+/// Within a round each call has this time, or one batch if that takes longer:
+/// short, so that some rounds of each call meet no noise.
+const SLICE: Duration = Duration::from_micros(200);
+
+/// Rounds of the tables of short calls.
+pub const ROUNDS: usize = 400;
 
 pub type Call<'a> = Box<dyn FnMut() + 'a>;
 
