@@ -7,7 +7,7 @@ ghost use Rattle.keccak.specs.Steps.{empty, turned, absorbByte, absorbs,
 use crate::state::byte_at;
 use crate::state::xor_byte;
 use crate::state::xor_lanes;
-use permutation::permute;
+use rounds::permute;
 
 // The state of 25 lanes, and the bytes taken of the present block.
 pub struct Sponge {

@@ -1,6 +1,4 @@
 pub mod Agree
-pub mod Constants
 pub mod Lanes
 pub mod Offsets
-pub mod Rounds
 pub mod Strings

@@ -1,4 +1,4 @@
--- `permutation::keccak_f` meets its contract. The loop's invariant: the lanes are those after ir rounds, with those of `kept`
+-- `rounds::keccak_f` meets its contract. The loop's invariant: the lanes are those after ir rounds, with those of `kept`
 -- complemented, and ir is a multiple of 4. The measure is the number of rounds left. Assumes nothing.
 use mathlib.Core.Path.{_≡_, ap, _∙_}
 use Prim.Native.Nat.{ℕ, _+_, _-_, _%_, _≤_}
@@ -7,12 +7,12 @@ use borrow.Author.Needs.{needs}
 use lib.ListN.{getD}
 use mir.Syntax.{w64}
 use mir.Val.{Fits}
 use Rattle.permutation.specs.Permutation.{rounds, lanes, laneArray}
 use Rattle.permutation.specs.Planes.{kept, flip}
-use Rattle.permutation.proofs.Constants.{constant-rule}
-use Rattle.permutation.proofs.Rounds.{rounds-none, rounds-more, rounds-all}
-use Rattle.permutation.proofs.keccak_f.Statement.{statement}
-use Rattle.permutation.proofs.keccak_f.Tie as tie
+use Rattle.rounds.proofs.Constants.{constant-rule}
+use Rattle.rounds.proofs.Rounds.{rounds-none, rounds-more, rounds-all}
+use Rattle.rounds.proofs.keccak_f.Statement.{statement}
+use Rattle.rounds.proofs.keccak_f.Tie as tie
 
 abbrev Inv-loop : tie.InvT-loop
 Inv-loop table s₀ ir₀ s ir = (ir ≤ 24) × (ir % 4 ≡ 0) × (s ≡ lanes (flip kept (rounds ir (flip kept (laneArray s₀)))))

@@ -1,12 +1,12 @@
--- `permutation::plane_2` meets its contract: the four steps, each by what it ensures, and of their lanes those of the plane 2.
+-- `rounds::plane_2` meets its contract: the four steps, each by what it ensures, and of their lanes those of the plane 2.
 -- Assumes nothing.
 use native.Mathlib.Omega.{arith}
 use borrow.Author.Needs.{needs}
 use lib.Dec.{lit<}
 use Rattle.permutation.specs.Permutation.{laneArray}
-use Rattle.permutation.proofs.Rounds.{plane-is}
-use Rattle.permutation.proofs.plane_2.Statement.{statement}
-use Rattle.permutation.proofs.plane_2.Tie as tie
+use Rattle.rounds.proofs.Rounds.{plane-is}
+use Rattle.rounds.proofs.plane_2.Statement.{statement}
+use Rattle.rounds.proofs.plane_2.Tie as tie
 
 theta-requires : tie.Need-theta-requires
 theta-requires c κs = search needs

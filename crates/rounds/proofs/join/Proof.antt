@@ -1,10 +1,10 @@
--- `permutation::join` meets its contract: it lays five planes out one after the other.
+-- `rounds::join` meets its contract: it lays five planes out one after the other.
 -- Assumes nothing.
 use borrow.Author.Needs.{needs}
 use lib.Dec.{lit<}
 use Rattle.permutation.proofs.Lanes.{join-planes}
-use Rattle.permutation.proofs.join.Statement.{statement}
-use Rattle.permutation.proofs.join.Tie as tie
+use Rattle.rounds.proofs.join.Statement.{statement}
+use Rattle.rounds.proofs.join.Tie as tie
 
 returns : tie.Need-returns
 returns c =

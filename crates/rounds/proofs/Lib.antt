@@ -1,0 +1,2 @@
+mod Constants
+mod Rounds
