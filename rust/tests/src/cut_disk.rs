@@ -225,7 +225,10 @@ impl State {
 
 impl Files for CutDisk {
     fn lock(&mut self) -> io::Result<()> {
-        Ok(())
+        match self.bytes(Name::Log) {
+            Some(_) => Ok(()),
+            None => Err(io::ErrorKind::NotFound.into()),
+        }
     }
 
     fn read(&mut self, name: Name) -> io::Result<Option<Vec<u8>>> {
@@ -236,10 +239,19 @@ impl Files for CutDisk {
     }
 
     fn create(&mut self, name: Name, bytes: &[u8]) -> io::Result<()> {
-        match self.bytes(name) {
-            Some(_) => Err(io::ErrorKind::AlreadyExists.into()),
-            None => self.write(name, bytes),
+        let mut state = self.0.borrow_mut();
+        state.step()?;
+        if state.names.contains_key(&name) {
+            return Err(io::ErrorKind::AlreadyExists.into());
         }
+        state.insert(name);
+        let file = state.names[&name];
+        state.contents[file].now = bytes.to_vec();
+        state.settle(name);
+        if name != Name::Log {
+            state.pages.push(bytes.to_vec());
+        }
+        state.settle_names()
     }
 
     fn write(&mut self, name: Name, bytes: &[u8]) -> io::Result<()> {

@@ -4,7 +4,7 @@
 use std::collections::HashSet;
 use tests::cut_disk::{CutDisk, Plan};
 use tests::random::Random;
-use wivulameno::store::{Name, Shelf, Trouble};
+use wivulameno::store::{Name, Shelf, Standing, Trouble};
 use wivulameno::Refusal;
 
 #[derive(Clone, Copy, Debug, PartialEq)]
@@ -117,7 +117,8 @@ fn put_back_each_page(disk: &CutDisk, host: &Host) {
         let mut shelf = Shelf::open_in(disk).expect("a shelf that opens");
         match shelf.draw() {
             Ok(root) => assert!(!host.given.contains(&root), "{root:02x?} goes out twice"),
-            Err(Trouble::Refused(Refusal::AnotherCount | Refusal::Empty)) => {}
+            Err(Trouble::Refused(Refusal::Empty)) => {}
+            Err(Trouble::Page(Standing::Behind { .. })) => {}
             Err(trouble) => panic!("{trouble}"),
         }
     }
@@ -214,7 +215,8 @@ fn an_old_page_put_back_is_refused() {
     assert_refused(shelf.draw(), Refusal::AnotherCount);
     let status = shelf.status().expect("a sound page");
     assert_eq!((status.draws, status.count, status.ready), (0, 1, 2));
-    assert_eq!(status.refusal, Some(Refusal::AnotherCount));
+    assert_eq!(status.standing, Standing::Behind { draws: 1 });
+    assert_refused(status.trouble().map_or(Ok(()), Err), Refusal::AnotherCount);
     assert_eq!(disk.bytes(Name::Page), Some(old.clone()));
 
     // Put back while the shelf is open: no difference.
@@ -229,25 +231,30 @@ fn assert_refused<T>(answer: Result<T, Trouble>, refusal: Refusal) {
     assert_eq!(trouble.refusal(), Some(refusal), "{trouble}");
 }
 
-/// A new page under the log's count is the way out when the page is gone.
+/// A new page under the log's count is the way out when the page is gone. The
+/// page from before is refused from then on.
 #[test]
 fn a_new_page_goes_on_from_the_log() {
     let (disk, mut host) = (CutDisk::new(Plan::AllGoWell), Host::default());
     host.play(&disk, &[Stock, Stock, Draw]).expect("no trouble");
-    assert!(matches!(
-        Shelf::create_in(disk.clone(), SLOTS),
-        Err(Trouble::Exists(Name::Page))
-    ));
+    for made in [Shelf::create_in, Shelf::renew_in] {
+        let answer = made(disk.clone(), SLOTS).err();
+        assert!(matches!(answer, Some(Trouble::Exists(Name::Page))));
+    }
     let old = disk.bytes(Name::Page).expect("a page");
     let mut files = disk.clone();
     wivulameno::store::Files::remove(&mut files, Name::Page).expect("no trouble");
-    let mut shelf = Shelf::create_in(disk.clone(), SLOTS).expect("a new page");
+    let answer = Shelf::create_in(disk.clone(), SLOTS).err();
+    assert!(
+        matches!(answer, Some(Trouble::Exists(Name::Log))),
+        "{answer:?}"
+    );
+    let mut shelf = Shelf::renew_in(disk.clone(), SLOTS).expect("a new page");
     let status = shelf.status().expect("a sound page");
     assert_eq!((status.draws, status.count, status.ready), (1, 1, 0));
-    host.event(&mut shelf, Stock).expect("room");
-    host.event(&mut shelf, Draw).expect("a root");
     disk.put_back(Name::Page, &old);
-    assert_refused(shelf.draw(), Refusal::AnotherCount);
+    let answer = shelf.draw().err();
+    assert!(matches!(answer, Some(Trouble::Page(Standing::Replaced))));
 }
 
 #[test]
@@ -276,31 +283,90 @@ fn a_refusal_changes_no_file() {
 #[test]
 fn torn_and_damaged_logs() {
     let (disk, mut host) = (CutDisk::new(Plan::AllGoWell), Host::default());
-    let events = [Stock, Draw, Stock, Draw];
-    host.play(&disk, &events).expect("no trouble");
+    host.play(&disk, &[Stock, Draw]).expect("no trouble");
     let log = disk.bytes(Name::Log).expect("a log");
-    assert_eq!(log.len(), 2 * 50);
-    for (line, text) in [(0, b"draw 0000000001 "), (1, b"draw 0000000002 ")] {
-        assert_eq!(log[50 * line..][..16], text[..]);
-        assert_eq!(log[50 * line + 48..][..2], b".\n"[..]);
+    let starts = [
+        "wivulameno log 1 ",
+        "page  0000000000 ",
+        "stock 0000000000 ",
+        "draw  0000000001 ",
+    ];
+    let text = String::from_utf8(log.clone()).expect("text");
+    assert_eq!(text.lines().count(), starts.len());
+    for (line, start) in text.split_inclusive('\n').zip(starts) {
+        assert!(line.starts_with(start), "{line:?}");
+        let end = if start.starts_with("wiv") {
+            "\n"
+        } else {
+            ".\n"
+        };
+        assert!(
+            line.ends_with(end) && line.len() == 17 + 32 + end.len(),
+            "{line:?}"
+        );
     }
+    let end = 50 + 3 * 51;
+    assert_eq!(log.len(), end);
     let count_with = |bytes: &[u8]| {
         let changed = disk.copy(Plan::AllGoWell);
         changed.put_back(Name::Log, bytes);
         count_of(&changed)
     };
-    for len in 50..=100 {
-        let expected = if len < 99 { 1 } else { 2 };
+    for len in 50..=end {
+        let expected = u64::from(len >= end - 1);
         assert_eq!(count_with(&log[..len]), Ok(expected), "{len}");
-        let full_stop = len.max(99);
-        let zeros = [&log[..98], &vec![0; full_stop - 98]].concat();
-        assert_eq!(count_with(&zeros), Ok(2), "{len}");
+        let full_stop = len.max(end - 1);
+        let zeros = [&log[..end - 2], &vec![0; full_stop - (end - 2)]].concat();
+        assert_eq!(count_with(&zeros), Ok(1), "{len}");
     }
-    let in_digest = |place: usize| (16..48).contains(&(place % 50));
-    for place in (0..100).filter(|place| !in_digest(*place)) {
+    let is_text = |place: usize| place >= 50 && !(17..49).contains(&((place - 50) % 51));
+    for place in (0..end).filter(|place| is_text(*place)) {
         let mut bytes = log.clone();
         bytes[place] ^= 0x80;
-        assert_eq!(count_with(&bytes), Err(place as u64 / 50 + 1));
+        assert_eq!(
+            count_with(&bytes),
+            Err((place as u64 - 50) / 51 + 2),
+            "{place}"
+        );
+    }
+}
+
+/// What is no log is never a log with the count 0.
+#[test]
+fn a_file_that_is_no_log() {
+    let (disk, mut host) = (CutDisk::new(Plan::AllGoWell), Host::default());
+    host.play(&disk, &[Stock, Draw]).expect("no trouble");
+    let (page, log) = (disk.bytes(Name::Page), disk.bytes(Name::Log));
+    let (page, log) = (page.expect("a page"), log.expect("a log"));
+    let mut wrong = vec![
+        page,
+        vec![0; 50],
+        vec![0; 4096],
+        b"draw 0000000001 ".to_vec(),
+    ];
+    wrong.extend((0..50).map(|len| log[..len].to_vec()));
+    for place in 0..50 {
+        let mut bytes = log.clone();
+        bytes[place] ^= 0x80;
+        wrong.push(bytes);
+    }
+    for bytes in wrong {
+        disk.put_back(Name::Log, &bytes);
+        let answers = [
+            Shelf::open_in(disk.clone()).err(),
+            Shelf::renew_in(disk.clone(), SLOTS).err(),
+            Shelf::look_in(disk.clone()).err(),
+            wivulameno::Log::open_in(disk.clone()).err(),
+        ];
+        for answer in answers {
+            assert!(matches!(answer, Some(Trouble::NotALog)), "{answer:?}");
+        }
+        let mut files = disk.clone();
+        wivulameno::store::Files::remove(&mut files, Name::Page).expect("no trouble");
+        let answer = Shelf::create_in(disk.clone(), SLOTS).err();
+        assert!(matches!(answer, Some(Trouble::NotALog)), "{answer:?}");
+        disk.put_back(Name::Page, b"any");
+        assert_eq!(disk.bytes(Name::Log), Some(bytes));
     }
 }
 
@@ -338,7 +404,7 @@ fn any_history() {
     for _ in 0..2500 {
         let (mut disk, mut host) = (CutDisk::new(Plan::AllGoWell), Host::default());
         for _ in 0..12 {
-            let made = random.below(40);
+            let made = random.below(60);
             disk = disk.copy(Plan::CutAfter(made));
             let events: Vec<Event> = (0..3).map(|_| random.pick(&[Stock, Draw])).collect();
             let trouble = host.play(&disk, &events).err();

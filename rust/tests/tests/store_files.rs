@@ -2,7 +2,7 @@
 
 use std::fs;
 use std::path::{Path, PathBuf};
-use wivulameno::store::{Name, Trouble};
+use wivulameno::store::{Name, Standing, Trouble};
 use wivulameno::{Log, Refusal, Shelf};
 
 /// A folder of this test's own, removed at the end.
@@ -48,9 +48,15 @@ fn a_shelf_lives_in_two_files() {
     let status = shelf.status().expect("a sound page");
     assert_eq!((status.slots, status.ready), (4, 1));
     assert_eq!((status.draws, status.count), (1, 1));
-    assert_eq!(status.refusal, None);
-    let line = fs::read_to_string(folder.log()).unwrap();
-    assert!(line.starts_with("draw 0000000001 ") && line.ends_with(".\n"));
+    assert_eq!(
+        (status.standing, status.unfinished),
+        (Standing::Present, false)
+    );
+    assert!(status.trouble().is_none());
+    let log = fs::read_to_string(folder.log()).unwrap();
+    let words: Vec<_> = log.lines().map(|line| line.split(' ').next()).collect();
+    let expected = ["wivulameno", "page", "stock", "stock", "draw"];
+    assert_eq!(words, expected.map(Some));
     let names = fs::read_dir(&folder.0).unwrap().count();
     assert_eq!(names, 2, "no page is left beside the page");
 }
@@ -122,24 +128,33 @@ fn what_is_not_there() {
 fn a_log_counts_on() {
     let folder = Folder::new("log_alone");
     let mut log = Log::create(folder.log()).expect("a new log");
-    let mut page = tests::pages::page(&[1, 2, 3], &[], 0);
-    for count in 1..=2 {
-        wivulameno::shelf::draw(&mut page, log.count()).expect("a root");
-        log.add(&page).expect("counted");
+    let mut page = log.begin(3).expect("a page");
+    assert_eq!(page.len(), 12 + 3 * 18);
+    for root in 1..=3 {
+        log.stock(&mut page, &[root; 16]).expect("room");
         log.close().expect("noted");
-        assert_eq!((log.count(), log.is_due()), (count, false));
     }
-    let mut before = page.clone();
-    wivulameno::shelf::draw(&mut page, log.count()).expect("a root");
-    log.add(&page).expect("counted");
+    for count in 1..=2 {
+        assert_eq!(log.draw(&mut page).expect("a root"), [4 - count; 16]);
+        log.close().expect("noted");
+        assert_eq!((log.count(), log.is_due()), (u64::from(count), false));
+    }
+    let before = page.clone();
+    log.draw(&mut page).expect("a root");
     drop(log);
     let mut log = Log::open(folder.log()).expect("a log");
     assert_eq!((log.count(), log.is_due()), (3, true));
-    let mut other = tests::pages::page(&[2, 3], &[1], 2);
-    assert!(!log.redo(&mut other) && log.redo(&mut before));
-    assert_eq!(before, page);
+    let other = tests::pages::page(&[2, 3], &[1], 2);
+    assert_eq!(log.redo(&other, None), None);
+    assert_eq!(log.redo(&before, None), Some(page.clone()));
+    assert_eq!(log.redo(&other, Some(&page)), Some(page.clone()));
     log.close().expect("noted");
-    assert!(!log.is_due() && !log.redo(&mut before));
+    assert!(!log.is_due() && log.redo(&before, None).is_none());
+    let trouble = log.draw(&mut before.clone()).unwrap_err();
+    assert!(matches!(
+        trouble,
+        Trouble::Page(Standing::Behind { draws: 1 })
+    ));
 }
 
 #[cfg(unix)]
@@ -153,4 +168,93 @@ fn nobody_else_reads_the_page() {
         let mode = fs::metadata(path).unwrap().permissions().mode();
         assert_eq!(mode & 0o077, 0);
     }
+}
+
+/// A page behind a symbolic link is written where the link leads.
+#[cfg(unix)]
+#[test]
+fn a_page_behind_a_link() {
+    use std::os::unix::fs::symlink;
+    let folder = Folder::new("link");
+    let (real, link) = (folder.0.join("real"), folder.page());
+    fs::create_dir(&real).unwrap();
+    let there = real.join("page");
+    symlink("real/page", &link).unwrap();
+    let mut shelf = Shelf::create(&link, folder.log(), 4).expect("a new shelf");
+    shelf.stock(&[1; 16]).expect("room");
+    drop(shelf);
+    assert_eq!(
+        folder.open().expect("a shelf").draw().expect("a root"),
+        [1; 16]
+    );
+    assert!(fs::symlink_metadata(&link).unwrap().is_symlink());
+    assert!(fs::symlink_metadata(&there).unwrap().is_file());
+    assert_eq!(fs::read_dir(&real).unwrap().count(), 1);
+    let seen = Shelf::look(&there, folder.log()).expect("a status");
+    assert_eq!((seen.draws, seen.standing), (1, Standing::Present));
+}
+
+/// Page and log are two files, whatever they are called.
+#[cfg(unix)]
+#[test]
+fn one_file_for_both() {
+    use std::os::unix::fs::symlink;
+    let folder = Folder::new("same");
+    let one = folder.page();
+    let is_same = |page: &Path, log: &Path| {
+        let made = Shelf::create(page, log, 4).err();
+        let opened = Shelf::open(page, log).err();
+        let looked = Shelf::look(page, log).err();
+        let all = [made, opened, looked];
+        all.iter()
+            .all(|trouble| matches!(trouble, Some(Trouble::SameFile)))
+    };
+    assert!(is_same(&one, &one));
+    assert!(is_same(&one, &folder.0.join("./shelf.page")));
+    assert!(is_same(&one, &folder.0.join("shelf.page.next")));
+    symlink("shelf.page", folder.log()).unwrap();
+    assert!(is_same(&one, &folder.log()));
+    fs::write(&one, b"any").unwrap();
+    assert!(is_same(&one, &folder.log()));
+    fs::hard_link(&one, folder.0.join("other")).unwrap();
+    assert!(is_same(&one, &folder.0.join("other")));
+    assert_eq!(fs::read(&one).unwrap(), b"any");
+}
+
+/// A new shelf takes no place that is taken.
+#[test]
+fn nothing_is_replaced() {
+    let folder = Folder::new("replaced");
+    let made = |page: &Path, log: &Path| Shelf::create(page, log, 4).err();
+    drop(Shelf::create(folder.page(), folder.log(), 4).expect("a new shelf"));
+    let files = || [folder.page(), folder.log()].map(|path| fs::read(path).unwrap());
+    let before = files();
+    let [page, log] = ["other.page", "other.log"].map(|name| folder.0.join(name));
+    assert!(matches!(
+        made(&folder.page(), &log),
+        Some(Trouble::Exists(Name::Page))
+    ));
+    assert!(matches!(
+        made(&page, &folder.log()),
+        Some(Trouble::Exists(Name::Log))
+    ));
+    assert!(matches!(
+        made(&folder.page(), &folder.log()),
+        Some(Trouble::Exists(Name::Page))
+    ));
+    assert_eq!(files(), before);
+    assert!(!page.exists() && !log.exists());
+    assert_eq!(fs::read_dir(&folder.0).unwrap().count(), 2);
+}
+
+/// A log that got shorter under an open shelf: no root goes out.
+#[test]
+fn a_log_cut_short_under_an_open_shelf() {
+    let folder = Folder::new("shorter");
+    let mut shelf = Shelf::create(folder.page(), folder.log(), 4).expect("a new shelf");
+    shelf.stock(&[1; 16]).expect("room");
+    let log = fs::read(folder.log()).unwrap();
+    fs::write(folder.log(), &log[..log.len() - 51]).unwrap();
+    assert!(matches!(shelf.draw(), Err(Trouble::File(Name::Log, _))));
+    assert!(matches!(shelf.draw(), Err(Trouble::Stopped)));
 }

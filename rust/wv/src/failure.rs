@@ -47,6 +47,7 @@ impl From<Trouble> for Failure {
     fn from(trouble: Trouble) -> Failure {
         match trouble {
             Trouble::Refused(refusal) => Failure::Refused(refusal),
+            Trouble::Page(standing) => Failure::Unwanted(standing.to_string()),
             other => Failure::File(other.to_string()),
         }
     }

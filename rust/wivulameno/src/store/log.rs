@@ -1,25 +1,64 @@
-//! The log: a line for each accepted draw.
-//!
-//! A line is `draw`, its number, and a digest of the page after the draw; then a
-//! full stop, which counts the draw; then the line's end, which says that the
-//! page is in place. The three are written in this order, and each is on disk
-//! before the next.
+//! The log: a line for each stocking and each draw, on disk before its page is.
 
-use super::{Disk, Files, Name, Trouble};
-use crate::{sha3_256, shelf};
+use super::identity::Identity;
+use super::page::{digest, new_page, sound};
+use super::record::{header, Kind, Line, Record, LINE, TEXT};
+use super::{Disk, Files, Name, Standing, Trouble};
+use crate::{shelf, Refusal};
+use std::fmt;
 use std::path::Path;
 
-/// The bytes of a line up to the full stop: `draw 0000000001 ` and 32 digits.
-const TEXT: usize = 48;
-const LINE: usize = TEXT + 2;
-
-/// The count of accepted draws, kept in a file.
+/// The log of one shelf, kept in a file: it counts the accepted draws and knows
+/// the pages that it has seen.
+///
+/// A host whose page lives in its own cache uses this alone. Each call works on
+/// the page in memory and has its line on disk when it returns. Then the host
+/// writes the page, and says [`Log::close`] when the page is in place on disk.
+///
+/// ```
+/// use wivulameno::Log;
+///
+/// # let folder = std::env::temp_dir().join(format!("wivulameno-log-{}", std::process::id()));
+/// # std::fs::create_dir_all(&folder)?;
+/// # let path = folder.join("shelf.log");
+/// # let write = |page: &[u8]| {};
+/// let mut log = Log::create(&path)?;
+/// let mut page = log.begin(255)?; // a page without roots
+/// write(&page);
+/// log.close()?;
+///
+/// log.stock(&mut page, &[7; 16])?;
+/// write(&page);
+/// log.close()?;
+///
+/// let root = log.draw(&mut page)?; // it is counted by now, on disk
+/// write(&page);
+/// log.close()?;
+/// # assert_eq!((root, log.count()), ([7; 16], 1));
+/// # std::fs::remove_dir_all(&folder)?;
+/// # Ok::<(), Box<dyn std::error::Error>>(())
+/// ```
 pub struct Log<F: Files = Disk> {
     files: F,
+    identity: Identity,
     count: u64,
-    /// The digits of the page that is not in place yet.
-    due: Option<[u8; 32]>,
+    /// The last line, and whether it has no end yet.
+    last: Option<Line>,
+    is_due: bool,
+    /// Where the next line starts.
+    end: u64,
     stopped: bool,
+}
+
+impl<F: Files> fmt::Debug for Log<F> {
+    fn fmt(&self, f: &mut fmt::Formatter) -> fmt::Result {
+        f.debug_struct("Log")
+            .field("identity", &self.identity)
+            .field("count", &self.count)
+            .field("is_due", &self.is_due)
+            .field("stopped", &self.stopped)
+            .finish_non_exhaustive()
+    }
 }
 
 impl Log {
@@ -28,54 +67,47 @@ impl Log {
         Log::create_in(Disk::of_log(log))
     }
 
+    /// The log at a place. Nobody else can open it as long as this value lives.
     pub fn open(log: impl AsRef<Path>) -> Result<Log, Trouble> {
         Log::open_in(Disk::of_log(log))
     }
 }
 
 impl<F: Files> Log<F> {
+    /// [`Log::create`] over another file layer.
     pub fn create_in(mut files: F) -> Result<Log<F>, Trouble> {
-        files
-            .create(Name::Log, &[])
-            .map_err(Trouble::at(Name::Log))?;
-        Log::open_in(files)
+        let identity = Identity::new();
+        let made = files.create(Name::Log, &header(identity));
+        made.map_err(Trouble::at(Name::Log))?;
+        Log::read(files)
     }
 
-    /// Reads the count, and waits until what was read is on disk. A line without
-    /// its full stop does not count, and the next one is written in its place.
+    /// [`Log::open`] over another file layer.
     pub fn open_in(mut files: F) -> Result<Log<F>, Trouble> {
         files.lock().map_err(Trouble::at(Name::Log))?;
-        let bytes = files.read(Name::Log).map_err(Trouble::at(Name::Log))?;
-        let mut bytes = bytes.ok_or(Trouble::Missing(Name::Log))?;
-        if bytes.len() % LINE <= TEXT {
-            bytes.truncate(bytes.len() / LINE * LINE);
-        }
-        check_lines(&bytes)?;
-        let is_due = bytes.len() % LINE != 0;
+        Log::read(files)
+    }
+
+    /// Reads the log, and waits until what was read is on disk. The next line is
+    /// written in the place of one without its full stop.
+    fn read(mut files: F) -> Result<Log<F>, Trouble> {
+        let record = record_of(&mut files)?;
         let mut log = Log {
             files,
-            count: bytes.len().div_ceil(LINE) as u64,
-            due: is_due.then(|| bytes[bytes.len() - 33..][..32].try_into().unwrap()),
+            identity: record.identity,
+            count: record.count(),
+            last: record.lines.last().copied(),
+            is_due: record.is_due,
+            end: record.len(),
             stopped: false,
         };
-        log.mend_marks(&bytes)?;
+        if record.is_torn {
+            let marks = if record.is_due { "." } else { ".\n" };
+            log.write(log.end - 2, marks.as_bytes())?;
+        }
         let settled = log.files.settle(Name::Log);
         settled.map_err(Trouble::at(Name::Log))?;
         Ok(log)
-    }
-
-    /// Writes the last line's marks once more, if they are torn.
-    fn mend_marks(&mut self, bytes: &[u8]) -> Result<(), Trouble> {
-        if bytes.is_empty() {
-            return Ok(());
-        }
-        let place = (self.count - 1) * LINE as u64 + TEXT as u64;
-        let found = &bytes[place as usize..];
-        let marks = &b".\n"[..found.len()];
-        match found == marks {
-            true => Ok(()),
-            false => self.write(place, marks),
-        }
     }
 
     /// The accepted draws so far.
@@ -83,48 +115,128 @@ impl<F: Files> Log<F> {
         self.count
     }
 
-    /// Counts a draw that has made this page; it is counted on disk when this
-    /// returns. Now the page may be written, and then `close` is due.
-    pub fn add(&mut self, page: &[u8]) -> Result<(), Trouble> {
-        self.close()?;
-        let start = self.count * LINE as u64;
-        let digits = digits(page);
-        self.write(start, &text(self.count + 1, &digits))?;
-        self.write(start + TEXT as u64, b".")?;
-        self.count += 1;
-        self.due = Some(digits);
-        Ok(())
+    /// The identity of the shelf.
+    pub fn identity(&self) -> Identity {
+        self.identity
     }
 
-    /// Notes that the page of the last counted draw is in place, on disk.
-    pub fn close(&mut self) -> Result<(), Trouble> {
-        if self.due.is_some() {
-            let end = self.count * LINE as u64;
-            self.write(end - 1, b"\n")?;
-            self.due = None;
-        }
-        Ok(())
-    }
-
-    /// Is there a counted draw whose page may not be in place?
+    /// Is there a line whose page may not be in place?
     pub fn is_due(&self) -> bool {
-        self.due.is_some()
+        self.is_due
     }
 
-    /// After a cut: if this is the page from before the last counted draw, and
-    /// the page from after it is due, makes that draw again and drops its root.
-    /// Then the page is to be put in place, and `close` is due.
-    pub fn redo(&self, page: &mut [u8]) -> bool {
-        let mut copy = page.to_vec();
-        let Some(before) = self.count.checked_sub(1) else {
-            return false;
-        };
-        let drawn = shelf::draw(&mut copy, before).is_ok();
-        let redone = drawn && self.due == Some(digits(&copy));
-        if redone {
-            page.copy_from_slice(&copy);
+    /// Was a page in place under this log?
+    pub(super) fn had_page(&mut self) -> Result<bool, Trouble> {
+        Ok(record_of(&mut self.files)?.had_page())
+    }
+
+    /// How a page stands to this log. A page that is not sound is refused.
+    pub fn standing(&mut self, page: &[u8]) -> Result<Standing, Trouble> {
+        sound(page)?;
+        match self.last {
+            Some(line) if self.is_present(line, page) => Ok(Standing::Present),
+            _ => Ok(record_of(&mut self.files)?.standing(page)),
         }
-        redone
+    }
+
+    fn is_present(&self, last: Line, page: &[u8]) -> bool {
+        last.kind != Kind::Ahead && last.digest == digest(page)
+    }
+
+    /// A new page without roots, 1 to 255 slots, with its line. From now on
+    /// every page from before it is refused.
+    pub fn begin(&mut self, slots: u16) -> Result<Vec<u8>, Trouble> {
+        if self.last.is_some_and(|line| line.kind == Kind::Ahead) {
+            return Err(Trouble::Page(Standing::SetBack));
+        }
+        let draws = u32::try_from(self.count).map_err(|_| Refusal::Spent)?;
+        let page = new_page(&self.identity.order(slots), draws);
+        sound(&page)?;
+        let line = self.line(Kind::Page, self.count, &page);
+        if self.last != Some(line) || !self.is_due {
+            self.append(line)?;
+        }
+        Ok(page)
+    }
+
+    /// Puts a root on the page, with its line. The root is to be stocked once,
+    /// here, and not again after an error.
+    pub fn stock(&mut self, page: &mut [u8], root: &[u8]) -> Result<(), Trouble> {
+        self.usable(page)?;
+        let mut after = page.to_vec();
+        shelf::stock(&mut after, root)?;
+        self.append(self.line(Kind::Stock, self.count, &after))?;
+        page.copy_from_slice(&after);
+        Ok(())
+    }
+
+    /// Takes a root off the page, with its line. It is counted when this
+    /// returns, and after an error no root was given out.
+    pub fn draw(&mut self, page: &mut [u8]) -> Result<[u8; 16], Trouble> {
+        self.usable(page)?;
+        let mut after = page.to_vec();
+        let root = shelf::draw(&mut after, self.count)?;
+        self.append(self.line(Kind::Draw, self.count + 1, &after))?;
+        page.copy_from_slice(&after);
+        Ok(root)
+    }
+
+    /// Notes that the page of the last line is in place, on disk.
+    pub fn close(&mut self) -> Result<(), Trouble> {
+        if self.is_due {
+            self.write(self.end - 1, b"\n")?;
+            self.is_due = false;
+        }
+        Ok(())
+    }
+
+    /// After a cut: the page that is due, if it can be had from the page in
+    /// place or from the one beside it. Then it is to be put in place, and
+    /// `close` is due.
+    ///
+    /// A draw is made again from the page before it, and its root is dropped.
+    pub fn redo(&self, page: &[u8], beside: Option<&[u8]>) -> Option<Vec<u8>> {
+        let due = self.last.filter(|_| self.is_due)?;
+        redo(due, page, beside)
+    }
+
+    /// A page that is drawn from and stocked on. One that is ahead is written
+    /// into the log, for good.
+    fn usable(&mut self, page: &[u8]) -> Result<(), Trouble> {
+        if self.stopped {
+            return Err(Trouble::Stopped);
+        }
+        let standing = self.standing(page)?;
+        if let Standing::Ahead { draws } = standing {
+            self.append(self.line(Kind::Ahead, self.count + draws, page))?;
+            self.close()?;
+        }
+        match standing.is_usable() {
+            true => Ok(()),
+            false => Err(Trouble::Page(standing)),
+        }
+    }
+
+    fn line(&self, kind: Kind, draws: u64, page: &[u8]) -> Line {
+        Line {
+            kind,
+            draws,
+            digest: digest(page),
+        }
+    }
+
+    /// Writes a line that counts when this returns, on disk.
+    fn append(&mut self, line: Line) -> Result<(), Trouble> {
+        self.close()?;
+        self.write(self.end, &line.text())?;
+        self.write(self.end + TEXT as u64, b".")?;
+        self.end += LINE as u64;
+        if line.kind == Kind::Draw {
+            self.count = line.draws;
+        }
+        self.last = Some(line);
+        self.is_due = true;
+        Ok(())
     }
 
     fn write(&mut self, place: u64, bytes: &[u8]) -> Result<(), Trouble> {
@@ -141,37 +253,19 @@ impl<F: Files> Log<F> {
     }
 }
 
-/// 16 bytes of the page's digest, in hexadecimal digits.
-fn digits(page: &[u8]) -> [u8; 32] {
-    let digest = sha3_256(page);
-    let text: String = digest[..16]
-        .iter()
-        .map(|byte| format!("{byte:02x}"))
-        .collect();
-    text.into_bytes().try_into().expect("two digits a byte")
+pub(super) fn record_of<F: Files>(files: &mut F) -> Result<Record, Trouble> {
+    let bytes = files.read(Name::Log).map_err(Trouble::at(Name::Log))?;
+    Record::read(&bytes.ok_or(Trouble::Missing(Name::Log))?)
 }
 
-fn text(number: u64, digits: &[u8; 32]) -> Vec<u8> {
-    [format!("draw {number:010} ").as_bytes(), digits].concat()
-}
-
-/// All lines must be as written. The last marks can be torn, which leaves zero.
-fn check_lines(bytes: &[u8]) -> Result<(), Trouble> {
-    let last = bytes.len().div_ceil(LINE);
-    for (number, line) in (1..).zip(bytes.chunks(LINE)) {
-        let digits: [u8; 32] = line[TEXT - 32..TEXT].try_into().expect("32 digits");
-        let is_digit = |byte: &u8| byte.is_ascii_hexdigit();
-        let marks = line[TEXT..].iter().zip(b".\n");
-        let torn = |byte: u8| number == last && byte == 0;
-        let whole = digits.iter().all(is_digit)
-            && line[..TEXT] == text(number as u64, &digits)[..]
-            && marks
-                .into_iter()
-                .all(|(&found, &mark)| found == mark || torn(found));
-        if !whole {
-            let line = number as u64;
-            return Err(Trouble::Damaged { line });
-        }
+/// The page of a line that has no end: the page in place, the one beside it, or
+/// that of a draw from the page in place.
+pub(super) fn redo(due: Line, page: &[u8], beside: Option<&[u8]>) -> Option<Vec<u8>> {
+    let mut drawn = page.to_vec();
+    if due.kind == Kind::Draw {
+        let _ = shelf::draw(&mut drawn, due.draws - 1);
     }
-    Ok(())
+    let mut pages = [Some(drawn.as_slice()), beside].into_iter().flatten();
+    let is_due = |page: &&[u8]| digest(page) == due.digest;
+    pages.find(is_due).map(<[u8]>::to_vec)
 }

@@ -5,8 +5,7 @@ use std::error::Error;
 use std::fs;
 use std::path::{Path, PathBuf};
 use std::process::ExitCode;
-use wivulameno::store::Trouble;
-use wivulameno::{circuit, Shelf};
+use wivulameno::{circuit, Refusal, Shelf};
 use wv::at_least::{at_least, covered, row};
 use wv::fresh;
 
@@ -115,8 +114,8 @@ fn incident([page, log]: &[PathBuf; 2], before: &[u8]) -> Done {
     let (ready, draws, count) = (status.ready, status.draws, status.count);
     println!("  {ready} roots ready, the page has seen {draws} draws, the log counts {count}");
     match shelf.draw() {
-        Err(Trouble::Refused(refusal)) if refusal.number() == 15 => {
-            println!("  a draw: {refusal}");
+        Err(trouble) if trouble.refusal() == Some(Refusal::AnotherCount) => {
+            println!("  a draw: {trouble}");
             Ok(())
         }
         Err(trouble) => Err(trouble.into()),

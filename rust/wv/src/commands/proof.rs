@@ -64,8 +64,8 @@ fn prove(args: &Args) -> Result<(), Failure> {
     };
     rehearse(statement, &witness, counts)?;
     let mut shelf = Shelf::open(Args::path(page)?, Args::path(log)?)?;
-    if let Some(refusal) = shelf.status()?.refusal {
-        return Err(refusal.into());
+    if let Some(trouble) = shelf.status()?.trouble() {
+        return Err(trouble.into());
     }
     let target = Target::make(out)?;
     let root = shelf.draw()?;

@@ -4,6 +4,7 @@ use super::Command;
 use crate::args::Args;
 use crate::failure::{print, Failure};
 use crate::fresh;
+use wivulameno::store::Trouble;
 use wivulameno::Shelf;
 
 pub const NEW: Command = Command {
@@ -114,14 +115,14 @@ has to be put back, or a new one to be made under the same log.
 
 fn status(args: &Args) -> Result<(), Failure> {
     let (page, log) = files(args)?;
-    let status = Shelf::open(page, log)?.status()?;
+    let status = Shelf::look(page, log)?;
     print(&format!(
         "slots {}\nready {}\ndraws {}\nlog {}\n",
         status.slots, status.ready, status.draws, status.count
     ))?;
-    match status.refusal {
-        Some(refusal) if status.count != u64::from(status.draws) => Err(refusal.into()),
-        _ => Ok(()),
+    match status.standing.is_usable() {
+        true => Ok(()),
+        false => Err(Trouble::Page(status.standing).into()),
     }
 }
 
