@@ -16,7 +16,7 @@ use Rattle.circuit.proofs.Chain.{put-same}
 use Rattle.mpc.specs.Run.{Column, next, says, asLent, outputs, run}
 use Rattle.mpc.specs.Tapes.{andsOf}
 use Rattle.mpc.specs.Showing.{runWith, rowBits, rowsOf, Showing, replayOf}
-use Rattle.mpc.specs.Hiding.{Bytes}
+use Rattle.hiding.specs.Hiding.{Bytes}
 use Rattle.hiding.proofs.Shown.{length-row}
 
 -- p's bits of the outputs are those of its row

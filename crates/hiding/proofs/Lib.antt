@@ -10,3 +10,4 @@ pub mod Theorem
 pub mod RunLaws
 pub mod Replay
 pub mod Kept
+pub mod Shows

@@ -12,7 +12,7 @@ use Rattle.bits.specs.Xor.{_⊕_, xors}
 use Rattle.bits.proofs.Xor.{ring, xors-suc, xors-xor, xors-cong}
 use Rattle.circuit.specs.Circuit.{Gate, xor, and, inv, put, evalGates}
 use Rattle.mpc.specs.Run.{Column, next, plus, corrections, corrected, says, asSaid, outputs, run}
-use Rattle.mpc.specs.Laws.{after}
+use Rattle.hiding.specs.Laws.{after}
 use Rattle.hiding.proofs.Columns.{xors-says}
 
 -- bit k of a list, false beyond its end

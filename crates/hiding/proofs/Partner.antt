@@ -19,7 +19,7 @@ use Rattle.bits.proofs.Xor.{xor-false}
 use Rattle.circuit.specs.Circuit.{Circuit}
 use Rattle.mpc.specs.Run.{Column, plus}
 use Rattle.mpc.specs.Tapes.{andsOf, rowBytes, tapeRow, inputMasks, outputMasks, usedBits, withRow}
-use Rattle.mpc.specs.Hiding.{Row, Witness}
+use Rattle.hiding.specs.Hiding.{Row, Witness}
 use Rattle.hiding.proofs.Masked.{bit}
 use Rattle.hiding.proofs.Flips.{maskFlips, productFlips, length-maskFlips, length-productFlips}
 use Rattle.hiding.proofs.Rows.{getD-past, used-inside, row-here, row-other}

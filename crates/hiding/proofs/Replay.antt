@@ -19,8 +19,8 @@ use Rattle.circuit.specs.Circuit.{Gate, xor, and, inv, Circuit, put}
 use Rattle.mpc.specs.Run.{Column, next, plus, corrected, says, asSaid, asLent, Transcript, outputs, run}
 use Rattle.mpc.specs.Tapes.{andsOf, rowBytes, tapeRow, inputMasks, outputMasks, productShares}
 use Rattle.mpc.specs.Showing.{correctionBits, maskedInput, maskedInputs, runWith, runOn, honestRun, rowBits, rowsOf, hidden, Showing, showing, replayOf}
-use Rattle.mpc.specs.Hiding.{Tapes, Witness}
-use Rattle.mpc.specs.Laws.{ReplayRuns, RowUnseen}
+use Rattle.hiding.specs.Hiding.{Tapes, Witness}
+use Rattle.hiding.specs.Laws.{ReplayRuns, RowUnseen}
 use Rattle.hiding.proofs.Columns.{Others, all-agree}
 use Rattle.hiding.proofs.Masked.{bit}
 use Rattle.hiding.proofs.Rows.{inputs-end, row-other, row-again}

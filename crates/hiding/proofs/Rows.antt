@@ -92,6 +92,11 @@ module _ (c : Circuit) (n p : ℕ) (l : p < n) (tapes : List ℕ) (size : length
       row-inside (withRow c p r tapes) (rowBytes c) p (omega (arith, length-withRow, fits))
       ∙ part-with (p * rowBytes c) (rowBytes c) r tapes fits e
 
+  -- the bytes outside that row stay
+  pub byte-other : (k : ℕ) → (k < p * rowBytes c) ⊎ (p * rowBytes c + rowBytes c ≤ k) → getD (withRow c p r tapes) k 0 ≡ getD tapes k 0
+  unfolding withRow
+  byte-other = getD-with (p * rowBytes c) (rowBytes c) r tapes fits e
+
   -- another row's place is before it or after it
   apart : (i k : ℕ) → i ≢ p → k < rowBytes c
       → (i * rowBytes c + k < p * rowBytes c) ⊎ (p * rowBytes c + rowBytes c ≤ i * rowBytes c + k)

@@ -10,7 +10,7 @@ use Rattle.circuit.specs.Circuit.{Gate, xor, and, inv, evaluate}
 use Rattle.mpc.specs.Run.{Column, next, asSaid, outputs, run}
 use Rattle.mpc.specs.Tapes.{inputMasks, outputMasks, productShares}
 use Rattle.mpc.specs.Showing.{correctionBits, maskedInput, runWith, runOn, honestRun}
-use Rattle.mpc.specs.Laws.{after, wiresAfter, RunEnds, MaskedValues, RunEvaluates}
+use Rattle.hiding.specs.Laws.{after, wiresAfter, RunEnds, MaskedValues, RunEvaluates}
 use Rattle.hiding.proofs.Masked.{run-output, after-masked}
 
 -- a run ends with the outputs on the wires after all gates

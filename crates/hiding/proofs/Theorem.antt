@@ -17,7 +17,7 @@ use Rattle.circuit.specs.Circuit.{Circuit, evalGates, evaluate}
 use Rattle.mpc.specs.Run.{Column, asSaid}
 use Rattle.mpc.specs.Tapes.{andsOf, rowBytes, tapeRow, inputMasks, outputMasks, productShares, withRow}
 use Rattle.mpc.specs.Showing.{correctionBits, maskedInput, maskedInputs, runWith, runOn, honestRun, rowBits, shownBits, firstBits, hidden, showing}
-use Rattle.mpc.specs.Hiding.{Row, Witness, Partner, Hiding}
+use Rattle.hiding.specs.Hiding.{Row, Witness, Partner, Hiding}
 use Rattle.hiding.proofs.Columns.{xors-at}
 use Rattle.hiding.proofs.Masked.{bit}
 use Rattle.hiding.proofs.Flips.{turn, shift, maskFlips, corrections-kept, row-kept}

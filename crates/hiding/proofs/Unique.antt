@@ -16,7 +16,7 @@ use Rattle.circuit.specs.Circuit.{Circuit}
 use Rattle.mpc.specs.Run.{Column, corrections, corrected, asSaid, run}
 use Rattle.mpc.specs.Tapes.{andsOf, rowBytes, tapeRow, inputMasks, outputMasks, productShares, usedBits, withRow}
 use Rattle.mpc.specs.Showing.{correctionBits, maskedInput, maskedInputs, runWith, runOn, honestRun, rowBits, Showing, showing}
-use Rattle.mpc.specs.Hiding.{Row}
+use Rattle.hiding.specs.Hiding.{Row}
 use Rattle.hiding.proofs.Columns.{Others, all-agree, sum-agrees}
 use Rattle.hiding.proofs.Masked.{bit}
 use Rattle.hiding.proofs.Fixed.{cancel, row-fixes}

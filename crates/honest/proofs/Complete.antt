@@ -17,7 +17,7 @@ use Rattle.parties.proofs.Counts.{sizes}
 use Rattle.circuit.specs.Circuit.{Circuit, evaluate}
 use Rattle.circuit.specs.Operations.{success}
 use Rattle.mpc.specs.Operations.{holds}
-use Rattle.mpc.specs.Hiding.{Witness}
+use Rattle.hiding.specs.Hiding.{Witness}
 use Rattle.seeds.specs.Derive.{masterOf}
 use Rattle.seeds.specs.Operations.{areCounts}
 use Rattle.seeds.proofs.Instances.{Fit, counts-fit}

@@ -16,7 +16,7 @@ use Rattle.keccak.proofs.Absorbing.{Bytes}
 use Rattle.keccak.proofs.Lengths.{length-shake128}
 use Rattle.circuit.specs.Circuit.{Circuit}
 use Rattle.mpc.specs.Tapes.{rowBytes, tapeRow, usedBits, unusedRows}
-use Rattle.mpc.specs.Hiding.{Tapes}
+use Rattle.hiding.specs.Hiding.{Tapes}
 use Rattle.seeds.specs.Derive.{seedRow, clearFrom}
 use Rattle.seeds.specs.Derive as derive
 use Rattle.seeds.proofs.Hashes.{bytes-append}

@@ -19,7 +19,7 @@ use Rattle.parties.proofs.Counts.{height-pow}
 use Rattle.circuit.specs.Circuit.{Circuit, evaluate}
 use Rattle.mpc.specs.Tapes.{andsOf, rowBytes, tapeRow, usedBits}
 use Rattle.mpc.specs.Showing.{correctionBits, maskedInput, maskedInputs, rowBits, rowsOf, hidden, Showing, showing, replayOf}
-use Rattle.mpc.specs.Hiding.{Tapes, Witness}
+use Rattle.hiding.specs.Hiding.{Tapes, Witness}
 use Rattle.hiding.proofs.Rows.{length-withRow, row-here, row-other}
 use Rattle.hiding.proofs.Shown.{row-all}
 use Rattle.hiding.proofs.RunLaws.{run-evaluates}

@@ -7,7 +7,7 @@ use Prim.Native.Nat.{ℕ}
 use lib.ListN.{length}
 use Rattle.parties.specs.Parties.{heightOf}
 use Rattle.circuit.specs.Circuit.{Circuit}
-use Rattle.mpc.specs.Hiding.{Witness}
+use Rattle.hiding.specs.Hiding.{Witness}
 use Rattle.instance.specs.Instance.{Asked, opened, hiding, masterCommitments, masterOnline, stretchOf}
 use Rattle.instance.specs.Opened.{stretchCommitments, stretchOnline, stretchUnused}
 use Rattle.honest.proofs.Parts.{master-back, online-back}

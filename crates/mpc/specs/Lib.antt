@@ -4,5 +4,3 @@ pub mod Showing
 pub mod Operations
 pub mod Answers
 pub mod Lent
-pub mod Laws
-pub mod Hiding

@@ -8,10 +8,10 @@ use lib.ListN.{length, getD, take}
 use Rattle.bits.specs.Bits.{bitAt}
 use Rattle.bits.specs.Xor.{_⊕_, xors}
 use Rattle.circuit.specs.Circuit.{Gate, xor, and, inv, Circuit, put, evalGates, evaluate}
 use Rattle.mpc.specs.Run.{Column, next, plus, says, Hearing, asSaid, outputs, Transcript, run, corrected}
 use Rattle.mpc.specs.Tapes.{inputMasks, outputMasks, productShares, withRow}
 use Rattle.mpc.specs.Showing.{correctionBits, maskedInput, honestRun, rowsOf, hidden, showing, replayOf}
-use Rattle.mpc.specs.Hiding.{Tapes, Row, Witness}
+use Rattle.hiding.specs.Hiding.{Tapes, Row, Witness}
 
 -- the wires in the middle of a run: the shares of their masks, and their masked values
 pub record Wires : Type 0 where

@@ -1,4 +1,5 @@
--- Theorem, hiding: what is shown fits every witness of the same output (demand 3, first half).
+-- Theorem, hiding: what is shown fits every witness of the same output (demand 3, first half). Over the definition of a showing, for
+-- any number of parties, and over the operation show, for the party counts that it takes.
 -- Assumes nothing.
 use mathlib.Core.Path.{_≡_}
 use mathlib.Core.Bool.{true}
@@ -6,10 +7,12 @@ use mathlib.Core.List.{List}
 use Prim.Native.Nat.{ℕ, _*_, _≤_, _<_}
 use lib.ListN.{length, getD}
 use Rattle.bits.specs.Bits.{oct, pack, bitAt, unusedZero}
+use Rattle.parties.specs.Parties.{isPartyCount}
 use Rattle.circuit.specs.Circuit.{Circuit, evaluate}
 use Rattle.circuit.specs.File.{legal, readCircuit}
 use Rattle.mpc.specs.Tapes.{rowBytes, usedBits, withRow, unusedRows}
-use Rattle.mpc.specs.Showing.{showing}
+use Rattle.mpc.specs.Showing.{Showing, showing}
+use Rattle.mpc.specs.Operations.{Outcome, done, holdsShowing, showOp}
 
 -- len bytes
 pub record Bytes (len : ℕ) (s : List ℕ) : Type 0 where
@@ -46,3 +49,27 @@ Hiding =
     (s : List ℕ) (c : Circuit) → readCircuit s ≡ legal c → (n p : ℕ) → p < n → (tapes : List ℕ) → Tapes c n tapes
     → (w w′ : List ℕ) → Witness c w → Witness c w′ → pack (evaluate c (bitAt w)) ≡ pack (evaluate c (bitAt w′))
     → (r : List ℕ) → Row c n p r → (r′ : List ℕ) × Partner c n p tapes w w′ r r′
+
+-- both calls succeed, and they fill their lent buffers alike
+pub record Alike (a b : Outcome) : Type 0 where
+  pub filled : List (List ℕ)
+  pub one : a ≡ done filled
+  pub other : b ≡ done filled
+
+-- the partner over calls of show on the file s of the circuit c, lent buffers of the right lengths whatever they hold: for every cut
+-- the call with r under w and the call with r′ under w′ fill them alike, and with no other row does the call for the whole showing
+pub record PartnerShown (s : List ℕ) (c : Circuit) (n p : ℕ) (tapes w w′ r r′ : List ℕ) : Type 0 where
+  pub row : Row c n p r′
+  pub cuts : (g : ℕ) → g ≤ length (c .gates) → (out out′ : Showing) → holdsShowing c n out ≡ true → holdsShowing c n out′ ≡ true
+      → Alike (showOp s n p g w (withRow c p r tapes) out) (showOp s n p g w′ (withRow c p r′ tapes) out′)
+  pub only : (x : List ℕ) → Row c n p x → (out out′ : Showing) → holdsShowing c n out ≡ true → holdsShowing c n out′ ≡ true
+      → showOp s n p (length (c .gates)) w (withRow c p r tapes) out .left
+      ≡ showOp s n p (length (c .gates)) w′ (withRow c p x tapes) out′ .left
+      → x ≡ r′
+
+-- "Demand 3's first half is about showings, as show fills them": hiding over the operation
+abbrev pub HidingShown : Type 0
+HidingShown =
+    (s : List ℕ) (c : Circuit) → readCircuit s ≡ legal c → (n p : ℕ) → isPartyCount n ≡ true → p < n → (tapes : List ℕ) → Tapes c n tapes
+    → (w w′ : List ℕ) → Witness c w → Witness c w′ → pack (evaluate c (bitAt w)) ≡ pack (evaluate c (bitAt w′))
+    → (r : List ℕ) → Row c n p r → (r′ : List ℕ) × PartnerShown s c n p tapes w w′ r r′
