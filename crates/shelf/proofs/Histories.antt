@@ -2,22 +2,15 @@
 -- Assumes nothing.
 use mathlib.Core.Path.{refl, sym, subst}
 use mathlib.Core.List.{List, []}
-use Prim.Native.Nat.{ℕ, _-_, _<_}
+use Prim.Native.Nat.{ℕ, _-_}
 use native.Mathlib.Omega.{arith}
-use lib.ListN.{length, getD}
+use lib.ListN.{length}
 use lib.Seq.{drop-nil}
-use Rattle.bits.proofs.Little.{leAt-lt}
-use Rattle.shelf.specs.Page.{drawsOf}
 use Rattle.shelf.specs.Plain.{Plain}
 use Rattle.shelf.specs.History.{Event, Host, present, start, run, plainRun, Start, Same, Histories}
 use Rattle.shelf.proofs.Walks.{count-nil}
-use Rattle.shelf.proofs.Simulation.{Beside, Along, run-along}
+use Rattle.shelf.proofs.Simulation.{draws-u32, Beside, Along, run-along}
 use Rattle.shelf.proofs.Names.{Clean, run-clean}
-
--- draws of a byte string is a u32
-pub draws-u32 : (p : List ℕ) → ((i : ℕ) → getD p i 0 < 256) → drawsOf p < 4294967296
-unfolding drawsOf
-draws-u32 p b = leAt-lt 4 p 8 b
 
 -- the start, on both sides
 start-beside : (page : List ℕ) (log : ℕ) (plain : Plain) (events : List Event) → Start page log plain events → Beside page plain

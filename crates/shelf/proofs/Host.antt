@@ -15,8 +15,7 @@ use Rattle.shelf.specs.Operations.{Said, accepted, refused, stockOp, dra
 use Rattle.shelf.specs.History.{Event, stock, draw, back, Host, present, next, counted, Reply, start, step, run, history}
 use Rattle.shelf.proofs.Operations.{stock-6, stock-17, stock-accepted, draw-15, draw-16, draw-18, draw-accepted}
 use Rattle.shelf.proofs.Moves.{after-stock, after-draw}
-use Rattle.shelf.proofs.Histories.{draws-u32}
-use Rattle.shelf.proofs.Simulation.{next-all, Legal, history-cons, step-place}
+use Rattle.shelf.proofs.Simulation.{draws-u32, next-all, Legal, history-cons, step-place}
 
 -- what a stocking, accepted or refused, does to a sound page: it stays sound, and its S and draws are kept
 pub record StockKeeps (p q : List ℕ) : Type 0 where

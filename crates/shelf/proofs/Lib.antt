@@ -10,4 +10,5 @@ pub mod Names
 pub mod Histories
 pub mod Starts
 pub mod Host
+pub mod Counts
 pub mod Examples

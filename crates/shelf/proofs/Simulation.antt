@@ -7,8 +7,9 @@ use mathlib.Core.Logic.{_≢_, ⊎-elim}
 use Prim.Native.Nat.{ℕ, suc, _+_, _≤_, _<_}
 use native.Mathlib.Omega.{arith}
 use borrow.Author.Tests.{eq-eqb, ne-eqb, le-leb, lt-leb}
-use lib.ListN.{length, length-map}
+use lib.ListN.{length, getD, length-map}
 use Rattle.bits.proofs.Numbers.{lt-or-le, eq-or-ne}
+use Rattle.bits.proofs.Little.{leAt-lt}
 use Rattle.shelf.specs.Page.{readyHead, spareHead, drawsOf, rootOf, zeroRoot, readySlots, spareSlots, sound, readyRoots}
 use Rattle.shelf.specs.Operations.{Said, accepted, refused, drawn, stockOp, drawOp}
 use Rattle.shelf.specs.Plain.{Named, Plain, roots, plainStock, noDraw, frontDrawn, plainDraw}
@@ -50,6 +51,11 @@ module _ (n : ℕ) (s : Plain) where
         → plainDraw n s ≡ record { answer = accepted; root = r .root; given = r .name ∷ []; shelf = record { size = s .size; draws = s .draws + 1; ready = l } }
     unfolding plainDraw frontDrawn
     plain-given h = rw (eq-eqb n (s .draws) c, e, ne-eqb (s .draws) 4294967295 h)
+
+-- draws of a byte string is a u32
+pub draws-u32 : (p : List ℕ) → ((i : ℕ) → getD p i 0 < 256) → drawsOf p < 4294967296
+unfolding drawsOf
+draws-u32 p b = leAt-lt 4 p 8 b
 
 -- a page beside a plain shelf, with draws a u32
 pub record Beside (p : List ℕ) (s : Plain) : Type 0 where

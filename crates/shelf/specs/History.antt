@@ -6,7 +6,7 @@ use mathlib.Core.Path.{_≡_}
 use mathlib.Core.List.{List, [], _∷_, _++_}
 use Prim.Native.Nat.{ℕ, suc, _+_, _≤_, _<_}
 use lib.Dec.{leb}
-use lib.ListN.{length, getD}
+use lib.ListN.{length, getD, take}
 use Rattle.shelf.specs.Page.{sizeOf, drawsOf, readyRoots, zeroRoot, sound, count}
 use Rattle.shelf.specs.Operations.{Said, accepted, refused, stockOp, drawOp}
 use Rattle.shelf.specs.Plain.{Plain, names, roots, plainStock, plainDraw}
@@ -131,3 +131,15 @@ abbrev pub Histories : Type 0
 Histories =
     (page : List ℕ) (log : ℕ) (plain : Plain) (events : List Event) →
     history 0 events → Start page log plain events → Claim page log plain events
+
+-- what a host can count on of its counts: the page's draws do not exceed the log's count, which is a u32 and so can be lent to draw
+pub record Counts (h : Host (List ℕ)) : Type 0 where
+  pub draws : drawsOf (present h) ≤ h .log
+  pub log : h .log ≤ 4294967295
+
+-- so they are before each call: after the first k events of a history, whatever k
+abbrev pub HistoryCounts : Type 0
+HistoryCounts =
+    (page : List ℕ) (log : ℕ) (events : List Event) →
+    history 0 events → ((i : ℕ) → getD page i 0 < 256) → sound page ≡ true → drawsOf page ≡ log →
+    (k : ℕ) → Counts (run (start page log) (take k events) .1)
