@@ -13,3 +13,4 @@ pub mod Complete
 pub mod Inside
 pub mod Room
 pub mod Kept
+pub mod Writes

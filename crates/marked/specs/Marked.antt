@@ -3,17 +3,20 @@
 use mathlib.Core.Path.{_≡_}
 use mathlib.Core.Bool.{Bool, true, false, _&&_}
 use mathlib.Core.List.{List, [], _∷_}
-use Prim.Native.Nat.{ℕ}
+use Prim.Native.Nat.{ℕ, _≤_, _<_}
 use lib.Dec.{eqb}
-use lib.ListN.{set}
-use Rattle.bits.specs.Bits.{tabulate}
+use lib.ListN.{length, getD, set}
+use Rattle.bits.specs.Bits.{tabulate, pack, bitAt, unusedZero}
 use Rattle.bits.specs.Bytes.{sameBytes}
+use Rattle.circuit.specs.Circuit.{evaluate}
 use Rattle.circuit.specs.File.{circuitOf}
 use Rattle.circuit.specs.Operations.{Answer, refusal, success, readOp}
 use Rattle.mpc.specs.Showing.{Showing}
 use Rattle.mpc.specs.Operations.{Outcome, done, prepareOp, runOp, showOp}
-use Rattle.proof.specs.Protocol.{asked}
+use Rattle.seeds.specs.Challenge.{streamOf, hiddenParties}
+use Rattle.proof.specs.Protocol.{firstMessage, asked}
 use Rattle.proof.specs.File.{proofBytes}
+use Rattle.proof.specs.Prove.{proveOp}
 
 -- a row: reading a circuit file, and its answer; an operation's outcome, and what it is; numbers, and what they are
 pub data Case : Type 0 where
@@ -125,3 +128,27 @@ m10Last = counting (proofSizes 1) (232 ∷ 232 ∷ 232 ∷ 232 ∷ [])
 -- the table
 abbrev pub cases : List Case
 cases = m1 ∷ m2 ∷ m3 ∷ m4 ∷ m5 ∷ m6 ∷ m7 ∷ m8 ∷ m8Shown ∷ m9 ∷ m10First ∷ m10Last ∷ []
+
+-- what prove is lent for a proof of K with M = 4, τ = 1 and n = 2: a witness of two bits that gives y, a message, a root, and a buffer
+-- that holds 233 bytes or more, the room that prove asks for
+pub record ForK (witness y message root buffer : List ℕ) : Type 0 where
+  pub witnessSize : length witness ≡ 1
+  pub unused : unusedZero 2 witness ≡ true
+  pub gives : pack (evaluate (circuitOf circuitK) (bitAt witness)) ≡ y
+  pub short : length message ≤ 4096
+  pub rootSize : length root ≡ 16
+  pub room : 233 ≤ length buffer
+
+-- p: the party that the challenge of that proof hides
+unfoldable pub hiddenParty : List ℕ → List ℕ → List ℕ → ℕ
+hiddenParty witness message root = getD (hiddenParties 1 2 (streamOf 1 (firstMessage (circuitOf circuitK) 4 2 witness root) message)) 0 0
+
+-- m10 as the answer of prove: "233 bytes if p = 0, 232 if p = 1"
+pub record ProveAnswers (witness y message root buffer : List ℕ) : Type 0 where
+  pub party : hiddenParty witness message root < 2
+  pub first : hiddenParty witness message root ≡ 0 → proveOp circuitK witness y message root 4 1 2 buffer .answer ≡ success (233 ∷ [])
+  pub last : hiddenParty witness message root ≡ 1 → proveOp circuitK witness y message root 4 1 2 buffer .answer ≡ success (232 ∷ [])
+
+-- for every witness, message, root and buffer
+abbrev pub M10 : Type 0
+M10 = (witness y message root buffer : List ℕ) → ForK witness y message root buffer → ProveAnswers witness y message root buffer

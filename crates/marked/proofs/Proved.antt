@@ -1,0 +1,103 @@
+-- m10 as the answer of prove, for every witness, message and root: by the rows of the table, whichever instance is chosen.
+-- Assumes nothing.
+use mathlib.Core.Path.{_≡_, refl, sym, ap, _∙_}
+use mathlib.Core.Bool.{true}
+use mathlib.Core.List.{List, [], _∷_, List·Memᴰ, List·Memᴰ·head, List·Memᴰ·tail}
+use Prim.Native.Nat.{ℕ, zero, suc, _<_}
+use native.Mathlib.Omega.{arith}
+use lib.ListN.{length, getD, replicate, getD-replicate}
+use Rattle.bits.specs.Bits.{oct}
+use Rattle.bits.specs.Bytes.{leAt}
+use Rattle.bits.proofs.Tabulate.{getD-tabulate}
+use Rattle.parties.specs.Parties.{heightOf, isPartyCount}
+use Rattle.circuit.specs.Circuit.{Circuit, ands}
+use Rattle.circuit.specs.File.{legal, withinLimits, rightLength, goodRecord, goodRecords, walks, goodChain, chainFrom, gateAt, gatesInOrder, readsWritten, goodOutputs, goodWires, circuitOf, readCircuit}
+use Rattle.circuit.specs.Operations.{success}
+use Rattle.mpc.specs.Tapes.{andsOf}
+use Rattle.seeds.specs.Challenge.{streamOf, instances, hiddenParties, Ascending, none, more, Sound}
+use Rattle.seeds.specs.Operations.{areCounts}
+use Rattle.seeds.proofs.Challenges.{challenge-sound}
+use Rattle.proof.specs.Protocol.{firstMessage, asked, challenged}
+use Rattle.proof.specs.File.{proofBytes, proofRoom}
+use Rattle.proof.specs.Prove.{proveOp}
+use Rattle.honest.proofs.Writes.{Passes, prove-answers}
+use Rattle.marked.specs.Marked.{Case, Right, circuitK, proofSizes, m10First, m10Last, cases, ForK, hiddenParty, ProveAnswers, M10}
+use Rattle.marked.proofs.Table.{marked-cases}
+
+-- K is legal; its numbers, and the room for its proof
+read-K : readCircuit circuitK ≡ legal (circuitOf circuitK)
+unfolding readCircuit withinLimits rightLength goodRecord goodRecords walks goodChain chainFrom gateAt readsWritten goodOutputs goodWires leAt gatesInOrder
+read-K = refl
+
+inputs-K : circuitOf circuitK .inputs ≡ 2
+unfolding circuitOf leAt
+inputs-K = refl
+
+room-K : proofRoom (circuitOf circuitK) 4 1 2 ≡ 233
+unfolding proofRoom circuitOf leAt gatesInOrder walks chainFrom gateAt ands heightOf
+room-K = refl
+
+-- the two rows of the table
+first-row : proofSizes 0 ≡ replicate 4 233
+unfolding Right
+first-row = marked-cases m10First (List·Memᴰ·tail (List·Memᴰ·tail (List·Memᴰ·tail (List·Memᴰ·tail (List·Memᴰ·tail (List·Memᴰ·tail (List·Memᴰ·tail (List·Memᴰ·tail (List·Memᴰ·tail (List·Memᴰ·tail (List·Memᴰ·head refl)))))))))))
+
+last-row : proofSizes 1 ≡ replicate 4 232
+unfolding Right
+last-row = marked-cases m10Last (List·Memᴰ·tail (List·Memᴰ·tail (List·Memᴰ·tail (List·Memᴰ·tail (List·Memᴰ·tail (List·Memᴰ·tail (List·Memᴰ·tail (List·Memᴰ·tail (List·Memᴰ·tail (List·Memᴰ·tail (List·Memᴰ·tail (List·Memᴰ·head refl))))))))))))
+
+-- a proof of four instances of which i is chosen and hides p
+chosen-size : (i p k : ℕ) → i < 4 → proofSizes p ≡ replicate 4 k → proofBytes (circuitOf circuitK) 4 2 (asked (i ∷ []) (p ∷ [])) ≡ k
+chosen-size i p k h e =
+    sym (getD-tabulate 4 (λ j. proofBytes (circuitOf circuitK) 4 2 (asked (j ∷ []) (p ∷ []))) i 0 h)
+    ∙ ap (λ (l : List ℕ). getD l i 0) e ∙ getD-replicate 4 i k 0 h
+
+-- the first chosen instance is one of the four
+first-below : (i : ℕ) (is : List ℕ) → Ascending 4 0 (i ∷ is) → i < 4
+first-below i is (more a b r) = b
+
+-- one instance is chosen, and its hidden party decides the length
+size-by-party : (is ps : List ℕ) (p k : ℕ) → Sound 4 1 2 is ps → getD ps 0 0 ≡ p → proofSizes p ≡ replicate 4 k
+    → proofBytes (circuitOf circuitK) 4 2 (asked is ps) ≡ k
+size-by-party [] ps p k s e f = absurd (omega (arith, s .count))
+size-by-party (i ∷ is) [] p k s e f = absurd (omega (arith, s .paired))
+size-by-party (i ∷ []) (q ∷ []) p k s e f = chosen-size i q k (first-below i [] (s .ascending)) (ap proofSizes e ∙ f)
+size-by-party (i ∷ []) (q ∷ q′ ∷ ps) p k s e f = absurd (omega (arith, s .paired))
+size-by-party (i ∷ i′ ∷ is) (q ∷ ps) p k s e f = absurd (omega (arith, s .count))
+
+-- what is lent passes the tests of prove
+passes : (witness y message root buffer : List ℕ) → ForK witness y message root buffer → Passes (circuitOf circuitK) witness y message root buffer 4 1 2
+unfolding areCounts isPartyCount heightOf
+passes witness y message root buffer h =
+    record {
+      counts = refl;
+      parties = refl;
+      size = rw inputs-K (h .witnessSize);
+      unused = rw inputs-K (h .unused);
+      gives = h .gives;
+      short = h .short;
+      rootSize = h .rootSize;
+      room = rw room-K (h .room);
+    }
+
+-- prove answers the length that its hidden party decides
+answers : (witness y message root buffer : List ℕ) (p k : ℕ) → ForK witness y message root buffer → proofSizes p ≡ replicate 4 k
+    → hiddenParty witness message root ≡ p → proveOp circuitK witness y message root 4 1 2 buffer .answer ≡ success (k ∷ [])
+unfolding hiddenParty challenged
+answers witness y message root buffer p k h f e =
+    let hstar : List ℕ = firstMessage (circuitOf circuitK) 4 2 witness root in
+    let stream : List ℕ = streamOf 1 hstar message in
+    prove-answers (circuitOf circuitK) witness y message root buffer 4 1 2 (passes witness y message root buffer h) circuitK read-K
+    ∙ ap (λ (n : ℕ). success (n ∷ []))
+    (size-by-party (instances 4 1 stream) (hiddenParties 1 2 stream) p k (challenge-sound 4 1 2 hstar message (omega arith) (omega arith)) e f)
+
+-- "m10 M = 4, τ = 1, n = 2: 233 bytes if p = 0, 232 if p = 1"
+pub m10-proved : M10
+unfolding hiddenParty
+m10-proved witness y message root buffer h =
+    let hstar : List ℕ = firstMessage (circuitOf circuitK) 4 2 witness root in
+    record {
+      party = challenge-sound 4 1 2 hstar message (omega arith) (omega arith) .hidden 0;
+      first = answers witness y message root buffer 0 233 h first-row;
+      last = answers witness y message root buffer 1 232 h last-row;
+    }
