@@ -11,24 +11,10 @@ use lib.ListN.{length, take, drop}
 use lib.Seq.{sets}
 use Rattle.bits.specs.Bytes.{leBytes}
 use Rattle.bits.proofs.Numbers.{eq-or-ne}
-use Rattle.refusal.specs.Refusal.{numberOf}
-use Rattle.refusal.proofs.Laws.{numberOf-injective}
-use Rattle.shelf.specs.declared.Answer.{Answer}
-use Rattle.shelf.specs.declared.Answer.the-variants.{Accepted, Refused}
 use Rattle.shelf.specs.declared.Shelf.{Shelf}
 use Rattle.shelf.specs.Page.{slotAt, readyHead, spareHead, drawsOf, nextOf, rootOf, zeroRoot, sound}
-use Rattle.shelf.specs.Operations.{accepted, refused, said, putSlot, putHeads, linkAfter, movedAfter, stocked, drawn, stockOp, drawOp}
+use Rattle.shelf.specs.Operations.{accepted, refused, putSlot, putHeads, linkAfter, movedAfter, stocked, drawn, stockOp, drawOp}
 use Rattle.shelf.proofs.Soundness.{shelfOf}
-
--- answers that say the same are the same
-pub said-injective : (a b : Answer) → said a ≡ said b → a ≡ b
-unfolding said
-said-injective Accepted Accepted e = refl
-said-injective Accepted (Refused r) e = cc
-said-injective (Refused r) Accepted e = cc
-said-injective (Refused r) (Refused q) e =
-    let f : numberOf r ≡ numberOf q = cc in
-    ap Refused (numberOf-injective r q f)
 
 module _ (p root : List ℕ) where
   pub stock-14 : sound p ≡ false → stockOp p root ≡ (refused 14, p)

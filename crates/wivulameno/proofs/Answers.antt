@@ -1,0 +1,112 @@
+-- Different answers stay different: in what the C functions say, and so in the paper's terms.
+-- Assumes nothing.
+use mathlib.Core.Path.{_≡_, refl, sym, ap}
+use mathlib.Core.List.{List, [], _∷_}
+use Prim.Native.Nat.{ℕ}
+use native.Mathlib.Omega.{arith}
+use Rattle.refusal.specs.declared.Refusal.{Refusal}
+use Rattle.refusal.specs.Refusal.{numberOf}
+use Rattle.refusal.proofs.Laws.{numberOf-injective, numberOf-range}
+use Rattle.circuit.specs.Answers.{readPaper, evaluatePaper}
+use Rattle.circuit.specs.declared.Sizes.{Sizes}
+use Rattle.circuit.specs.declared.ReadAnswer.the-variants as readAnswer
+use Rattle.circuit.specs.declared.EvaluateAnswer.the-variants as evaluateAnswer
+use Rattle.mpc.specs.Answers as mpc
+use Rattle.mpc.specs.declared.Answer.the-variants as mpcAnswer
+use Rattle.seeds.specs.Operations as seeds
+use Rattle.seeds.specs.declared.Answer.the-variants as seedsAnswer
+use Rattle.proving.specs.Answers as proving
+use Rattle.proving.specs.declared.Answer.the-variants as proveAnswer
+use Rattle.checking.specs.Answers as checking
+use Rattle.checking.specs.declared.Answer.the-variants as checkAnswer
+use Rattle.shelf.specs.Operations.{said}
+use Rattle.shelf.specs.declared.Answer.the-variants as shelfAnswer
+use Rattle.wivulameno.specs.Interface.{status, values, shelfStatus}
+use Rattle.wivulameno.specs.Answers.{Injective, DifferentAnswers, reported, DifferentStatuses}
+
+-- what is different after another step was different before it
+before : {A B C : Type 0} (f : A → B) (g : B → C) → Injective (λ a. g (f a)) → Injective f
+before f g h a b e = h a b (ap g e)
+
+-- no refusal has the number 0
+not-zero : {A : Type 0} (k : Refusal) → _≡_ {A = ℕ} 0 (numberOf k) → A
+not-zero k e = absurd (omega (arith, numberOf-range k))
+
+read-status : (lent : List ℕ) → Injective (λ a. reported lent (readPaper a))
+unfolding status values
+read-status lent (readAnswer.Legal x) (readAnswer.Legal y) e =
+    let f : _≡_ {A = List ℕ} (x .inputs ∷ x .outputs ∷ x .gates ∷ x .ands ∷ []) (y .inputs ∷ y .outputs ∷ y .gates ∷ y .ands ∷ []) =
+    ap (λ (p : ℕ × List ℕ). p .1) e in
+    let a : x .inputs ≡ y .inputs = cc in
+    let b : x .outputs ≡ y .outputs = cc in
+    let c : x .gates ≡ y .gates = cc in
+    let d : x .ands ≡ y .ands = cc in
+    λ i. readAnswer.Legal (record { inputs = a i; outputs = b i; gates = c i; ands = d i })
+read-status lent (readAnswer.Legal x) (readAnswer.Refused k) e = not-zero k (ap (λ (p : ℕ × List ℕ). p .0) e)
+read-status lent (readAnswer.Refused k) (readAnswer.Legal y) e = not-zero k (sym (ap (λ (p : ℕ × List ℕ). p .0) e))
+read-status lent (readAnswer.Refused k) (readAnswer.Refused l) e =
+    ap readAnswer.Refused (numberOf-injective k l (ap (λ (p : ℕ × List ℕ). p .0) e))
+
+evaluate-status : Injective (λ a. status (evaluatePaper a))
+unfolding status
+evaluate-status evaluateAnswer.Done evaluateAnswer.Done e = refl
+evaluate-status evaluateAnswer.Done (evaluateAnswer.Refused k) e = not-zero k e
+evaluate-status (evaluateAnswer.Refused k) evaluateAnswer.Done e = not-zero k (sym e)
+evaluate-status (evaluateAnswer.Refused k) (evaluateAnswer.Refused l) e = ap evaluateAnswer.Refused (numberOf-injective k l e)
+
+run-status : Injective (λ a. status (mpc.paper a))
+unfolding status
+run-status mpcAnswer.Done mpcAnswer.Done e = refl
+run-status mpcAnswer.Done (mpcAnswer.Refused k) e = not-zero k e
+run-status (mpcAnswer.Refused k) mpcAnswer.Done e = not-zero k (sym e)
+run-status (mpcAnswer.Refused k) (mpcAnswer.Refused l) e = ap mpcAnswer.Refused (numberOf-injective k l e)
+
+derive-number : Injective seeds.paper
+derive-number seedsAnswer.Done seedsAnswer.Done e = refl
+derive-number seedsAnswer.Done (seedsAnswer.Refused k) e = not-zero k e
+derive-number (seedsAnswer.Refused k) seedsAnswer.Done e = not-zero k (sym e)
+derive-number (seedsAnswer.Refused k) (seedsAnswer.Refused l) e = ap seedsAnswer.Refused (numberOf-injective k l e)
+
+prove-status : (lent : List ℕ) → Injective (λ a. reported lent (proving.paper a))
+unfolding status values
+prove-status lent (proveAnswer.Written x) (proveAnswer.Written y) e =
+    let f : _≡_ {A = List ℕ} (x ∷ []) (y ∷ []) = ap (λ (p : ℕ × List ℕ). p .1) e in
+    let a : x ≡ y = cc in
+    ap proveAnswer.Written a
+prove-status lent (proveAnswer.Written x) (proveAnswer.Refused k) e = not-zero k (ap (λ (p : ℕ × List ℕ). p .0) e)
+prove-status lent (proveAnswer.Refused k) (proveAnswer.Written y) e = not-zero k (sym (ap (λ (p : ℕ × List ℕ). p .0) e))
+prove-status lent (proveAnswer.Refused k) (proveAnswer.Refused l) e =
+    ap proveAnswer.Refused (numberOf-injective k l (ap (λ (p : ℕ × List ℕ). p .0) e))
+
+check-status : Injective (λ a. status (checking.paper a))
+unfolding status
+check-status checkAnswer.Accepted checkAnswer.Accepted e = refl
+check-status checkAnswer.Accepted (checkAnswer.Refused k) e = not-zero k e
+check-status (checkAnswer.Refused k) checkAnswer.Accepted e = not-zero k (sym e)
+check-status (checkAnswer.Refused k) (checkAnswer.Refused l) e = ap checkAnswer.Refused (numberOf-injective k l e)
+
+shelf-status : Injective (λ a. shelfStatus (said a))
+unfolding shelfStatus said
+shelf-status shelfAnswer.Accepted shelfAnswer.Accepted e = refl
+shelf-status shelfAnswer.Accepted (shelfAnswer.Refused k) e = not-zero k e
+shelf-status (shelfAnswer.Refused k) shelfAnswer.Accepted e = not-zero k (sym e)
+shelf-status (shelfAnswer.Refused k) (shelfAnswer.Refused l) e = ap shelfAnswer.Refused (numberOf-injective k l e)
+
+-- the C functions say different things of different answers
+pub different-statuses : DifferentStatuses
+different-statuses =
+    record { read = read-status; evaluate = evaluate-status; run = run-status; prove = prove-status; check = check-status; shelf = shelf-status }
+
+-- and so do the paper's terms
+pub different-answers : DifferentAnswers
+different-answers =
+    record {
+      refusals = numberOf-injective;
+      read = before readPaper (reported []) (read-status []);
+      evaluate = before evaluatePaper status evaluate-status;
+      run = before mpc.paper status run-status;
+      derive = derive-number;
+      prove = before proving.paper (reported []) (prove-status []);
+      check = before checking.paper status check-status;
+      shelf = before said shelfStatus shelf-status;
+    }

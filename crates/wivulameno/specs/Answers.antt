@@ -1,0 +1,44 @@
+-- Theorem: different answers of an operation stay different in the paper's terms, and in what its C function says.
+-- "When an answer is an enum, a definition gives this paper's number and values for each of its cases."
+-- Assumes nothing.
+use mathlib.Core.Path.{_≡_}
+use mathlib.Core.List.{List}
+use Prim.Native.Nat.{ℕ}
+use Rattle.refusal.specs.Refusal.{numberOf}
+use Rattle.circuit.specs.Operations.{Answer}
+use Rattle.circuit.specs.Answers.{readPaper, evaluatePaper}
+use Rattle.mpc.specs.Answers as mpc
+use Rattle.seeds.specs.Operations as seeds
+use Rattle.proving.specs.Answers as proving
+use Rattle.checking.specs.Answers as checking
+use Rattle.shelf.specs.Operations.{said}
+use Rattle.wivulameno.specs.Interface.{status, values, shelfStatus}
+
+-- different arguments have different results
+abbrev pub Injective : {A B : Type 0} → (A → B) → Type 0
+Injective {A} f = (a b : A) → f a ≡ f b → a ≡ b
+
+-- the definitions that put each answer enum into the paper's terms: of the refusals; of read; of evaluate; of prepare, run, show and
+-- replay; of expand, open and challenge; of prove; of check; of stock and draw
+pub record DifferentAnswers : Type 0 where
+  pub refusals : Injective numberOf
+  pub read : Injective readPaper
+  pub evaluate : Injective evaluatePaper
+  pub run : Injective mpc.paper
+  pub derive : Injective seeds.paper
+  pub prove : Injective proving.paper
+  pub check : Injective checking.paper
+  pub shelf : Injective said
+
+-- what a C function with numbers to fill in says: its status, and those numbers, where `lent` is what they were
+abbrev pub reported : List ℕ → Answer → ℕ × List ℕ
+reported lent a = (status a, values a lent)
+
+-- what their C functions say; expand, open and challenge return the number itself
+pub record DifferentStatuses : Type 0 where
+  pub read : (lent : List ℕ) → Injective (λ a. reported lent (readPaper a))
+  pub evaluate : Injective (λ a. status (evaluatePaper a))
+  pub run : Injective (λ a. status (mpc.paper a))
+  pub prove : (lent : List ℕ) → Injective (λ a. reported lent (proving.paper a))
+  pub check : Injective (λ a. status (checking.paper a))
+  pub shelf : Injective (λ a. shelfStatus (said a))
