@@ -8,7 +8,7 @@ use native.Mathlib.Omega.{arith}
 use lib.ListN.{take}
 use Rattle.shelf.specs.Page.{drawsOf}
 use Rattle.shelf.specs.Operations.{accepted, refused, drawOp}
-use Rattle.shelf.specs.History.{Event, stock, draw, back, Host, present, next, counted, start, step, run, history, HistoryCounts}
+use Rattle.shelf.specs.History.{Event, stock, draw, back, Host, present, next, counted, start, step, run, IsHistory, HistoryCounts}
 use Rattle.shelf.proofs.Simulation.{draws-u32, history-cons, step-place}
 use Rattle.shelf.proofs.Host.{draw-keeps, AllKept, start-kept, step-kept, run-kept}
 
@@ -31,16 +31,16 @@ step-u32 h (stock r) c l = l
 step-u32 h draw c l = draw-u32 h c l
 step-u32 h (back k) c l = l
 
-run-u32 : (es : List Event) (h : Host (List ℕ)) → history (h .place) es → AllKept h → h .log ≤ 4294967295 → run h es .1 .log ≤ 4294967295
+run-u32 : (es : List Event) (h : Host (List ℕ)) → IsHistory (h .place) es → AllKept h → h .log ≤ 4294967295 → run h es .1 .log ≤ 4294967295
 unfolding run
 run-u32 [] h o c l = l
 run-u32 (e ∷ es) h o c l =
     let a = history-cons (h .place) e es o in
-    run-u32 es (step h e .1) (subst (λ (i : ℕ). history i es) (sym (step-place h e)) (a .1)) (step-kept h e (a .0) c) (step-u32 h e c l)
+    run-u32 es (step h e .1) (subst (λ (i : ℕ). IsHistory i es) (sym (step-place h e)) (a .1)) (step-kept h e (a .0) c) (step-u32 h e c l)
 
 -- the first events of a history are one
-history-take : (k i : ℕ) (es : List Event) → history i es → history i (take k es)
-unfolding history
+history-take : (k i : ℕ) (es : List Event) → IsHistory i es → IsHistory i (take k es)
+unfolding IsHistory
 history-take zero i es o = tt
 history-take (suc k) i [] o = tt
 history-take (suc k) i (stock r ∷ es) o = history-take k (suc i) es o

@@ -11,8 +11,8 @@ use borrow.Author.Tests.{le-leb, lt-leb}
 use lib.ListN.{length, getD}
 use Rattle.bits.proofs.Numbers.{eq-or-ne}
 use Rattle.shelf.specs.Page.{sizeOf, readyHead, spareHead, drawsOf, zeroRoot, sound}
-use Rattle.shelf.specs.Operations.{Said, accepted, refused, stockOp, drawOp}
-use Rattle.shelf.specs.History.{Event, stock, draw, back, Host, present, next, counted, Reply, start, step, run, history}
+use Rattle.shelf.specs.Operations.{Answer, accepted, refused, stockOp, drawOp}
+use Rattle.shelf.specs.History.{Event, stock, draw, back, Host, present, next, counted, Reply, start, step, run, IsHistory}
 use Rattle.shelf.proofs.Operations.{stock-6, stock-17, stock-accepted, draw-15, draw-16, draw-18, draw-accepted}
 use Rattle.shelf.proofs.Moves.{after-stock, after-draw}
 use Rattle.shelf.proofs.Simulation.{draws-u32, next-all, Legal, history-cons, step-place}
@@ -79,7 +79,7 @@ pub record Kept (n : ℕ) (p : List ℕ) : Type 0 where
 
 -- every page that the history has had
 abbrev pub AllKept : Host (List ℕ) → Type 0
-AllKept h = (k : ℕ) → k ≤ h .place → Kept (h .log) (h .had k)
+AllKept h = (k : ℕ) → k ≤ h .place → Kept (h .log) (h .pages k)
 
 -- a log that has counted more
 kept-more : (n m : ℕ) (p : List ℕ) → n ≤ m → Kept n p → Kept m p
@@ -87,7 +87,7 @@ kept-more n m p l c = record { isSound = c .isSound; behind = omega (arith, c .b
 
 kept-next : (h : Host (List ℕ)) (p : List ℕ) (m : ℕ) → h .log ≤ m → AllKept h → Kept m p → AllKept (next h p m)
 unfolding next
-kept-next h p m l c x = next-all (Kept m) h p m (λ k o. kept-more (h .log) m (h .had k) l (c k o)) x
+kept-next h p m l c x = next-all (Kept m) h p m (λ k o. kept-more (h .log) m (h .pages k) l (c k o)) x
 
 draw-kept : (h : Host (List ℕ)) → AllKept h → AllKept (next h (drawOp (present h) (h .log) .2) (counted (drawOp (present h) (h .log) .0) (h .log)))
 draw-kept h c =
@@ -117,24 +117,24 @@ step-kept h (stock r) l c =
     kept-next h (stockOp (present h) r .1) (h .log) (omega arith) c
     (record { isSound = s .isSound; behind = omega (arith, s .draws, k .behind); u32 = omega (arith, s .draws, k .u32) })
 step-kept h draw l c = draw-kept h c
-step-kept h (back k) l c = kept-next h (h .had k) (h .log) (omega arith) c (c k l)
+step-kept h (back k) l c = kept-next h (h .pages k) (h .log) (omega arith) c (c k l)
 
 -- the whole list keeps them all
-pub run-kept : (es : List Event) (h : Host (List ℕ)) → history (h .place) es → AllKept h → AllKept (run h es .1)
+pub run-kept : (es : List Event) (h : Host (List ℕ)) → IsHistory (h .place) es → AllKept h → AllKept (run h es .1)
 unfolding run
 run-kept [] h l c = c
 run-kept (e ∷ es) h l c =
     let o = history-cons (h .place) e es l in
-    run-kept es (step h e .1) (subst (λ (i : ℕ). history i es) (sym (step-place h e)) (o .1)) (step-kept h e (o .0) c)
+    run-kept es (step h e .1) (subst (λ (i : ℕ). IsHistory i es) (sym (step-place h e)) (o .1)) (step-kept h e (o .0) c)
 
 -- a page had stays had
-step-had : (h : Host (List ℕ)) (e : Event) (k : ℕ) → k ≤ h .place → step h e .1 .had k ≡ h .had k
+step-pages : (h : Host (List ℕ)) (e : Event) (k : ℕ) → k ≤ h .place → step h e .1 .pages k ≡ h .pages k
 unfolding step next
-step-had h (stock r) k l = rw (le-leb k (h .place) l)
-step-had h draw k l = rw (le-leb k (h .place) l)
-step-had h (back j) k l = rw (le-leb k (h .place) l)
+step-pages h (stock r) k l = rw (le-leb k (h .place) l)
+step-pages h draw k l = rw (le-leb k (h .place) l)
+step-pages h (back j) k l = rw (le-leb k (h .place) l)
 
-counted-more : (s : Said) (n : ℕ) → n ≤ counted s n
+counted-more : (s : Answer) (n : ℕ) → n ≤ counted s n
 counted-more accepted n = omega arith
 counted-more (refused m) n = omega arith
 
@@ -146,28 +146,28 @@ step-log h draw = counted-more (drawOp (present h) (h .log) .0) (h .log)
 step-log h (back j) = omega arith
 
 -- a page with fewer draws than the log has fewer ever after
-pub older-stays : (es : List Event) (h : Host (List ℕ)) (k : ℕ) → k ≤ h .place → drawsOf (h .had k) < h .log → drawsOf (run h es .1 .had k) < run h es .1 .log
+pub older-stays : (es : List Event) (h : Host (List ℕ)) (k : ℕ) → k ≤ h .place → drawsOf (h .pages k) < h .log → drawsOf (run h es .1 .pages k) < run h es .1 .log
 unfolding run
 older-stays [] h k l o = o
 older-stays (e ∷ es) h k l o =
-    let a = ap drawsOf (step-had h e k l) in
+    let a = ap drawsOf (step-pages h e k l) in
     older-stays es (step h e .1) k (omega (arith, step-place h e)) (omega (arith, step-log h e))
 
 draw-log : (h : Host (List ℕ)) → drawOp (present h) (h .log) .0 ≡ accepted → step h draw .1 .log ≡ h .log + 1
 unfolding step next
-draw-log h e = ap (λ (s : Said). counted s (h .log)) e
+draw-log h e = ap (λ (s : Answer). counted s (h .log)) e
 
 -- each page that was had before an accepted draw has fewer draws than the log after it
 pub older-after-draw : (h : Host (List ℕ)) (k : ℕ) → AllKept h → k ≤ h .place → drawOp (present h) (h .log) .0 ≡ accepted
-    → drawsOf (step h draw .1 .had k) < step h draw .1 .log
+    → drawsOf (step h draw .1 .pages k) < step h draw .1 .log
 older-after-draw h k c l e =
-    let a = ap drawsOf (step-had h draw k l) in
+    let a = ap drawsOf (step-pages h draw k l) in
     let g = draw-log h e in
     omega (arith, c k l .behind)
 
 -- and ever after
 older-run : (h : Host (List ℕ)) (k : ℕ) (es : List Event) → AllKept h → k ≤ h .place → drawOp (present h) (h .log) .0 ≡ accepted
-    → drawsOf (run h (draw ∷ es) .1 .had k) < run h (draw ∷ es) .1 .log
+    → drawsOf (run h (draw ∷ es) .1 .pages k) < run h (draw ∷ es) .1 .log
 unfolding run
 older-run h k es c l a = older-stays es (step h draw .1) k (omega (arith, step-place h draw)) (older-after-draw h k c l a)
 
@@ -184,7 +184,7 @@ unfoldable pub Until : Host (List ℕ) → List Event → Type 0
 Until h [] = Unit {0}
 Until h (stock r ∷ es) = Until (step h (stock r) .1) es
 Until h (draw ∷ es) = Until (step h draw .1) es
-Until h (back k ∷ es) = (drawsOf (h .had k) ≢ h .log) × Until (step h (back k) .1) es
+Until h (back k ∷ es) = (drawsOf (h .pages k) ≢ h .log) × Until (step h (back k) .1) es
 
 -- the page after an event
 next-present : (h : Host (List ℕ)) (p : List ℕ) (n : ℕ) → present (next h p n) ≡ p
@@ -200,9 +200,9 @@ stock-log : (h : Host (List ℕ)) (r : List ℕ) → step h (stock r) .1 .log �
 unfolding step next
 stock-log h r = refl
 
-back-present : (h : Host (List ℕ)) (k : ℕ) → present (step h (back k) .1) ≡ h .had k
+back-present : (h : Host (List ℕ)) (k : ℕ) → present (step h (back k) .1) ≡ h .pages k
 unfolding step
-back-present h k = next-present h (h .had k) (h .log)
+back-present h k = next-present h (h .pages k) (h .log)
 
 back-log : (h : Host (List ℕ)) (k : ℕ) → step h (back k) .1 .log ≡ h .log
 unfolding step next
@@ -222,34 +222,34 @@ module _ (h : Host (List ℕ)) (e : drawOp (present h) (h .log) ≡ (refused 15,
   draw-same = rw e
 
 -- while the page's draws are not the log's count, every draw is refused with 15, whatever is stocked, until a page of the present count is put back
-pub refused-until : (es : List Event) (h : Host (List ℕ)) → AllKept h → history (h .place) es → Until h es → drawsOf (present h) ≢ h .log → Refused15 es (run h es .0)
+pub refused-until : (es : List Event) (h : Host (List ℕ)) → AllKept h → IsHistory (h .place) es → Until h es → drawsOf (present h) ≢ h .log → Refused15 es (run h es .0)
 unfolding run Until
 refused-until [] h c l u n = tt
 refused-until (stock r ∷ es) h c l u n =
     let o = history-cons (h .place) (stock r) es l in
     let s = stock-keeps (present h) r (c (h .place) (omega arith) .isSound) in
-    refused-until es (step h (stock r) .1) (step-kept h (stock r) (o .0) c) (subst (λ (i : ℕ). history i es) (sym (step-place h (stock r))) (o .1)) u
+    refused-until es (step h (stock r) .1) (step-kept h (stock r) (o .0) c) (subst (λ (i : ℕ). IsHistory i es) (sym (step-place h (stock r))) (o .1)) u
     (λ e. n (sym (s .draws) ∙ sym (ap drawsOf (stock-present h r)) ∙ e ∙ stock-log h r))
 refused-until (draw ∷ es) h c l u n =
     let o = history-cons (h .place) draw es l in
     let y = draw-15 (present h) (h .log) (c (h .place) (omega arith) .isSound) (λ e. n (sym e)) in (
       draw-reply h y,
-      refused-until es (step h draw .1) (step-kept h draw (o .0) c) (subst (λ (i : ℕ). history i es) (sym (step-place h draw)) (o .1)) u
+      refused-until es (step h draw .1) (step-kept h draw (o .0) c) (subst (λ (i : ℕ). IsHistory i es) (sym (step-place h draw)) (o .1)) u
           (λ e. n (sym (ap drawsOf (draw-present h y)) ∙ e ∙ draw-same h y)),
     )
 refused-until (back k ∷ es) h c l u n =
     let o = history-cons (h .place) (back k) es l in
-    refused-until es (step h (back k) .1) (step-kept h (back k) (o .0) c) (subst (λ (i : ℕ). history i es) (sym (step-place h (back k))) (o .1)) (u .1)
+    refused-until es (step h (back k) .1) (step-kept h (back k) (o .0) c) (subst (λ (i : ℕ). IsHistory i es) (sym (step-place h (back k))) (o .1)) (u .1)
     (λ e. (u .0) (sym (ap drawsOf (back-present h k)) ∙ e ∙ back-log h k))
 
 -- a page put back from before an accepted draw: every draw is refused with 15, until a page of the present count is put back
 pub put-back-refused : (h : Host (List ℕ)) (k : ℕ) (es fs : List Event) → AllKept h → k ≤ h .place → drawOp (present h) (h .log) .0 ≡ accepted
-    → history (h .place) (draw ∷ es) → history (run h (draw ∷ es) .1 .place) (back k ∷ fs) → Until (step (run h (draw ∷ es) .1) (back k) .1) fs
+    → IsHistory (h .place) (draw ∷ es) → IsHistory (run h (draw ∷ es) .1 .place) (back k ∷ fs) → Until (step (run h (draw ∷ es) .1) (back k) .1) fs
     → Refused15 fs (run (step (run h (draw ∷ es) .1) (back k) .1) fs .0)
 put-back-refused h k es fs c l a m n u =
     let g = run h (draw ∷ es) .1 in
     let kept = run-kept (draw ∷ es) h m c in
     let o = history-cons (g .place) (back k) fs n in
-    let older : drawsOf (g .had k) < g .log = older-run h k es c l a in
-    refused-until fs (step g (back k) .1) (step-kept g (back k) (o .0) kept) (subst (λ (i : ℕ). history i fs) (sym (step-place g (back k))) (o .1)) u
+    let older : drawsOf (g .pages k) < g .log = older-run h k es c l a in
+    refused-until fs (step g (back k) .1) (step-kept g (back k) (o .0) kept) (subst (λ (i : ℕ). IsHistory i fs) (sym (step-place g (back k))) (o .1)) u
     (λ e. absurd (omega (arith, older, ap drawsOf (back-present g k), e, back-log g k)))

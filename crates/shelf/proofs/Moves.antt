@@ -16,7 +16,7 @@ use Rattle.shelf.specs.Page.{sizeOf, readyHead, spareHead, drawsOf, slot
 use Rattle.shelf.specs.Operations.{putSlot, putHeads, stocked, drawn}
 use Rattle.shelf.proofs.Walks.{count-same, count-cons}
 use Rattle.shelf.proofs.Soundness.{both}
-use Rattle.shelf.proofs.Slots.{Leads, absent, leads-frame, leads-zero, Told, told, untold, told-length}
+use Rattle.shelf.proofs.Slots.{Leads, absent, leads-frame, leads-zero, HasChains, sound-chains, chains-sound, chains-length}
 use Rattle.shelf.proofs.Fields.{Moved, moved, moved-draws, moved-counted, counted-draws}
 
 -- roots of slots that did not move
@@ -45,7 +45,7 @@ unfolding blank
 blank-more p x l e b = both (ap (λ (r : List ℕ). sameBytes r zeroRoot) e ∙ same-refl zeroRoot) b
 
 -- a slot that is counted is one of 1..S
-in-page : (p r s : List ℕ) (k : ℕ) → Told p r s → 1 ≤ count k r + count k s → k ≤ sizeOf p
+in-page : (p r s : List ℕ) (k : ℕ) → HasChains p r s → 1 ≤ count k r + count k s → k ≤ sizeOf p
 in-page p r s k c h = ⊎-elim (λ (l : sizeOf p < k). absurd (omega (arith, c .noOther k l))) (λ (l : k ≤ sizeOf p). l) (lt-or-le (sizeOf p) k)
 
 -- a head is 0 or a slot
@@ -54,8 +54,8 @@ leads-small next S k [] e f = omega arith
 leads-small next S k (x ∷ l) (e, w) f = ⊎-elim (λ (q : S < x). absurd (omega (arith, f x q, count-same x l))) (λ (q : x ≤ S). omega arith) (lt-or-le S x)
 
 -- the first spare slot goes to the front of ready
-pub stock-told : (p r s : List ℕ) (k : ℕ) (root q : List ℕ) → Told p r (k ∷ s) → Moved p k (readyHead p) root k (nextOf p k) q → Told q (k ∷ r) s
-stock-told p r s k root q c m =
+pub stock-chains : (p r s : List ℕ) (k : ℕ) (root q : List ℕ) → HasChains p r (k ∷ s) → Moved p k (readyHead p) root k (nextOf p k) q → HasChains q (k ∷ r) s
+stock-chains p r s k root q c m =
     let n = nextOf p in
     let z : k ≢ 0 = c .spareLeads .1 .0 in
     let i : k ≤ sizeOf p = in-page p r (k ∷ s) k c (omega (arith, count-same k s)) in
@@ -77,8 +77,8 @@ stock-told p r s k root q c m =
     }
 
 -- the first ready slot goes to the front of spare
-pub draw-told : (p r s : List ℕ) (k : ℕ) (q : List ℕ) → Told p (k ∷ r) s → Moved p k (spareHead p) zeroRoot (nextOf p k) k q → Told q r (k ∷ s)
-draw-told p r s k q c m =
+pub draw-chains : (p r s : List ℕ) (k : ℕ) (q : List ℕ) → HasChains p (k ∷ r) s → Moved p k (spareHead p) zeroRoot (nextOf p k) k q → HasChains q r (k ∷ s)
+draw-chains p r s k q c m =
     let n = nextOf p in
     let z : k ≢ 0 = c .readyLeads .1 .0 in
     let i : k ≤ sizeOf p = in-page p (k ∷ r) s k c (omega (arith, count-same k r)) in
@@ -100,9 +100,9 @@ draw-told p r s k q c m =
     }
 
 -- the ready roots of a page, by its ready slots
-roots-of : (p r s : List ℕ) → Told p r s → readyRoots p ≡ map (rootOf p) r
+roots-of : (p r s : List ℕ) → HasChains p r s → readyRoots p ≡ map (rootOf p) r
 unfolding readyRoots
-roots-of p r s c = ap (map (rootOf p)) (untold p r s c .1 .0)
+roots-of p r s c = ap (map (rootOf p)) (chains-sound p r s c .1 .0)
 
 -- what an accepted stocking does to a sound page
 pub record AfterStock (p root q : List ℕ) : Type 0 where
@@ -111,13 +111,13 @@ pub record AfterStock (p root q : List ℕ) : Type 0 where
   pub draws : drawsOf q ≡ drawsOf p
   pub ready : readyRoots q ≡ root ∷ readyRoots p
 
-stock-from : (p root r s : List ℕ) → Told p r s → length root ≡ 16 → spareHead p ≢ 0 → AfterStock p root (stocked p root)
+stock-from : (p root r s : List ℕ) → HasChains p r s → length root ≡ 16 → spareHead p ≢ 0 → AfterStock p root (stocked p root)
 unfolding stocked
 stock-from p root r [] c l y = absurd (y (c .spareLeads))
 stock-from p root r (x ∷ s) c l y =
     let k = spareHead p in
     let e : x ≡ k = sym (c .spareLeads .0) in
-    let d : Told p r (k ∷ s) = subst (λ (j : ℕ). Told p r (j ∷ s)) e c in
+    let d : HasChains p r (k ∷ s) = subst (λ (j : ℕ). HasChains p r (j ∷ s)) e c in
     let i : k ≤ sizeOf p = in-page p r (k ∷ s) k d (omega (arith, count-same k s)) in
     let f : slotAt k + 18 ≤ length p = omega (arith, c .long) in
     let hn : readyHead p ≤ sizeOf p = leads-small (nextOf p) (sizeOf p) (readyHead p) r (d .readyLeads) (λ t q. omega (arith, d .noOther t q)) in
@@ -126,10 +126,10 @@ stock-from p root r (x ∷ s) c l y =
     let h = c .high in
     let m = moved p k (readyHead p) root k (nextOf p k) y l f (omega arith) (omega arith) (omega arith) in
     let q = putHeads k (nextOf p k) (putSlot k (readyHead p) root p) in
-    let t = stock-told p r s k root q d m in
+    let t = stock-chains p r s k root q d m in
     let cr : count k r ≡ 0 = omega (arith, d .once k (omega arith) i, count-same k s) in
     record {
-      isSound = untold q (k ∷ r) s t .0;
+      isSound = chains-sound q (k ∷ r) s t .0;
       size = m .size;
       draws = moved-draws p k (readyHead p) root k (nextOf p k) y l f (omega arith) (omega arith) (omega arith);
       ready =
@@ -138,7 +138,7 @@ stock-from p root r (x ∷ s) c l y =
     }
 
 pub after-stock : (p root : List ℕ) → sound p ≡ true → length root ≡ 16 → spareHead p ≢ 0 → AfterStock p root (stocked p root)
-after-stock p root t l y = stock-from p root (readySlots p) (spareSlots p) (told p t) l y
+after-stock p root t l y = stock-from p root (readySlots p) (spareSlots p) (sound-chains p t) l y
 
 -- what an accepted draw does to a sound page
 pub record AfterDraw (p q : List ℕ) : Type 0 where
@@ -147,13 +147,13 @@ pub record AfterDraw (p q : List ℕ) : Type 0 where
   pub draws : drawsOf q ≡ drawsOf p + 1
   pub ready : readyRoots p ≡ rootOf p (readyHead p) ∷ readyRoots q
 
-draw-from : (p r s : List ℕ) → Told p r s → readyHead p ≢ 0 → drawsOf p < 4294967295 → AfterDraw p (drawn p)
+draw-from : (p r s : List ℕ) → HasChains p r s → readyHead p ≢ 0 → drawsOf p < 4294967295 → AfterDraw p (drawn p)
 unfolding drawn
 draw-from p [] s c y u = absurd (y (c .readyLeads))
 draw-from p (x ∷ r) s c y u =
     let k = readyHead p in
     let e : x ≡ k = sym (c .readyLeads .0) in
-    let d : Told p (k ∷ r) s = subst (λ (j : ℕ). Told p (j ∷ r) s) e c in
+    let d : HasChains p (k ∷ r) s = subst (λ (j : ℕ). HasChains p (j ∷ r) s) e c in
     let i : k ≤ sizeOf p = in-page p (k ∷ r) s k d (omega (arith, count-same k r)) in
     let f : slotAt k + 18 ≤ length p = omega (arith, c .long) in
     let hn : spareHead p ≤ sizeOf p = leads-small (nextOf p) (sizeOf p) (spareHead p) s (d .spareLeads) (λ t q. omega (arith, d .noOther t q)) in
@@ -165,11 +165,11 @@ draw-from p (x ∷ r) s c y u =
     let q = putHeads (nextOf p k) k (putSlot k (spareHead p) zeroRoot p) in
     let n = moved-counted p k (spareHead p) zeroRoot (nextOf p k) k q (drawsOf p + 1) m in
     let v = sets q 8 (leBytes 4 (drawsOf p + 1)) in
-    let t = draw-told p r s k v d n in
+    let t = draw-chains p r s k v d n in
     let cr : count k r ≡ 0 = omega (arith, d .once k (omega arith) i, count-same k r) in
     let g : 12 ≤ length q = omega (arith, m .long) in
     record {
-      isSound = untold v r (k ∷ s) t .0;
+      isSound = chains-sound v r (k ∷ s) t .0;
       size = n .size;
       draws = counted-draws q (drawsOf p + 1) g (omega arith);
       ready =
@@ -179,26 +179,26 @@ draw-from p (x ∷ r) s c y u =
     }
 
 pub after-draw : (p : List ℕ) → sound p ≡ true → readyHead p ≢ 0 → drawsOf p < 4294967295 → AfterDraw p (drawn p)
-after-draw p t y u = draw-from p (readySlots p) (spareSlots p) (told p t) y u
+after-draw p t y u = draw-from p (readySlots p) (spareSlots p) (sound-chains p t) y u
 
 -- the spare chain is empty where S roots are ready, and only there
-full-from : (p r s : List ℕ) → Told p r s → (spareHead p ≡ 0 → length r ≡ sizeOf p) × (length r ≡ sizeOf p → spareHead p ≡ 0)
-full-from p r [] c = (λ e. omega (arith, told-length p r [] c), λ e. c .spareLeads)
+full-from : (p r s : List ℕ) → HasChains p r s → (spareHead p ≡ 0 → length r ≡ sizeOf p) × (length r ≡ sizeOf p → spareHead p ≡ 0)
+full-from p r [] c = (λ e. omega (arith, chains-length p r [] c), λ e. c .spareLeads)
 full-from p r (x ∷ s) c =
-    (λ e. absurd (c .spareLeads .1 .0 (sym (c .spareLeads .0) ∙ e)), λ e. absurd (omega (arith, told-length p r (x ∷ s) c)))
+    (λ e. absurd (c .spareLeads .1 .0 (sym (c .spareLeads .0) ∙ e)), λ e. absurd (omega (arith, chains-length p r (x ∷ s) c)))
 
 pub full : (p : List ℕ) → sound p ≡ true → (spareHead p ≡ 0 → length (readyRoots p) ≡ sizeOf p) × (length (readyRoots p) ≡ sizeOf p → spareHead p ≡ 0)
 unfolding readyRoots
 full p t =
-    let f = full-from p (readySlots p) (spareSlots p) (told p t) in
+    let f = full-from p (readySlots p) (spareSlots p) (sound-chains p t) in
     let e = length-map (readySlots p) (rootOf p) in
     (λ h. e ∙ f .0 h, λ h. f .1 (sym e ∙ h))
 
 -- the ready chain is empty where no root is ready, and only there
-pub none-from : (p r s : List ℕ) → Told p r s → (readyHead p ≡ 0 → r ≡ []) × (r ≡ [] → readyHead p ≡ 0)
+pub none-from : (p r s : List ℕ) → HasChains p r s → (readyHead p ≡ 0 → r ≡ []) × (r ≡ [] → readyHead p ≡ 0)
 none-from p [] s c = (λ e. refl, λ e. c .readyLeads)
 none-from p (x ∷ r) s c = (λ e. absurd (c .readyLeads .1 .0 (sym (c .readyLeads .0) ∙ e)), λ e. absurd (let n : length (x ∷ r) ≡ 0 = ap length e in omega arith))
 
 pub no-ready : (p : List ℕ) → sound p ≡ true → readyHead p ≡ 0 → readyRoots p ≡ []
 unfolding readyRoots
-no-ready p t h = ap (map (rootOf p)) (none-from p (readySlots p) (spareSlots p) (told p t) .0 h)
+no-ready p t h = ap (map (rootOf p)) (none-from p (readySlots p) (spareSlots p) (sound-chains p t) .0 h)

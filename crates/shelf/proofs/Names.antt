@@ -11,7 +11,7 @@ use Rattle.bits.proofs.Numbers.{eq-or-ne}
 use Rattle.shelf.specs.Page.{count}
 use Rattle.shelf.specs.Operations.{accepted}
 use Rattle.shelf.specs.Plain.{Named, Plain, names, plainStock, PlainDrawn, noDraw, plainDraw}
-use Rattle.shelf.specs.History.{Event, stock, draw, back, Host, present, next, counted, plainStep, plainRun, history}
+use Rattle.shelf.specs.History.{Event, stock, draw, back, Host, present, next, counted, plainStep, plainRun, IsHistory}
 use Rattle.shelf.proofs.Walks.{count-nil, count-cons, count-same, count-other, count-append}
 use Rattle.shelf.proofs.Simulation.{plain-6, plain-17, plain-stocked, plain-15, plain-16, plain-18, plain-given, next-all, Legal, history-cons}
 
@@ -32,7 +32,7 @@ pub record Neat (end i log : ℕ) (given : List ℕ) (s : Plain) : Type 0 where
 pub record Clean (end : ℕ) (h : Host Plain) (given : List ℕ) : Type 0 where
   pub few : (x : ℕ) → count x given ≤ 1
   pub fresh : (x : ℕ) → h .place ≤ x → x < end → count x given ≡ 0
-  pub each : (k : ℕ) → k ≤ h .place → Neat end (h .place) (h .log) given (h .had k)
+  pub each : (k : ℕ) → k ≤ h .place → Neat end (h .place) (h .log) given (h .pages k)
 
 -- one event more, which gives no name
 neat-later : (end i log : ℕ) (given : List ℕ) (s : Plain) → Neat end i log given s → Neat end (suc i) log given s
@@ -45,7 +45,7 @@ clean-next end h given s c n =
       few = c .few;
       fresh = λ x a b. c .fresh x (omega arith) b;
       each =
-          next-all (Neat end (suc (h .place)) (h .log) given) h s (h .log) (λ k l. neat-later end (h .place) (h .log) given (h .had k) (c .each k l)) n;
+          next-all (Neat end (suc (h .place)) (h .log) given) h s (h .log) (λ k l. neat-later end (h .place) (h .log) given (h .pages k) (c .each k l)) n;
     }
 
 -- the shelf present
@@ -113,7 +113,7 @@ draw-given end h given r l e q c =
       fresh = λ x u v. omega (arith, fr x (omega arith) v, c .fresh x (omega arith) v, count-cons x y given, count-cons x y (names l));
       each =
           next-all (Neat end (suc (h .place)) (h .log + 1) (y ∷ given)) h (record { size = s .size; draws = s .draws + 1; ready = l }) (h .log + 1)
-          (λ k m. given-later end (h .place) (h .log) given y (h .had k) (c .each k m))
+          (λ k m. given-later end (h .place) (h .log) given y (h .pages k) (c .each k m))
           (record {
             behind = omega arith;
             apart = λ x. rw w (omega (arith, ap1 x, count-cons x y given, count-cons x y (names l)));
@@ -143,7 +143,7 @@ step-clean end h given (stock r) l o c =
     clean-next end h given (plainStock (h .place) r (present h) .1) c
     (stock-neat end (h .place) (h .log) given (present h) r l (c .fresh) (clean-present end h given c))
 step-clean end h given draw l o c = draw-clean end h given c
-step-clean end h given (back k) l o c = clean-next end h given (h .had k) c (neat-later end (h .place) (h .log) given (h .had k) (c .each k o))
+step-clean end h given (back k) l o c = clean-next end h given (h .pages k) c (neat-later end (h .place) (h .log) given (h .pages k) (c .each k o))
 
 -- an event more
 plain-place : (h : Host Plain) (e : Event) → plainStep h e .host .place ≡ suc (h .place)
@@ -153,7 +153,7 @@ plain-place h draw = refl
 plain-place h (back k) = refl
 
 -- the whole list
-pub run-clean : (end : ℕ) (es : List Event) (h : Host Plain) (given : List ℕ) → h .place + length es ≡ end → history (h .place) es → Clean end h given
+pub run-clean : (end : ℕ) (es : List Event) (h : Host Plain) (given : List ℕ) → h .place + length es ≡ end → IsHistory (h .place) es → Clean end h given
     → (x : ℕ) → count x given + count x (plainRun h es .given) ≤ 1
 unfolding plainRun
 run-clean end [] h given n l c x = omega (arith, c .few x, count-nil x)
@@ -162,5 +162,5 @@ run-clean end (e ∷ es) h given n l c x =
     let p = plain-place h e in
     let s = step-clean end h given e (omega arith) (o .0) c in
     let g = plainStep h e .given in
-    let r = run-clean end es (plainStep h e .host) (g ++ given) (omega arith) (subst (λ (i : ℕ). history i es) (sym p) (o .1)) s x in
+    let r = run-clean end es (plainStep h e .host) (g ++ given) (omega arith) (subst (λ (i : ℕ). IsHistory i es) (sym p) (o .1)) s x in
     omega (arith, count-append x g given, count-append x g (plainRun (plainStep h e .host) es .given))

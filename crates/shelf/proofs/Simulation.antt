@@ -11,11 +11,11 @@ use lib.ListN.{length, getD, length-map}
 use Rattle.bits.proofs.Numbers.{lt-or-le, eq-or-ne}
 use Rattle.bits.proofs.Little.{leAt-lt}
 use Rattle.shelf.specs.Page.{readyHead, spareHead, drawsOf, rootOf, zeroRoot, readySlots, spareSlots, sound, readyRoots}
-use Rattle.shelf.specs.Operations.{Said, accepted, refused, drawn, stockOp, drawOp}
+use Rattle.shelf.specs.Operations.{Answer, accepted, refused, drawn, stockOp, drawOp}
 use Rattle.shelf.specs.Plain.{Named, Plain, roots, plainStock, noDraw, frontDrawn, plainDraw}
-use Rattle.shelf.specs.History.{Event, stock, draw, back, Host, present, next, counted, step, run, plainStep, plainRun, history, Same}
+use Rattle.shelf.specs.History.{Event, stock, draw, back, Host, present, next, counted, step, run, plainStep, plainRun, IsHistory, Agrees}
 use Rattle.shelf.proofs.Operations.{stock-6, stock-17, stock-accepted, draw-15, draw-16, draw-18, draw-accepted}
-use Rattle.shelf.proofs.Slots.{told}
+use Rattle.shelf.proofs.Slots.{sound-chains}
 use Rattle.shelf.proofs.Moves.{after-stock, after-draw, full, no-ready, none-from}
 
 -- the plain shelf, case by case
@@ -59,11 +59,11 @@ draws-u32 p b = leAt-lt 4 p 8 b
 
 -- a page beside a plain shelf, with draws a u32
 pub record Beside (p : List ℕ) (s : Plain) : Type 0 where
-  pub same : Same p s
+  pub same : Agrees p s
   pub u32 : drawsOf p < 4294967296
 
 -- as many roots are ready
-ready-length : (p : List ℕ) (s : Plain) → Same p s → length (s .ready) ≡ length (readyRoots p)
+ready-length : (p : List ℕ) (s : Plain) → Agrees p s → length (s .ready) ≡ length (readyRoots p)
 ready-length p s c = sym (length-map (s .ready) (λ (r : Named). r .root)) ∙ sym (ap length (c .ready))
 
 -- a stocking on both
@@ -104,7 +104,7 @@ map-nil p (x ∷ l) e = absurd (let n : length (map (rootOf p) (x ∷ l)) ≡ 0 
 
 some-ready : (p : List ℕ) → sound p ≡ true → readyHead p ≢ 0 → readyRoots p ≢ []
 unfolding readyRoots
-some-ready p t h e = h (none-from p (readySlots p) (spareSlots p) (told p t) .1 (map-nil p (readySlots p) e))
+some-ready p t h e = h (none-from p (readySlots p) (spareSlots p) (sound-chains p t) .1 (map-nil p (readySlots p) e))
 
 -- what a draw does on both
 pub record BesideDraw (p : List ℕ) (n : ℕ) (s : Plain) : Type 0 where
@@ -167,7 +167,7 @@ beside-draw p n s b =
     (eq-or-ne n (drawsOf p))
 
 -- what holds of every page had, and of the page after one event more, holds of every page had then
-pub next-all : {A : Type 0} (P : A → Type 0) (h : Host A) (s : A) (n : ℕ) → ((k : ℕ) → k ≤ h .place → P (h .had k)) → P s → (k : ℕ) → k ≤ suc (h .place) → P (next h s n .had k)
+pub next-all : {A : Type 0} (P : A → Type 0) (h : Host A) (s : A) (n : ℕ) → ((k : ℕ) → k ≤ h .place → P (h .pages k)) → P s → (k : ℕ) → k ≤ suc (h .place) → P (next h s n .pages k)
 unfolding next
 next-all P h s n f x k l =
     ⊎-elim
@@ -177,7 +177,7 @@ next-all P h s n f x k l =
 
 -- the same of two hosts
 next-both : {A B : Type 0} (R : A → B → Type 0) (g : Host A) (h : Host B) (a : A) (b : B) (m n : ℕ) → g .place ≡ h .place
-    → ((k : ℕ) → k ≤ g .place → R (g .had k) (h .had k)) → R a b → (k : ℕ) → k ≤ suc (g .place) → R (next g a m .had k) (next h b n .had k)
+    → ((k : ℕ) → k ≤ g .place → R (g .pages k) (h .pages k)) → R a b → (k : ℕ) → k ≤ suc (g .place) → R (next g a m .pages k) (next h b n .pages k)
 unfolding next
 next-both R g h a b m n e f x k l =
     ⊎-elim
@@ -189,7 +189,7 @@ next-both R g h a b m n e f x k l =
 pub record Along (g : Host (List ℕ)) (h : Host Plain) : Type 0 where
   pub place : g .place ≡ h .place
   pub log : g .log ≡ h .log
-  pub each : (k : ℕ) → k ≤ g .place → Beside (g .had k) (h .had k)
+  pub each : (k : ℕ) → k ≤ g .place → Beside (g .pages k) (h .pages k)
 
 -- the pages present
 pub along-present : (g : Host (List ℕ)) (h : Host Plain) → Along g h → Beside (present g) (present h)
@@ -211,8 +211,8 @@ Legal i draw = Unit {0}
 Legal i (back k) = k ≤ i
 
 -- a history's first event, and the rest
-pub history-cons : (i : ℕ) (e : Event) (es : List Event) → history i (e ∷ es) → Legal i e × history (suc i) es
-unfolding history
+pub history-cons : (i : ℕ) (e : Event) (es : List Event) → IsHistory i (e ∷ es) → Legal i e × IsHistory (suc i) es
+unfolding IsHistory
 history-cons i (stock r) es h = (tt, h)
 history-cons i draw es h = (tt, h)
 history-cons i (back k) es h = h
@@ -229,7 +229,7 @@ pub step-along : (g : Host (List ℕ)) (h : Host Plain) (e : Event) → Along g 
 unfolding step plainStep
 step-along g h (stock r) a l =
     let b = beside-stock (present g) (present h) (h .place) r (along-present g h a) in (
-      ap (λ (x : Said). (x, zeroRoot)) (b .0),
+      ap (λ (x : Answer). (x, zeroRoot)) (b .0),
       along-next g h (stockOp (present g) r .1) (plainStock (h .place) r (present h) .1) (g .log) (h .log) a (a .log) (b .1),
     )
 step-along g h draw a l =
@@ -237,19 +237,19 @@ step-along g h draw a l =
     let b0 = beside-draw (present g) n (present h) (along-present g h a) in
     let b : (drawOp (present g) n .0 ≡ plainDraw (h .log) (present h) .answer) × ((drawOp (present g) n .1 ≡ plainDraw (h .log) (present h) .root) × Beside (drawOp (present g) n .2) (plainDraw (h .log) (present h) .shelf)) =
     rw (sym (a .log)) (b0 .answer, (b0 .root, b0 .after)) in (
-      ap₂ (λ (x : Said) (y : List ℕ). (x, y)) (b .0) (b .1 .0),
+      ap₂ (λ (x : Answer) (y : List ℕ). (x, y)) (b .0) (b .1 .0),
       along-next g h (drawOp (present g) n .2) (plainDraw (h .log) (present h) .shelf) (counted (drawOp (present g) n .0) n) (counted (plainDraw (h .log) (present h) .answer) (h .log)) a
           (ap₂ counted (b .0) (a .log)) (b .1 .1),
     )
-step-along g h (back k) a l = (refl, along-next g h (g .had k) (h .had k) (g .log) (h .log) a (a .log) (a .each k l))
+step-along g h (back k) a l = (refl, along-next g h (g .pages k) (h .pages k) (g .log) (h .log) a (a .log) (a .each k l))
 
 -- the whole list
-pub run-along : (es : List Event) (g : Host (List ℕ)) (h : Host Plain) → Along g h → history (g .place) es
+pub run-along : (es : List Event) (g : Host (List ℕ)) (h : Host Plain) → Along g h → IsHistory (g .place) es
     → (run g es .0 ≡ plainRun h es .replies) × Along (run g es .1) (plainRun h es .host)
 unfolding run plainRun
 run-along [] g h a l = (refl, a)
 run-along (e ∷ es) g h a l =
     let c = history-cons (g .place) e es l in
     let s = step-along g h e a (c .0) in
-    let r = run-along es (step g e .1) (plainStep h e .host) (s .1) (subst (λ (i : ℕ). history i es) (sym (step-place g e)) (c .1)) in
+    let r = run-along es (step g e .1) (plainStep h e .host) (s .1) (subst (λ (i : ℕ). IsHistory i es) (sym (step-place g e)) (c .1)) in
     (ap₂ _∷_ (s .0) (r .0), r .1)

@@ -142,7 +142,7 @@ total-once zero l f = refl
 total-once (suc n) l f = omega (arith, f (suc n) (omega arith) (omega arith), total-once n l (λ k h m. f k h (omega arith)))
 
 -- "The ready chain and the spare chain, each ended by 0, together visit every slot exactly once. Spare slots hold a zero root"
-pub record Told (p ready spare : List ℕ) : Type 0 where
+pub record HasChains (p ready spare : List ℕ) : Type 0 where
   pub long : length p ≡ 12 + 18 * sizeOf p
   pub low : 1 ≤ sizeOf p
   pub high : sizeOf p ≤ 255
@@ -154,9 +154,9 @@ pub record Told (p ready spare : List ℕ) : Type 0 where
   pub blanks : blank p spare ≡ true
 
 -- a sound page's chains
-pub told : (p : List ℕ) → sound p ≡ true → Told p (readySlots p) (spareSlots p)
+pub sound-chains : (p : List ℕ) → sound p ≡ true → HasChains p (readySlots p) (spareSlots p)
 unfolding readySlots spareSlots
-told p t =
+sound-chains p t =
     let a = parts p t in
     let S = sizeOf p in
     let b = chains-parts p S (readyHead p) (spareHead p) (a .chained) in
@@ -175,19 +175,19 @@ told p t =
     }
 
 -- every slot is on one of the chains, so their lengths make S
-pub told-length : (p r s : List ℕ) → Told p r s → length r + length s ≡ sizeOf p
-told-length p r s c =
+pub chains-length : (p r s : List ℕ) → HasChains p r s → length r + length s ≡ sizeOf p
+chains-length p r s c =
     let S = sizeOf p in
     let l = r ++ s in
     let z : count 0 l ≡ 0 = omega (arith, count-append 0 r s, leads-zero (nextOf p) r (readyHead p) (c .readyLeads), leads-zero (nextOf p) s (spareHead p) (c .spareLeads)) in
     omega (arith, length-append r s, total-length S l z (λ x q. count-append x r s ∙ c .noOther x q), total-once S l (λ k a b. count-append k r s ∙ c .once k a b))
 
 -- a page with two such chains is sound, and those are its chains
-pub untold : (p r s : List ℕ) → Told p r s → (sound p ≡ true) × ((readySlots p ≡ r) × (spareSlots p ≡ s))
+pub chains-sound : (p r s : List ℕ) → HasChains p r s → (sound p ≡ true) × ((readySlots p ≡ r) × (spareSlots p ≡ s))
 unfolding readySlots spareSlots
-untold p r s c =
+chains-sound p r s c =
     let S = sizeOf p in
-    let n = told-length p r s c in
+    let n = chains-length p r s c in
     let er : chain (nextOf p) S (readyHead p) ≡ r = chain-leads (nextOf p) r S (readyHead p) (c .readyLeads) (omega arith) in
     let es : chain (nextOf p) S (spareHead p) ≡ s = chain-leads (nextOf p) s S (spareHead p) (c .spareLeads) (omega arith) in
     let o : allOne (λ k. count k (chain (nextOf p) S (readyHead p) ++ chain (nextOf p) S (spareHead p))) S ≡ true =

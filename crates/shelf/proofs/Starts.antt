@@ -10,7 +10,7 @@ use lib.ListN.{length, getD}
 use Rattle.bits.proofs.Numbers.{eq-or-ne}
 use Rattle.shelf.specs.Page.{sizeOf, drawsOf, readyRoots, sound, count}
 use Rattle.shelf.specs.Plain.{Named, Plain, names, roots}
-use Rattle.shelf.specs.History.{Event, Start}
+use Rattle.shelf.specs.History.{Event, IsStart}
 use Rattle.shelf.proofs.Walks.{count-nil, count-same, count-other}
 
 -- the roots of a list, named n, n + 1, ..
@@ -42,7 +42,7 @@ named-once n (r ∷ l) x =
 
 -- "It starts at any sound page whose draws equals the log's count": whatever the events, there is a plain shelf to start with
 pub start-exists : (page : List ℕ) (log : ℕ) (events : List Event) → ((i : ℕ) → getD page i 0 < 256) → sound page ≡ true → drawsOf page ≡ log
-    → (plain : Plain) × Start page log plain events
+    → (plain : Plain) × IsStart page log plain events
 start-exists page log events bytes isSound isLog =
     let n = length events in
     let l = readyRoots page in (
@@ -54,7 +54,7 @@ start-exists page log events bytes isSound isLog =
         size = refl;
         draws = refl;
         ready = roots-named n l;
-        alike = named-once n l;
+        distinct = named-once n l;
         noPlace = named-past n l;
       },
     )

@@ -8,7 +8,7 @@ use Prim.Native.Nat.{ℕ, suc, _+_, _≤_, _<_}
 use lib.Dec.{leb}
 use lib.ListN.{length, getD, take}
 use Rattle.shelf.specs.Page.{sizeOf, drawsOf, readyRoots, zeroRoot, sound, count}
-use Rattle.shelf.specs.Operations.{Said, accepted, refused, stockOp, drawOp}
+use Rattle.shelf.specs.Operations.{Answer, accepted, refused, stockOp, drawOp}
 use Rattle.shelf.specs.Plain.{Plain, names, roots, plainStock, plainDraw}
 
 -- "a list of stockings, draws and pages put back": the bytes lent as the root; the k of the page put back
@@ -20,25 +20,25 @@ pub data Event : Type 0 where
 -- the number of events so far; what the page was after the first k of them; the log's count
 pub record Host (P : Type 0) : Type 0 where
   pub place : ℕ
-  pub had : ℕ → P
+  pub pages : ℕ → P
   pub log : ℕ
 
 -- "the page as the event before left it"
 abbrev pub present : {P : Type 0} → Host P → P
-present h = h .had (h .place)
+present h = h .pages (h .place)
 
 -- one event more, after which the page is p and the log's count n
 unfoldable pub next : {P : Type 0} → Host P → P → ℕ → Host P
-next h p n = record { place = suc (h .place); had = λ k. cond (leb k (h .place)) (h .had k) p; log = n }
+next h p n = record { place = suc (h .place); pages = λ k. cond (leb k (h .place)) (h .pages k) p; log = n }
 
 -- the log "has counted each accepted draw before the next call"
-abbrev pub counted : Said → ℕ → ℕ
+abbrev pub counted : Answer → ℕ → ℕ
 counted accepted n = n + 1
 counted (refused r) n = n
 
 -- what an event answers: accepted or a refusal's number, and the root that goes out, a zero root where none does
 abbrev pub Reply : Type 0
-Reply = Said × List ℕ
+Reply = Answer × List ℕ
 
 -- "Each call is lent the page as the event before left it, a draw the log's count too"
 unfoldable pub step : Host (List ℕ) → Event → Reply × Host (List ℕ)
@@ -47,7 +47,7 @@ step h draw = (
   (drawOp (present h) (h .log) .0, drawOp (present h) (h .log) .1),
   next h (drawOp (present h) (h .log) .2) (counted (drawOp (present h) (h .log) .0) (h .log)),
 )
-step h (back k) = ((accepted, zeroRoot), next h (h .had k) (h .log))
+step h (back k) = ((accepted, zeroRoot), next h (h .pages k) (h .log))
 
 -- the answers to a list of events, one by one, and the host after them
 unfoldable pub run : Host (List ℕ) → List Event → List Reply × Host (List ℕ)
@@ -73,7 +73,7 @@ plainStep h draw = record {
   given = plainDraw (h .log) (present h) .given;
   host = next h (plainDraw (h .log) (present h) .shelf) (counted (plainDraw (h .log) (present h) .answer) (h .log));
 }
-plainStep h (back k) = record { reply = (accepted, zeroRoot); given = []; host = next h (h .had k) (h .log) }
+plainStep h (back k) = record { reply = (accepted, zeroRoot); given = []; host = next h (h .pages k) (h .log) }
 
 -- the plain shelf's answers, the names given by accepted draws in order, and the plain host afterwards
 pub record PlainRun : Type 0 where
@@ -90,30 +90,30 @@ plainRun h (e ∷ es) = record {
 }
 
 -- "a page put back is one that this history has had, whole, after its first k events": k is at most the i events so far
-unfoldable pub history : ℕ → List Event → Type 0
-history i [] = Unit {0}
-history i (stock r ∷ es) = history (suc i) es
-history i (draw ∷ es) = history (suc i) es
-history i (back k ∷ es) = (k ≤ i) × history (suc i) es
+unfoldable pub IsHistory : ℕ → List Event → Type 0
+IsHistory i [] = Unit {0}
+IsHistory i (stock r ∷ es) = IsHistory (suc i) es
+IsHistory i (draw ∷ es) = IsHistory (suc i) es
+IsHistory i (back k ∷ es) = (k ≤ i) × IsHistory (suc i) es
 
 -- before the first event the history has had the starting page, and no other
 abbrev pub start : {P : Type 0} → P → ℕ → Host P
-start p n = record { place = 0; had = λ k. p; log = n }
+start p n = record { place = 0; pages = λ k. p; log = n }
 
 -- "It starts at any sound page whose draws equals the log's count, its ready roots counted as stocked";
 -- "those ready at the start have a name each, no two alike and none a place in the list"
-pub record Start (page : List ℕ) (log : ℕ) (plain : Plain) (events : List Event) : Type 0 where
+pub record IsStart (page : List ℕ) (log : ℕ) (plain : Plain) (events : List Event) : Type 0 where
   pub bytes : (i : ℕ) → getD page i 0 < 256
   pub isSound : sound page ≡ true
   pub isLog : drawsOf page ≡ log
   pub size : plain .size ≡ sizeOf page
   pub draws : plain .draws ≡ drawsOf page
   pub ready : roots (plain .ready) ≡ readyRoots page
-  pub alike : (x : ℕ) → count x (names (plain .ready)) ≤ 1
+  pub distinct : (x : ℕ) → count x (names (plain .ready)) ≤ 1
   pub noPlace : (x : ℕ) → x < length events → count x (names (plain .ready)) ≡ 0
 
 -- the page is sound and has the plain shelf's S, draws and ready roots in chain order
-pub record Same (page : List ℕ) (plain : Plain) : Type 0 where
+pub record Agrees (page : List ℕ) (plain : Plain) : Type 0 where
   pub isSound : sound page ≡ true
   pub size : sizeOf page ≡ plain .size
   pub draws : drawsOf page ≡ plain .draws
@@ -123,17 +123,17 @@ pub record Same (page : List ℕ) (plain : Plain) : Type 0 where
 -- "a root is drawn twice if two accepted draws give the same name"
 pub record Claim (page : List ℕ) (log : ℕ) (plain : Plain) (events : List Event) : Type 0 where
   pub answers : run (start page log) events .0 ≡ plainRun (start plain log) events .replies
-  pub after : Same (present (run (start page log) events .1)) (present (plainRun (start plain log) events .host))
+  pub after : Agrees (present (run (start page log) events .1)) (present (plainRun (start plain log) events .host))
   pub once : (x : ℕ) → count x (plainRun (start plain log) events .given) ≤ 1
 
 -- demand 3, second half: "one claim about the whole list"
 abbrev pub Histories : Type 0
 Histories =
     (page : List ℕ) (log : ℕ) (plain : Plain) (events : List Event) →
-    history 0 events → Start page log plain events → Claim page log plain events
+    IsHistory 0 events → IsStart page log plain events → Claim page log plain events
 
 -- what a host can count on of its counts: the page's draws do not exceed the log's count, which is a u32 and so can be lent to draw
-pub record Counts (h : Host (List ℕ)) : Type 0 where
+pub record CountsFit (h : Host (List ℕ)) : Type 0 where
   pub draws : drawsOf (present h) ≤ h .log
   pub log : h .log ≤ 4294967295
 
@@ -141,5 +141,5 @@ pub record Counts (h : Host (List ℕ)) : Type 0 where
 abbrev pub HistoryCounts : Type 0
 HistoryCounts =
     (page : List ℕ) (log : ℕ) (events : List Event) →
-    history 0 events → ((i : ℕ) → getD page i 0 < 256) → sound page ≡ true → drawsOf page ≡ log →
-    (k : ℕ) → Counts (run (start page log) (take k events) .1)
+    IsHistory 0 events → ((i : ℕ) → getD page i 0 < 256) → sound page ≡ true → drawsOf page ≡ log →
+    (k : ℕ) → CountsFit (run (start page log) (take k events) .1)

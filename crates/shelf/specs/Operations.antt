@@ -10,7 +10,7 @@ use Rattle.bits.specs.Bytes.{leAt, leBytes}
 use Rattle.refusal.specs.declared.Refusal.{Refusal}
 use Rattle.refusal.specs.declared.Refusal.the-variants.{BufferLength, Shelf, Count, Empty, Full, Exhausted}
 use Rattle.refusal.specs.Refusal.{numberOf}
-use Rattle.shelf.specs.declared.Answer.{Answer}
+use Rattle.shelf.specs.declared.Answer as declared
 use Rattle.shelf.specs.declared.Answer.the-variants.{Accepted, Refused}
 use Rattle.shelf.specs.declared.Checked.{Checked}
 use Rattle.shelf.specs.declared.Drawn.{Drawn}
@@ -18,14 +18,14 @@ use Rattle.shelf.specs.declared.Checked.the-variants.{Sound, Broken}
 use Rattle.shelf.specs.Page.{sizeOf, readyHead, spareHead, drawsOf, slotAt, nextOf, rootOf, zeroRoot, sound}
 
 -- an answer in the paper's terms: accepted, or the number of the refusal
-pub data Said : Type 0 where
-  accepted : Said
-  refused : ℕ → Said
+pub data Answer : Type 0 where
+  accepted : Answer
+  refused : ℕ → Answer
 
--- what an answer says
-unfoldable pub said : Answer → Said
-said Accepted = accepted
-said (Refused r) = refused (numberOf r)
+-- the answer of stock and of draw in these terms
+unfoldable pub paper : declared.Answer → Answer
+paper Accepted = accepted
+paper (Refused r) = refused (numberOf r)
 
 -- a refused draw: the refusal, and a zero root
 abbrev pub noRoot : Refusal → Drawn
@@ -69,7 +69,7 @@ drawn p =
     sets (putHeads (nextOf p k) k (putSlot k (spareHead p) zeroRoot p)) 8 (leBytes 4 (drawsOf p + 1))
 
 -- "Stock: 14 an unsound shelf; 6 a root not of 16 bytes; 17 the spare chain is empty."
-unfoldable pub stockOp : List ℕ → List ℕ → Said × List ℕ
+unfoldable pub stockOp : List ℕ → List ℕ → Answer × List ℕ
 stockOp p root =
     cond (sound p)
     (cond (eqb (length root) 16)
@@ -81,7 +81,7 @@ stockOp p root =
 
 -- "Draw: 14; 15 the host's count is not draws; 16 the ready chain is empty; 18 draws is 4,294,967,295."
 -- The answer, the root that goes out (zero on a refusal), and the page.
-unfoldable pub drawOp : List ℕ → ℕ → Said × List ℕ × List ℕ
+unfoldable pub drawOp : List ℕ → ℕ → Answer × List ℕ × List ℕ
 drawOp p n =
     cond (sound p)
     (cond (eqb n (drawsOf p))

@@ -6,7 +6,7 @@ use Prim.Native.Nat.{ℕ, _+_}
 use lib.Dec.{eqb}
 use lib.ListN.{length}
 use Rattle.shelf.specs.Page.{zeroRoot}
-use Rattle.shelf.specs.Operations.{Said, accepted, refused}
+use Rattle.shelf.specs.Operations.{Answer, accepted, refused}
 
 -- a root with the name of its stocking
 pub record Named : Type 0 where
@@ -28,7 +28,7 @@ abbrev pub roots : List Named → List (List ℕ)
 roots l = map (λ (r : Named). r .root) l
 
 -- "6 for a root not of 16 bytes; 17 if S roots are ready; else it is accepted and the root goes in front, named by its place in the list."
-unfoldable pub plainStock : ℕ → List ℕ → Plain → Said × Plain
+unfoldable pub plainStock : ℕ → List ℕ → Plain → Answer × Plain
 plainStock place root s =
     cond (eqb (length root) 16)
     (cond (eqb (length (s .ready)) (s .size))
@@ -38,7 +38,7 @@ plainStock place root s =
 
 -- what a draw does: its answer, the root that goes out (zero on a refusal), the name that it gives, if any, and the shelf
 pub record PlainDrawn : Type 0 where
-  pub answer : Said
+  pub answer : Answer
   pub root : List ℕ
   pub given : List ℕ
   pub shelf : Plain

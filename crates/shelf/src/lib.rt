@@ -5,7 +5,7 @@ ghost use Prim.Native.Nat.{ℕ, _+_, _*_, _≤_, _<_};
 ghost use lib.ListN.{length, take, drop, getD};
 ghost use lib.Seq.{sets};
 ghost use Rattle.shelf.specs.Page.{slotAt, nextOf, chain, ended, allOne, blank, chainsFrom, Tallied};
-ghost use Rattle.shelf.specs.Operations.{said, noRoot, checked, putSlot, putHeads, linkAfter, movedAfter, stockOp, drawOp};
+ghost use Rattle.shelf.specs.Operations.{paper, noRoot, checked, putSlot, putHeads, linkAfter, movedAfter, stockOp, drawOp};
 use refusal::Refusal;
 
 // The answer of stock and of draw.
@@ -224,7 +224,7 @@ fn move_after(page: &mut [u8], before: u16, slot: u16, next: u16, root: &[u8])
 
 // Stocks a root: into the first spare slot, which goes to the front of ready.
 pub fn stock(page: &mut [u8], root: &[u8]) -> Answer
-    ensures { λ r. ⌜ (said r, now (page .exit)) ≡ stockOp (now (page .entry)) (now (root .entry)) ⌝ }
+    ensures { λ r. ⌜ (paper r, now (page .exit)) ≡ stockOp (now (page .entry)) (now (root .entry)) ⌝ }
 {
     let Checked::Sound(shelf) = check(page) else {
         return Answer::Refused(Refusal::Shelf);
@@ -254,7 +254,7 @@ fn refuse(r: Refusal) -> Drawn
 
 // Draws the first ready root, whose slot goes to the front of spare. `count` is the count of the host's log.
 pub fn draw(page: &mut [u8], count: u64) -> Drawn
-    ensures { λ r. ⌜ (said (r .answer), r .root, now (page .exit)) ≡ drawOp (now (page .entry)) count ⌝ }
+    ensures { λ r. ⌜ (paper (r .answer), r .root, now (page .exit)) ≡ drawOp (now (page .entry)) count ⌝ }
 {
     let Checked::Sound(shelf) = check(page) else {
         return refuse(Refusal::Shelf);

@@ -19,7 +19,7 @@ use Rattle.proving.specs.Answers as proving
 use Rattle.proving.specs.declared.Answer.the-variants as proveAnswer
 use Rattle.checking.specs.Answers as checking
 use Rattle.checking.specs.declared.Answer.the-variants as checkAnswer
-use Rattle.shelf.specs.Operations.{said}
+use Rattle.shelf.specs.Operations.{paper as shelfPaper}
 use Rattle.shelf.specs.declared.Answer.the-variants as shelfAnswer
 use Rattle.wivulameno.specs.Interface.{status, values, shelfStatus}
 use Rattle.wivulameno.specs.Answers.{Injective, DifferentAnswers, reported, DifferentStatuses}
@@ -85,8 +85,8 @@ check-status checkAnswer.Accepted (checkAnswer.Refused k) e = not-zero k e
 check-status (checkAnswer.Refused k) checkAnswer.Accepted e = not-zero k (sym e)
 check-status (checkAnswer.Refused k) (checkAnswer.Refused l) e = ap checkAnswer.Refused (numberOf-injective k l e)
 
-shelf-status : Injective (λ a. shelfStatus (said a))
-unfolding shelfStatus said
+shelf-status : Injective (λ a. shelfStatus (shelfPaper a))
+unfolding shelfStatus shelfPaper
 shelf-status shelfAnswer.Accepted shelfAnswer.Accepted e = refl
 shelf-status shelfAnswer.Accepted (shelfAnswer.Refused k) e = not-zero k e
 shelf-status (shelfAnswer.Refused k) shelfAnswer.Accepted e = not-zero k (sym e)
@@ -108,5 +108,5 @@ different-answers =
       derive = derive-number;
       prove = before proving.paper (reported []) (prove-status []);
       check = before checking.paper status check-status;
-      shelf = before said shelfStatus shelf-status;
+      shelf = before shelfPaper shelfStatus shelf-status;
     }

@@ -13,8 +13,8 @@ use Rattle.circuit.specs.declared.ReadAnswer.the-variants as readAnswer
 use Rattle.circuit.specs.declared.EvaluateAnswer.{EvaluateAnswer}
 use Rattle.circuit.specs.declared.EvaluateAnswer.the-variants as evaluateAnswer
 use Rattle.circuit.proofs.Small.{read-small}
-use Rattle.shelf.specs.Operations.{Said, said}
-use Rattle.shelf.specs.declared.Answer.{Answer as ShelfAnswer}
+use Rattle.shelf.specs.Operations.{Answer as ShelfAnswer, paper as shelfPaper}
+use Rattle.shelf.specs.declared.Answer.{Answer as DeclaredAnswer}
 use Rattle.shelf.specs.declared.Answer.the-variants as shelfAnswer
 use Rattle.mpc.specs.Operations.{Outcome as MpcOutcome}
 use Rattle.mpc.specs.Answers.{outcome as mpcOutcome}
@@ -85,46 +85,46 @@ mpc-refused o r k n bs e f h =
     (h ∙ ap (λ (x : MpcOutcome). status (x .answer)) g, ap (λ (x : MpcOutcome). x .left) g)
 
 -- a stocking that is accepted
-pub stock-done : (o : Said × List ℕ) (r : ShelfAnswer) (p : List ℕ) → r ≡ shelfAnswer.Accepted → _≡_ {A = Said × List ℕ} (said r, p) o
+pub stock-done : (o : ShelfAnswer × List ℕ) (r : DeclaredAnswer) (p : List ℕ) → r ≡ shelfAnswer.Accepted → _≡_ {A = ShelfAnswer × List ℕ} (shelfPaper r, p) o
     → (_≡_ {A = ℕ} 0 (shelfStatus (o .0))) × (p ≡ o .1)
-unfolding shelfStatus said
+unfolding shelfStatus shelfPaper
 stock-done o r p e f = (
-  ap (λ (x : ShelfAnswer). shelfStatus (said x)) (sym e) ∙ ap (λ (x : Said × List ℕ). shelfStatus (x .0)) f,
-  ap (λ (x : Said × List ℕ). x .1) f,
+  ap (λ (x : DeclaredAnswer). shelfStatus (shelfPaper x)) (sym e) ∙ ap (λ (x : ShelfAnswer × List ℕ). shelfStatus (x .0)) f,
+  ap (λ (x : ShelfAnswer × List ℕ). x .1) f,
 )
 
 -- a stocking that is refused
-pub stock-refused : (o : Said × List ℕ) (r : ShelfAnswer) (k : Refusal) (n : ℕ) (p : List ℕ) → r ≡ shelfAnswer.Refused k → _≡_ {A = Said × List ℕ} (said r, p) o
+pub stock-refused : (o : ShelfAnswer × List ℕ) (r : DeclaredAnswer) (k : Refusal) (n : ℕ) (p : List ℕ) → r ≡ shelfAnswer.Refused k → _≡_ {A = ShelfAnswer × List ℕ} (shelfPaper r, p) o
     → n ≡ numberOf k → (n ≡ shelfStatus (o .0)) × (p ≡ o .1)
-unfolding shelfStatus said
+unfolding shelfStatus shelfPaper
 stock-refused o r k n p e f h = (
-  h ∙ ap (λ (x : ShelfAnswer). shelfStatus (said x)) (sym e) ∙ ap (λ (x : Said × List ℕ). shelfStatus (x .0)) f,
-  ap (λ (x : Said × List ℕ). x .1) f,
+  h ∙ ap (λ (x : DeclaredAnswer). shelfStatus (shelfPaper x)) (sym e) ∙ ap (λ (x : ShelfAnswer × List ℕ). shelfStatus (x .0)) f,
+  ap (λ (x : ShelfAnswer × List ℕ). x .1) f,
 )
 
 -- a draw that is accepted
-pub draw-done : (o : Said × List ℕ × List ℕ) (r : ShelfAnswer) (root p lent : List ℕ) → r ≡ shelfAnswer.Accepted
-    → _≡_ {A = Said × List ℕ × List ℕ} (said r, root, p) o
+pub draw-done : (o : ShelfAnswer × List ℕ × List ℕ) (r : DeclaredAnswer) (root p lent : List ℕ) → r ≡ shelfAnswer.Accepted
+    → _≡_ {A = ShelfAnswer × List ℕ × List ℕ} (shelfPaper r, root, p) o
     → (_≡_ {A = ℕ} 0 (shelfStatus (o .0))) × ((p ≡ o .2) × (root ≡ rootLeft (o .0) (o .1) lent))
-unfolding shelfStatus said rootLeft
+unfolding shelfStatus shelfPaper rootLeft
 draw-done o r root p lent e f = (
-  ap (λ (x : ShelfAnswer). shelfStatus (said x)) (sym e) ∙ ap (λ (x : Said × List ℕ × List ℕ). shelfStatus (x .0)) f,
+  ap (λ (x : DeclaredAnswer). shelfStatus (shelfPaper x)) (sym e) ∙ ap (λ (x : ShelfAnswer × List ℕ × List ℕ). shelfStatus (x .0)) f,
   (
-    ap (λ (x : Said × List ℕ × List ℕ). x .2) f,
-    ap (λ (x : ShelfAnswer). rootLeft (said x) root lent) (sym e) ∙ ap (λ (x : Said × List ℕ × List ℕ). rootLeft (x .0) (x .1) lent) f,
+    ap (λ (x : ShelfAnswer × List ℕ × List ℕ). x .2) f,
+    ap (λ (x : DeclaredAnswer). rootLeft (shelfPaper x) root lent) (sym e) ∙ ap (λ (x : ShelfAnswer × List ℕ × List ℕ). rootLeft (x .0) (x .1) lent) f,
   ),
 )
 
 -- a draw that is refused
-pub draw-refused : (o : Said × List ℕ × List ℕ) (r : ShelfAnswer) (k : Refusal) (n : ℕ) (root p lent : List ℕ) → r ≡ shelfAnswer.Refused k
-    → _≡_ {A = Said × List ℕ × List ℕ} (said r, root, p) o → n ≡ numberOf k
+pub draw-refused : (o : ShelfAnswer × List ℕ × List ℕ) (r : DeclaredAnswer) (k : Refusal) (n : ℕ) (root p lent : List ℕ) → r ≡ shelfAnswer.Refused k
+    → _≡_ {A = ShelfAnswer × List ℕ × List ℕ} (shelfPaper r, root, p) o → n ≡ numberOf k
     → (n ≡ shelfStatus (o .0)) × ((p ≡ o .2) × (lent ≡ rootLeft (o .0) (o .1) lent))
-unfolding shelfStatus said rootLeft
+unfolding shelfStatus shelfPaper rootLeft
 draw-refused o r k n root p lent e f h = (
-  h ∙ ap (λ (x : ShelfAnswer). shelfStatus (said x)) (sym e) ∙ ap (λ (x : Said × List ℕ × List ℕ). shelfStatus (x .0)) f,
+  h ∙ ap (λ (x : DeclaredAnswer). shelfStatus (shelfPaper x)) (sym e) ∙ ap (λ (x : ShelfAnswer × List ℕ × List ℕ). shelfStatus (x .0)) f,
   (
-    ap (λ (x : Said × List ℕ × List ℕ). x .2) f,
-    ap (λ (x : ShelfAnswer). rootLeft (said x) root lent) (sym e) ∙ ap (λ (x : Said × List ℕ × List ℕ). rootLeft (x .0) (x .1) lent) f,
+    ap (λ (x : ShelfAnswer × List ℕ × List ℕ). x .2) f,
+    ap (λ (x : DeclaredAnswer). rootLeft (shelfPaper x) root lent) (sym e) ∙ ap (λ (x : ShelfAnswer × List ℕ × List ℕ). rootLeft (x .0) (x .1) lent) f,
   ),
 )
 

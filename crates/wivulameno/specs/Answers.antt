@@ -11,7 +11,7 @@ use Rattle.mpc.specs.Answers as mpc
 use Rattle.seeds.specs.Operations as seeds
 use Rattle.proving.specs.Answers as proving
 use Rattle.checking.specs.Answers as checking
-use Rattle.shelf.specs.Operations.{said}
+use Rattle.shelf.specs.Operations.{paper as shelfPaper}
 use Rattle.wivulameno.specs.Interface.{status, values, shelfStatus}
 
 -- different arguments have different results
@@ -28,7 +28,7 @@ pub record DifferentAnswers : Type 0 where
   pub derive : Injective seeds.paper
   pub prove : Injective proving.paper
   pub check : Injective checking.paper
-  pub shelf : Injective said
+  pub shelf : Injective shelfPaper
 
 -- what a C function with numbers to fill in says: its status, and those numbers, where `lent` is what they were
 abbrev pub reported : List ℕ → Answer → ℕ × List ℕ
@@ -41,4 +41,4 @@ pub record DifferentStatuses : Type 0 where
   pub run : Injective (λ a. status (mpc.paper a))
   pub prove : (lent : List ℕ) → Injective (λ a. reported lent (proving.paper a))
   pub check : Injective (λ a. status (checking.paper a))
-  pub shelf : Injective (λ a. shelfStatus (said a))
+  pub shelf : Injective (λ a. shelfStatus (shelfPaper a))

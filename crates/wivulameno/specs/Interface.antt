@@ -3,7 +3,7 @@
 use mathlib.Core.List.{List}
 use Prim.Native.Nat.{ℕ}
 use Rattle.circuit.specs.Operations.{Answer, refusal, success}
-use Rattle.shelf.specs.Operations.{Said, accepted, refused}
+use Rattle.shelf.specs.Operations.{Answer as ShelfAnswer, accepted, refused}
 
 -- the status of an answer
 unfoldable pub status : Answer → ℕ
@@ -16,11 +16,11 @@ values (refusal k) lent = lent
 values (success vs) lent = vs
 
 -- the status of a shelf's answer
-unfoldable pub shelfStatus : Said → ℕ
+unfoldable pub shelfStatus : ShelfAnswer → ℕ
 shelfStatus accepted = 0
 shelfStatus (refused k) = k
 
 -- the root that an accepted draw gives, or what the lent root was
-unfoldable pub rootLeft : Said → List ℕ → List ℕ → List ℕ
+unfoldable pub rootLeft : ShelfAnswer → List ℕ → List ℕ → List ℕ
 rootLeft accepted root lent = root
 rootLeft (refused k) root lent = lent

@@ -10,7 +10,7 @@ use borrow.Author.Needs.{needs}
 use Rattle.shelf.specs.declared.Drawn.{Drawn}
 use Rattle.shelf.specs.declared.Shelf.{Shelf}
 use Rattle.shelf.specs.Page.{nextOf, sound, rootOf, readyHead}
-use Rattle.shelf.specs.Operations.{accepted, said}
+use Rattle.shelf.specs.Operations.{accepted, paper}
 use Rattle.shelf.proofs.Walks.{next-read}
 use Rattle.shelf.proofs.Soundness.{shelfOf, opened, broken, ready-slot, spare-end}
 use Rattle.shelf.proofs.Operations.{draw-14, draw-15, draw-16, draw-18, draw-accepted, draw-done, root-read}
@@ -37,10 +37,10 @@ same-length : tie.Need-same-length
 same-length c = search needs
 
 returns : tie.Need-returns
-unfolding said
+unfolding paper
 returns c =
     let x = c .before .before .before .before .before .before .args in
-    ap (λ (t : Drawn). (said (t .answer), t .root, x .page .now)) (c .refuse .ensures)
+    ap (λ (t : Drawn). (paper (t .answer), t .root, x .page .now)) (c .refuse .ensures)
     ∙ sym (draw-14 (x .page .now) (x .count) (broken (x .page .now) (sym (c .before .enum-told .given .1) ∙ c .before .before .before .check .ensures)))
 
 cast-due : tie.Need-cast-due
@@ -53,12 +53,12 @@ same-length-2 : tie.Need-same-length-2
 same-length-2 c = search needs
 
 returns-2 : tie.Need-returns-2
-unfolding said
+unfolding paper
 returns-2 c =
     let x = c .before .before .before .before .before .before .before .before .before .args in
     let s = c .before .before .before .before .shelf .given .0 .0 in
     let o = taken-apart (c .before .before .before .before) in
-    ap (λ (t : Drawn). (said (t .answer), t .root, x .page .now)) (c .refuse2 .ensures)
+    ap (λ (t : Drawn). (paper (t .answer), t .root, x .page .now)) (c .refuse2 .ensures)
     ∙ sym (draw-15 (x .page .now) (x .count) (o .0) (λ q. (c .before .if1 .taken) (q ∙ sym (ap (λ (t : Shelf). t .draws) (o .1)))))
 
 cast-first : tie.Need-cast-first
@@ -71,12 +71,12 @@ same-length-3 : tie.Need-same-length-3
 same-length-3 c = search needs
 
 returns-3 : tie.Need-returns-3
-unfolding said
+unfolding paper
 returns-3 c =
     let x = c .before .before .before .before .before .before .before .before .before .before .args in
     let s = c .before .before .before .before .before .shelf .given .0 .0 in
     let o = taken-apart (c .before .before .before .before .before) in
-    ap (λ (t : Drawn). (said (t .answer), t .root, x .page .now)) (c .refuse3 .ensures)
+    ap (λ (t : Drawn). (paper (t .answer), t .root, x .page .now)) (c .refuse3 .ensures)
     ∙ sym (draw-16 (x .page .now) (x .count) (o .0) (c .before .before .if1 .left ∙ ap (λ (t : Shelf). t .draws) (o .1)) (sym (ap (λ (t : Shelf). t .ready) (o .1)) ∙ c .before .if2 .taken))
 
 refuse-requires-4 : tie.Need-refuse-requires-4
@@ -86,13 +86,13 @@ same-length-4 : tie.Need-same-length-4
 same-length-4 c = search needs
 
 returns-4 : tie.Need-returns-4
-unfolding said
+unfolding paper
 returns-4 c =
     let x = c .before .before .before .before .before .before .before .before .before .before .before .args in
     let s = c .before .before .before .before .before .before .shelf .given .0 .0 in
     let o = taken-apart (c .before .before .before .before .before .before) in
     let z : s .ready ≢ 0 = c .before .before .if2 .left in
-    ap (λ (t : Drawn). (said (t .answer), t .root, x .page .now)) (c .refuse4 .ensures)
+    ap (λ (t : Drawn). (paper (t .answer), t .root, x .page .now)) (c .refuse4 .ensures)
     ∙ sym (draw-18 (x .page .now) (x .count) (o .0) (c .before .before .before .if1 .left ∙ ap (λ (t : Shelf). t .draws) (o .1)) (λ q. z (ap (λ (t : Shelf). t .ready) (o .1) ∙ q))
     (sym (ap (λ (t : Shelf). t .draws) (o .1)) ∙ c .before .if3 .taken))
 
@@ -143,7 +143,7 @@ same-length-5 : tie.Need-same-length-5
 same-length-5 c = search needs
 
 returns-5 : tie.Need-returns-5
-unfolding said
+unfolding paper
 returns-5 c =
     let x = c .before .before .before .before .before .before .before .before .before .before .before .before .before .before .before .before .before .before .before .before .before .before .before .before .args in
     let s = c .before .before .before .before .before .before .before .before .before .before .before .before .before .before .before .before .before .before .before .shelf .given .0 .0 in

@@ -9,7 +9,7 @@ use native.Mathlib.Omega.{arith}
 use borrow.Author.Needs.{needs}
 use Rattle.shelf.specs.declared.Shelf.{Shelf}
 use Rattle.shelf.specs.Page.{nextOf, sound}
-use Rattle.shelf.specs.Operations.{accepted, said}
+use Rattle.shelf.specs.Operations.{accepted, paper}
 use Rattle.shelf.proofs.Walks.{next-read}
 use Rattle.shelf.proofs.Soundness.{shelfOf, opened, broken, spare-slot}
 use Rattle.shelf.proofs.Operations.{stock-14, stock-6, stock-17, stock-accepted, stock-done}
@@ -33,7 +33,7 @@ same-length : tie.Need-same-length
 same-length c = search needs
 
 returns : tie.Need-returns
-unfolding said
+unfolding paper
 returns c =
     let x = c .before .before .before .before .before .before .args in
     sym (stock-14 (x .page .now) (x .root .now) (broken (x .page .now) (sym (c .enum-told .given .1) ∙ c .before .before .check .ensures)))
@@ -42,7 +42,7 @@ same-length-2 : tie.Need-same-length-2
 same-length-2 c = search needs
 
 returns-2 : tie.Need-returns-2
-unfolding said
+unfolding paper
 returns-2 c =
     let x = c .before .before .before .before .before .before .before .before .args in
     let s = c .before .before .shelf .given .0 .0 in
@@ -56,7 +56,7 @@ same-length-3 : tie.Need-same-length-3
 same-length-3 c = search needs
 
 returns-3 : tie.Need-returns-3
-unfolding said
+unfolding paper
 returns-3 c =
     let x = c .before .before .before .before .before .before .before .before .before .before .args in
     let s = c .before .before .before .before .shelf .given .0 .0 in
@@ -93,7 +93,7 @@ same-length-4 : tie.Need-same-length-4
 same-length-4 c = search needs
 
 returns-4 : tie.Need-returns-4
-unfolding said
+unfolding paper
 returns-4 c =
     let x = c .before .before .before .before .before .before .before .before .before .before .before .before .before .before .before .before .before .before .before .before .before .args in
     let s = c .before .before .before .before .before .before .before .before .before .before .before .before .before .before .before .shelf .given .0 .0 in
