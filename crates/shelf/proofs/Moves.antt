@@ -1,22 +1,20 @@
 -- A slot moves from the front of one chain to the front of the other: the page stays sound, and its ready roots change at the front.
 -- Assumes nothing.
 use mathlib.Core.Path.{_≡_, refl, sym, ap, ap₂, _∙_, subst}
-use mathlib.Core.Bool.{Bool, true, _&&_}
+use mathlib.Core.Bool.{true}
 use mathlib.Core.List.{List, [], _∷_, map}
 use mathlib.Core.Logic.{_≢_, ⊎-elim}
 use Prim.Native.Nat.{ℕ, _+_, _*_, _≤_, _<_}
 use native.Mathlib.Omega.{arith}
 use lib.ListN.{length, length-map}
 use lib.Seq.{sets}
-use Rattle.bits.specs.Bytes.{leBytes, sameBytes}
-use Rattle.bits.proofs.Numbers.{lt-or-le}
-use Rattle.bits.proofs.Equal.{same-refl}
-use Rattle.bits.proofs.Tests.{and-true-right}
-use Rattle.shelf.specs.Page.{sizeOf, readyHead, spareHead, drawsOf, slotAt, nextOf, rootOf, zeroRoot, readySlots, spareSlots, count, blank, sound, readyRoots}
+use Rattle.bits.specs.Bytes.{leBytes}
+use Rattle.bits.proofs.Numbers.{lt-or-le, eq-or-ne}
+use Rattle.shelf.specs.Page.{sizeOf, readyHead, spareHead, drawsOf, slotAt, nextOf, rootOf, zeroRoot, readySlots, spareSlots, count, sound, readyRoots}
+use Rattle.shelf.specs.Meaning.{Leads, HasChains}
 use Rattle.shelf.specs.Operations.{putSlot, putHeads, stocked, drawn}
-use Rattle.shelf.proofs.Walks.{count-same, count-cons}
-use Rattle.shelf.proofs.Soundness.{both}
-use Rattle.shelf.proofs.Slots.{Leads, absent, leads-frame, leads-zero, HasChains, sound-chains, chains-sound, chains-length}
+use Rattle.shelf.proofs.Walks.{count-same, count-other, count-cons}
+use Rattle.shelf.proofs.Slots.{absent, leads-frame, leads-zero, sound-chains, chains-sound, chains-length}
 use Rattle.shelf.proofs.Fields.{Moved, moved, moved-draws, moved-counted, counted-draws}
 
 -- roots of slots that did not move
@@ -27,22 +25,9 @@ roots-frame p q k f (x ∷ l) z c =
     let b = absent 0 x l z in
     ap₂ _∷_ (f x (b .0) (a .0)) (roots-frame p q k f l (b .1) (a .1))
 
-blank-frame : (p q : List ℕ) (k : ℕ) → ((j : ℕ) → j ≢ 0 → j ≢ k → rootOf q j ≡ rootOf p j) → (l : List ℕ) → count 0 l ≡ 0 → count k l ≡ 0 → blank q l ≡ blank p l
-unfolding blank
-blank-frame p q k f [] z c = refl
-blank-frame p q k f (x ∷ l) z c =
-    let a = absent k x l c in
-    let b = absent 0 x l z in
-    ap₂ (λ (r : List ℕ) (t : Bool). sameBytes r zeroRoot && t) (f x (b .0) (a .0)) (blank-frame p q k f l (b .1) (a .1))
-
--- what is blank, but its first slot
-blank-rest : (p : List ℕ) (x : ℕ) (l : List ℕ) → blank p (x ∷ l) ≡ true → blank p l ≡ true
-unfolding blank
-blank-rest p x l e = and-true-right (sameBytes (rootOf p x) zeroRoot) (blank p l) e
-
-blank-more : (p : List ℕ) (x : ℕ) (l : List ℕ) → rootOf p x ≡ zeroRoot → blank p l ≡ true → blank p (x ∷ l) ≡ true
-unfolding blank
-blank-more p x l e b = both (ap (λ (r : List ℕ). sameBytes r zeroRoot) e ∙ same-refl zeroRoot) b
+-- a slot that a list has is none that it has not
+counted-not : (j k : ℕ) (l : List ℕ) → count k l ≡ 0 → 1 ≤ count j l → j ≢ k
+counted-not j k l c h e = absurd (omega (arith, ap (λ (x : ℕ). count x l) e))
 
 -- a slot that is counted is one of 1..S
 in-page : (p r s : List ℕ) (k : ℕ) → HasChains p r s → 1 ≤ count k r + count k s → k ≤ sizeOf p
@@ -73,7 +58,8 @@ stock-chains p r s k root q c m =
       spareLeads = rw (m .spare) (leads-frame n (nextOf q) k (m .nextThere) s (n k) cs ls);
       once = λ x a b. omega (arith, c .once x a (omega (arith, m .size)), count-cons x k r, count-cons x k s);
       noOther = λ x a. omega (arith, c .noOther x (omega (arith, m .size)), count-cons x k r, count-cons x k s);
-      blanks = blank-frame p q k (m .rootThere) s (leads-zero n s (n k) ls) cs ∙ blank-rest p k s (c .blanks);
+      blanks = λ j h.
+          m .rootThere j (counted-not j 0 s (leads-zero n s (n k) ls) h) (counted-not j k s cs h) ∙ c .blanks j (omega (arith, count-cons j k s));
     }
 
 -- the first ready slot goes to the front of spare
@@ -96,7 +82,13 @@ draw-chains p r s k q c m =
       spareLeads = (m .spare, (z, rw (m .nextHere) (leads-frame n (nextOf q) k (m .nextThere) s (spareHead p) cs ls)));
       once = λ x a b. omega (arith, c .once x a (omega (arith, m .size)), count-cons x k r, count-cons x k s);
       noOther = λ x a. omega (arith, c .noOther x (omega (arith, m .size)), count-cons x k r, count-cons x k s);
-      blanks = blank-more q k s (m .rootHere) (blank-frame p q k (m .rootThere) s (leads-zero n s (spareHead p) ls) cs ∙ c .blanks);
+      blanks = λ j h.
+          ⊎-elim
+          (λ (e : j ≡ k). rw e (m .rootHere))
+          (λ (e : j ≢ k).
+          let o : 1 ≤ count j s = omega (arith, count-other j k s e) in
+          m .rootThere j (counted-not j 0 s (leads-zero n s (spareHead p) ls) o) e ∙ c .blanks j o)
+          (eq-or-ne j k);
     }
 
 -- the ready roots of a page, by its ready slots

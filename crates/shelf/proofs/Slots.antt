@@ -1,24 +1,22 @@
--- What a sound page means, in the paper's words: two chains, each ended by 0, that together visit every slot exactly once.
+-- What a sound page means: the test of a page is the rules of the section, as specs/Meaning.antt states them.
 -- Assumes nothing.
 use mathlib.Core.Path.{_≡_, refl, sym, ap, _∙_}
 use mathlib.Core.Bool.{true}
 use mathlib.Core.List.{List, [], _∷_, _++_}
 use mathlib.Core.Logic.{_≢_, ⊎-elim}
-use Prim.Native.Nat.{ℕ, zero, suc, _+_, _-_, _*_, _≤_, _<_}
+use Prim.Native.Nat.{ℕ, zero, suc, _+_, _-_, _≤_, _<_}
 use native.Mathlib.Omega.{arith}
 use borrow.Author.Tests.{eq-eqb, ne-eqb, eqb-true}
 use lib.Dec.{eqb}
 use lib.ListN.{length, length-append}
+use Rattle.bits.specs.Bytes.{sameBytes}
 use Rattle.bits.proofs.Numbers.{eq-or-ne, lt-or-le}
+use Rattle.bits.proofs.Equal.{same-eq, eq-same}
 use Rattle.bits.proofs.Tests.{and-true-left, and-true-right}
-use Rattle.shelf.specs.Page.{sizeOf, readyHead, spareHead, zeroField, nextOf, chain, ended, readySlots, spareSlots, count, allOne, blank, sound, chainsFrom}
-use Rattle.shelf.proofs.Walks.{chain-end, chain-slot, ended-end, ended-slot, ended-room, count-nil, count-same, count-other, count-append}
+use Rattle.shelf.specs.Page.{sizeOf, readyHead, spareHead, nextOf, rootOf, zeroRoot, chain, ended, readySlots, spareSlots, count, allOne, blank, sound, chainsFrom}
+use Rattle.shelf.specs.Meaning.{Leads, HasChains, SoundTheorem}
+use Rattle.shelf.proofs.Walks.{chain-end, chain-slot, ended-end, ended-slot, ended-room, count-nil, count-cons, count-same, count-other, count-append}
 use Rattle.shelf.proofs.Soundness.{parts, whole, chains-parts, chains-whole, both}
-
--- from slot k the links lead through the slots of the list, and then to 0
-abbrev pub Leads : (ℕ → ℕ) → ℕ → List ℕ → Type 0
-Leads next k [] = k ≡ 0
-Leads next k (x ∷ l) = (k ≡ x) × ((x ≢ 0) × Leads next (next x) l)
 
 module _ (next : ℕ → ℕ) where
   -- a chain that is ended leads through its slots to 0
@@ -141,17 +139,21 @@ unfolding total
 total-once zero l f = refl
 total-once (suc n) l f = omega (arith, f (suc n) (omega arith) (omega arith), total-once n l (λ k h m. f k h (omega arith)))
 
--- "The ready chain and the spare chain, each ended by 0, together visit every slot exactly once. Spare slots hold a zero root"
-pub record HasChains (p ready spare : List ℕ) : Type 0 where
-  pub long : length p ≡ 12 + 18 * sizeOf p
-  pub low : 1 ≤ sizeOf p
-  pub high : sizeOf p ≤ 255
-  pub zeroed : zeroField p ≡ 0
-  pub readyLeads : Leads (nextOf p) (readyHead p) ready
-  pub spareLeads : Leads (nextOf p) (spareHead p) spare
-  pub once : (k : ℕ) → 1 ≤ k → k ≤ sizeOf p → count k ready + count k spare ≡ 1
-  pub noOther : (k : ℕ) → sizeOf p < k → count k ready + count k spare ≡ 0
-  pub blanks : blank p spare ≡ true
+-- the slots of a list that the test finds blank hold a zero root
+blank-at : (p l : List ℕ) → blank p l ≡ true → (k : ℕ) → 1 ≤ count k l → rootOf p k ≡ zeroRoot
+unfolding blank
+blank-at p [] e k h = absurd (omega (arith, count-nil k))
+blank-at p (x ∷ l) e k h =
+    ⊎-elim
+    (λ (q : k ≡ x). rw q (same-eq (rootOf p x) zeroRoot (and-true-left (sameBytes (rootOf p x) zeroRoot) (blank p l) e)))
+    (λ (q : k ≢ x). blank-at p l (and-true-right (sameBytes (rootOf p x) zeroRoot) (blank p l) e) k (omega (arith, count-other k x l q)))
+    (eq-or-ne k x)
+
+at-blank : (p l : List ℕ) → ((k : ℕ) → 1 ≤ count k l → rootOf p k ≡ zeroRoot) → blank p l ≡ true
+unfolding blank
+at-blank p [] h = refl
+at-blank p (x ∷ l) h =
+    both (eq-same (rootOf p x) zeroRoot (h x (omega (arith, count-same x l)))) (at-blank p l (λ k a. h k (omega (arith, count-cons k x l))))
 
 -- a sound page's chains
 pub sound-chains : (p : List ℕ) → sound p ≡ true → HasChains p (readySlots p) (spareSlots p)
@@ -171,7 +173,7 @@ sound-chains p t =
       spareLeads = leads-chain (nextOf p) S S (spareHead p) (b .spareEnds);
       once = λ k l m. sym (count-append k r s) ∙ allOne-at (λ (j : ℕ). count j (r ++ s)) S k (b .once) l m;
       noOther = λ k l. omega (arith, ended-count (nextOf p) S S (readyHead p) k (b .readyEnds) l, ended-count (nextOf p) S S (spareHead p) k (b .spareEnds) l);
-      blanks = b .blanks;
+      blanks = blank-at p s (b .blanks);
     }
 
 -- every slot is on one of the chains, so their lengths make S
@@ -192,7 +194,7 @@ chains-sound p r s c =
     let es : chain (nextOf p) S (spareHead p) ≡ s = chain-leads (nextOf p) s S (spareHead p) (c .spareLeads) (omega arith) in
     let o : allOne (λ k. count k (chain (nextOf p) S (readyHead p) ++ chain (nextOf p) S (spareHead p))) S ≡ true =
     rw (er, es) (at-allOne (λ (k : ℕ). count k (r ++ s)) S (λ k a b. count-append k r s ∙ c .once k a b)) in
-    let b : blank p (chain (nextOf p) S (spareHead p)) ≡ true = rw es (c .blanks) in
+    let b : blank p (chain (nextOf p) S (spareHead p)) ≡ true = rw es (at-blank p s (c .blanks)) in
     let ch : chainsFrom p S (readyHead p) (spareHead p) ≡ true =
     chains-whole p S (readyHead p) (spareHead p)
     (record {
@@ -202,3 +204,7 @@ chains-sound p r s c =
       blanks = b;
     }) in
     (whole p (record { long = c .long; low = c .low; high = c .high; zeroed = c .zeroed; chained = ch }), (er, es))
+
+-- the test of a page is the rules of the section
+pub sound-theorem : SoundTheorem
+sound-theorem = record { means = sound-chains; passes = λ p r s c. chains-sound p r s c .0; walked = λ p r s c. chains-sound p r s c .1 }

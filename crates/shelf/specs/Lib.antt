@@ -1,4 +1,5 @@
 pub mod Page
+pub mod Meaning
 pub mod Operations
 pub mod Plain
 pub mod History
