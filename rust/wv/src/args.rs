@@ -1,32 +1,37 @@
-//! The arguments of a command: places, options with a value, flags; and the
-//! bytes that they stand for.
+//! The arguments of a command: places, options with a value, flags.
 
 use crate::commands::Command;
-use crate::failure::{at, write_out, Failure};
-use std::cell::Cell;
-use std::ffi::OsString;
-use std::fs::{self, File};
-use std::io::{self, Read, Write};
+use crate::failure::Failure;
+use crate::input::{Input, Inputs};
+use crate::names::shown;
+use std::ffi::{OsStr, OsString};
 use std::path::PathBuf;
+use std::time::Duration;
 
+/// The words behind a command's name.
+#[derive(Default)]
 pub struct Args {
     places: Vec<OsString>,
     options: Vec<(&'static str, OsString)>,
     flags: Vec<&'static str>,
-    stdin_is_read: Cell<bool>,
+    inputs: Inputs,
 }
 
 impl Args {
+    /// Sorts the words. What follows `--` are places.
     pub fn parse(command: &Command, words: Vec<OsString>) -> Result<Args, Failure> {
-        let mut args = Args {
-            places: vec![],
-            options: vec![],
-            flags: vec![],
-            stdin_is_read: Cell::new(false),
-        };
+        let mut args = Args::default();
         let mut words = words.into_iter();
         while let Some(word) = words.next() {
-            args.take(command, word, &mut words)?;
+            if word == "--" {
+                for place in words.by_ref() {
+                    args.take_place(command, place)?;
+                }
+            } else if word != "-" && word.as_encoded_bytes().starts_with(b"-") {
+                args.take_option(command, &word, &mut words)?;
+            } else {
+                args.take_place(command, word)?;
+            }
         }
         if args.places.len() < command.places {
             return Err(command.misused("an argument is missing"));
@@ -34,154 +39,138 @@ impl Args {
         Ok(args)
     }
 
-    fn take(
+    fn take_place(&mut self, command: &Command, word: OsString) -> Result<(), Failure> {
+        if self.places.len() == command.places {
+            let text = format!("`{}` is one argument too many", shown(word));
+            return Err(command.misused(&text));
+        }
+        self.places.push(word);
+        Ok(())
+    }
+
+    fn take_option(
         &mut self,
         command: &Command,
-        word: OsString,
+        word: &OsStr,
         rest: &mut impl Iterator<Item = OsString>,
     ) -> Result<(), Failure> {
-        let text = word.to_string_lossy().into_owned();
-        let Some(name) = text.strip_prefix("--") else {
-            self.places.push(word);
-            return match self.places.len() > command.places {
-                true => Err(command.misused(&format!("`{text}` is one argument too many"))),
-                false => Ok(()),
-            };
-        };
-        let (name, value) = match name.split_once('=') {
-            Some((name, value)) => (name, Some(OsString::from(value))),
-            None => (name, None),
-        };
-        let same = |known: &&&'static str| **known == name;
-        if let Some(flag) = command.flags.iter().find(same) {
+        let (word, value) = split(word);
+        let name = shown(word);
+        let is_it = |known: &&&'static str| name.strip_prefix("--") == Some(**known);
+        if let Some(flag) = command.flags.iter().find(is_it) {
             self.flags.push(flag);
-            return Ok(());
+            return match value {
+                Some(_) => Err(command.misused(&format!("`{name}` takes no value"))),
+                None => Ok(()),
+            };
         }
-        let Some(option) = command.options.iter().find(same) else {
-            return Err(command.misused(&format!("no option `--{name}`")));
+        let Some(option) = command.options.iter().find(is_it) else {
+            return Err(command.misused(&format!("no option `{name}`")));
         };
-        let Some(value) = value.or_else(|| rest.next()) else {
-            return Err(command.misused(&format!("`--{name}` needs a value")));
+        let Some(value) = value.map(OsStr::to_os_string).or_else(|| rest.next()) else {
+            return Err(command.misused(&format!("`{name}` needs a value")));
         };
         if self.option(option).is_some() {
-            return Err(command.misused(&format!("`--{name}` stands there twice")));
+            return Err(command.misused(&format!("`{name}` stands there twice")));
         }
         self.options.push((option, value));
         Ok(())
     }
 
-    pub fn place(&self, place: usize) -> &OsString {
+    /// The argument at this place, from 0.
+    pub fn place(&self, place: usize) -> &OsStr {
         &self.places[place]
     }
 
+    /// Is this flag there?
     pub fn flag(&self, name: &str) -> bool {
         self.flags.contains(&name)
     }
 
-    pub fn option(&self, name: &str) -> Option<&OsString> {
+    /// The value of an option, if it is there.
+    pub fn option(&self, name: &str) -> Option<&OsStr> {
         let mut options = self.options.iter();
         options
             .find(|(known, _)| *known == name)
-            .map(|(_, value)| value)
+            .map(|(_, value)| value.as_os_str())
     }
 
-    pub fn needed(&self, name: &str) -> Result<&OsString, Failure> {
+    /// The value of an option that has to be there.
+    pub fn needed(&self, name: &str) -> Result<&OsStr, Failure> {
         let missing = || Failure::Usage(format!("`--{name}` is needed"));
         self.option(name).ok_or_else(missing)
     }
 
-    /// A decimal number, if the option is there.
-    pub fn number<T: std::str::FromStr>(&self, name: &str) -> Result<Option<T>, Failure> {
+    /// A whole number, if the option is there.
+    pub fn number(&self, name: &str) -> Result<Option<u32>, Failure> {
+        self.parsed(name, |digits| {
+            let all_digits = digits.bytes().all(|byte| byte.is_ascii_digit());
+            digits.parse().ok().filter(|_| all_digits)
+        })
+    }
+
+    /// A decimal number of 0 or more, if the option is there.
+    pub fn decimal(&self, name: &str) -> Result<Option<f64>, Failure> {
+        self.parsed(name, decimal)
+    }
+
+    /// A time in seconds; none if the option is not there.
+    pub fn seconds(&self, name: &str) -> Result<Duration, Failure> {
+        let time = |digits: &str| Duration::try_from_secs_f64(decimal(digits)?).ok();
+        Ok(self.parsed(name, time)?.unwrap_or_default())
+    }
+
+    fn parsed<T>(
+        &self,
+        name: &str,
+        parse: impl Fn(&str) -> Option<T>,
+    ) -> Result<Option<T>, Failure> {
         let Some(value) = self.option(name) else {
             return Ok(None);
         };
-        let value = value.to_string_lossy();
-        let wrong = |_| Failure::Usage(format!("--{name} {value}: not such a number"));
-        value.parse().map(Some).map_err(wrong)
+        let wrong = || Failure::Usage(format!("--{name} {}: not such a number", shown(value)));
+        let parsed = value.to_str().and_then(parse);
+        parsed.ok_or_else(wrong).map(Some)
     }
 
-    /// A file that has to have a name.
-    pub fn path(value: &OsString) -> Result<PathBuf, Failure> {
-        match value == "-" {
-            true => Err(Failure::Usage("`-` cannot stand for this file".into())),
-            false => Ok(value.into()),
-        }
+    /// The bytes that an argument stands for.
+    pub fn input(&self, value: &OsStr) -> Result<Input, Failure> {
+        self.inputs.get(value)
     }
 
-    /// The bytes that an argument stands for: those of a file, of standard
-    /// input, or typed.
-    pub fn bytes(&self, value: &OsString) -> Result<Vec<u8>, Failure> {
-        let text = value.to_string_lossy();
-        if let Some(digits) = text.strip_prefix("hex:") {
-            return from_hex(digits);
-        }
-        if let Some(typed) = text.strip_prefix("text:") {
-            return Ok(typed.into());
-        }
-        match value == "-" {
-            true => self.standard_input(),
-            false => fs::read(value).map_err(at(&text)),
-        }
-    }
-
-    fn standard_input(&self) -> Result<Vec<u8>, Failure> {
-        if self.stdin_is_read.replace(true) {
-            let text = "standard input can be read once";
-            return Err(Failure::Usage(text.into()));
-        }
-        let mut bytes = vec![];
-        let read = io::stdin().lock().read_to_end(&mut bytes);
-        read.map_err(at("standard input"))?;
-        Ok(bytes)
+    /// The bytes that a secret option stands for, if it is there.
+    pub fn secret(&self, name: &str) -> Result<Option<Input>, Failure> {
+        let read = |value| self.inputs.secret(&format!("--{name}"), value);
+        self.option(name).map(read).transpose()
     }
 }
 
-/// Where a command writes its result: a file, or standard output.
-pub struct Target {
-    name: String,
-    file: Option<File>,
-}
-
-impl Target {
-    /// Makes the file, so that a place that cannot be written is told before the
-    /// work.
-    pub fn make(value: &OsString) -> Result<Target, Failure> {
-        let name = value.to_string_lossy().into_owned();
-        let file = match value == "-" {
-            true => None,
-            false => Some(File::create(value).map_err(at(&name))?),
-        };
-        Ok(Target { name, file })
-    }
-
-    pub fn is_file(&self) -> bool {
-        self.file.is_some()
-    }
-
-    pub fn write(self, bytes: &[u8]) -> Result<(), Failure> {
-        match self.file {
-            Some(mut file) => file.write_all(bytes).map_err(at(&self.name)),
-            None => write_out(bytes),
-        }
+/// A file that has to have a name.
+pub fn path(value: &OsStr) -> Result<PathBuf, Failure> {
+    match value == "-" {
+        true => Err(Failure::Usage("`-` cannot stand for this file".into())),
+        false => Ok(value.into()),
     }
 }
 
-fn from_hex(digits: &str) -> Result<Vec<u8>, Failure> {
-    let digit = |char: char| {
-        let wrong = || Failure::Usage(format!("hex:{digits}: `{char}` is no hexadecimal digit"));
-        char.to_digit(16).ok_or_else(wrong)
+/// `--name=value` in its two parts; only the first `=` counts.
+fn split(word: &OsStr) -> (&OsStr, Option<&OsStr>) {
+    let bytes = word.as_encoded_bytes();
+    let Some(place) = bytes.iter().position(|&byte| byte == b'=') else {
+        return (word, None);
     };
-    let values: Vec<u32> = digits.chars().map(digit).collect::<Result<_, _>>()?;
-    if !values.len().is_multiple_of(2) {
-        let text = format!("hex:{digits}: two digits make a byte, one is missing");
-        return Err(Failure::Usage(text));
-    }
-    let bytes = values.chunks(2).map(|pair| (16 * pair[0] + pair[1]) as u8);
-    Ok(bytes.collect())
+    // SAFETY: the word is cut before and behind a character of ASCII.
+    let part = |part| unsafe { OsStr::from_encoded_bytes_unchecked(part) };
+    (part(&bytes[..place]), Some(part(&bytes[place + 1..])))
 }
 
-pub fn to_hex(bytes: &[u8]) -> String {
-    bytes.iter().map(|byte| format!("{byte:02x}")).collect()
+/// Digits, and a point with digits behind it if there is one: no sign, no
+/// exponent, no `inf`.
+fn decimal(text: &str) -> Option<f64> {
+    let (whole, part) = text.split_once('.').unwrap_or((text, "0"));
+    let digits = |text: &str| !text.is_empty() && text.bytes().all(|byte| byte.is_ascii_digit());
+    let value: f64 = text.parse().ok()?;
+    (digits(whole) && digits(part) && value.is_finite()).then_some(value)
 }
 
 #[cfg(test)]
@@ -189,12 +178,24 @@ mod tests {
     use super::*;
 
     #[test]
-    fn hex_goes_both_ways() {
-        assert_eq!(from_hex("00fFa1").unwrap(), [0, 0xff, 0xa1]);
-        assert_eq!(from_hex("").unwrap(), []);
-        assert_eq!(to_hex(&[0, 0xff, 0xa1]), "00ffa1");
-        for wrong in ["1", "0x", "g0", "é0", "0 0"] {
-            assert!(matches!(from_hex(wrong), Err(Failure::Usage(_))), "{wrong}");
+    fn decimal_numbers() {
+        for (text, value) in [("0", 0.0), ("128", 128.0), ("7.4", 7.4), ("0.05", 0.05)] {
+            assert_eq!(decimal(text), Some(value));
         }
+        let long = "9".repeat(400);
+        for wrong in [
+            "", ".", "1.", ".5", "-1", "+1", "1e3", "inf", "NaN", "nan", "1 ", "0x1", "1.2.3",
+            &long,
+        ] {
+            assert_eq!(decimal(wrong), None, "{wrong}");
+        }
+    }
+
+    #[test]
+    fn options_with_their_value() {
+        let word = OsStr::new("--out=a=b");
+        assert_eq!(split(word), (OsStr::new("--out"), Some(OsStr::new("a=b"))));
+        assert_eq!(split(OsStr::new("--raw")), (OsStr::new("--raw"), None));
+        assert_eq!(split(OsStr::new("--out=")).1, Some(OsStr::new("")));
     }
 }

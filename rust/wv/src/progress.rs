@@ -13,6 +13,7 @@ const PAUSE: Duration = Duration::from_millis(250);
 pub struct Progress(Option<(Sender<()>, JoinHandle<()>)>);
 
 impl Progress {
+    /// Begins to tell that this is being done.
     pub fn start(what: &str) -> Progress {
         if !io::stderr().is_terminal() {
             return Progress(None);

@@ -1,190 +1,260 @@
 //! The command line as a new user meets it: prove and check.
+#![deny(unused_must_use)]
 
 mod common;
 
-use common::Folder;
+use common::{covers16, Folder, Y};
 
-const STOCK16: &[u8] = include_bytes!("../../../examples/stock16.circuit");
-const ROW: &[u8] = include_bytes!("../../../examples/stock16.row");
-
-const PROVE: &str = "prove stock16.circuit row --shelf page --log log --out proof";
-const CHECK: &str = "check stock16.circuit proof --y hex:01";
+const PROVE: &str = "prove covers16.circuit row --shelf page --log log --out proof";
+const CHECK: &str = "check covers16.circuit proof --y hex:f50100";
 const SMALL: &str = "--instances 12 --chosen 4 --parties 4";
 const ORDER: &str = "--message 'text:order 7'";
 
-/// A folder with a circuit, a row and a stocked shelf.
-fn folder(name: &str) -> Folder {
-    let folder = Folder::new(name);
-    folder.write("stock16.circuit", STOCK16);
-    folder.write("row", ROW);
-    folder.wv("shelf new page --log log --slots 3").says("");
-    folder
-        .wv("shelf stock page --log log --fresh 3")
-        .says("stocked 3\n");
-    folder
-}
-
 fn ready(folder: &Folder, count: usize) {
     let status = folder.wv("shelf status page --log log");
-    let out = String::from_utf8_lossy(&status.out).into_owned();
-    assert!(out.contains(&format!("ready {count}\n")), "{out}");
+    let line = format!("ready {count}\n");
+    assert!(status.text().contains(&line), "{status:?}");
 }
 
+/// A small proof in the file `proof`. By formula (1) with M 12, tau 4, n 4 the
+/// best cheat makes k = 10 right, 45 / (495 * 16) = 1 / 176: 7.459 bits.
+fn prove_small(folder: &Folder) {
+    let made = folder.wv(&format!("{PROVE} {SMALL} {ORDER}"));
+    made.tells("M 12, tau 4, n 4 have 7.4 bits of soundness");
+    let len = folder.read("proof").len();
+    assert_eq!(made.text(), format!("proved {Y} in {len} bytes\n"));
+}
+
+/// 38 bytes of header; 8 instances of 48; 4 chosen ones of 2 siblings of 16, 2 of
+/// corrections unless the last party is hidden, 32, 4 of masked inputs and 5 of
+/// the hidden row: 38 + 384 + 4 * 75 = 722 at most.
 #[test]
 fn a_proof_is_made_and_accepted() {
-    let folder = folder("proof");
-    let made = folder.wv(&format!("{PROVE} {SMALL} {ORDER}"));
+    let folder = Folder::with_shelf("proof");
+    prove_small(&folder);
     let len = folder.read("proof").len();
-    made.says(&format!("proved 01 in {len} bytes\n"));
+    assert!([714, 716, 718, 720, 722].contains(&len), "{len}");
     ready(&folder, 2);
-    assert!(folder.read("log").starts_with(b"draw 0000000001 "));
-    let accepted = folder.wv(&format!("{CHECK} {ORDER}"));
-    accepted.says("accepted, M 12, tau 4, n 4, soundness 7.4 bits\n");
+    assert_eq!(folder.draws(), 1);
+    folder
+        .wv(&format!("{CHECK} {ORDER} --bits 7.4"))
+        .says("accepted, M 12, tau 4, n 4, soundness 7.4 bits\n");
 }
 
 #[test]
 fn the_usual_numbers_have_128_bits() {
-    let folder = folder("usual");
-    assert_eq!(folder.wv(&format!("{PROVE} {ORDER}")).status, 0);
-    let accepted = folder.wv(&format!("{CHECK} {ORDER} --bits 128"));
-    accepted.says("accepted, M 145, tau 66, n 8, soundness 128.0 bits\n");
+    let folder = Folder::with_shelf("usual");
+    let made = folder.wv(&format!("{PROVE} {ORDER}"));
+    let len = folder.read("proof").len();
+    made.says(&format!("proved {Y} in {len} bytes\n"));
+    let accepted = "accepted, M 145, tau 66, n 8, soundness 128.0 bits\n";
+    folder.wv(&format!("{CHECK} {ORDER}")).says(accepted);
+    folder
+        .wv(&format!("{CHECK} {ORDER} --bits 128"))
+        .says(accepted);
+    folder
+        .wv(&format!("{CHECK} {ORDER} --bits 129"))
+        .unwanted("have 128.0 bits of soundness, and 129 are asked for");
 }
 
 #[test]
 fn proofs_through_pipes() {
-    let folder = folder("pipes");
+    let folder = Folder::with_shelf("pipes");
     folder.write("order", b"order 7");
     let prove = "prove - row --shelf page --log log --message order --out -";
-    let made = folder.wv_reading(&format!("{prove} {SMALL}"), STOCK16);
-    assert_eq!(
-        (made.status, made.err.as_str()),
-        (0, ""),
-        "nothing but the proof"
-    );
-    let check = "check stock16.circuit - --y hex:01 --message order";
-    assert_eq!(folder.wv_reading(check, &made.out).status, 0);
+    let made = folder.wv_reading(prove, &covers16());
+    assert_eq!((made.status, made.err.as_str()), (0, ""));
+    let check = "check covers16.circuit - --y hex:f50100 --message order";
+    let accepted = "accepted, M 145, tau 66, n 8, soundness 128.0 bits\n";
+    folder.wv_reading(check, &made.out).says(accepted);
 }
 
 #[test]
 fn two_proofs_take_two_roots() {
-    let folder = folder("two_proofs");
-    let line = format!("{PROVE} {SMALL} {ORDER}");
-    folder.wv(&line);
+    let folder = Folder::with_shelf("two_proofs");
+    prove_small(&folder);
     let first = folder.read("proof");
-    folder.wv(&line);
+    prove_small(&folder);
     assert_ne!(folder.read("proof"), first);
     ready(&folder, 1);
 }
 
+/// The challenge follows from h* and the message. With another message it asks
+/// for other instances: then the length differs (12), or an unused bit is set
+/// (7), or an output (10), or the digest (13), whatever comes first.
+fn assert_does_not_hold(ended: &common::Ended) {
+    let numbers = [7, 10, 12, 13];
+    let starts = numbers.map(|number| format!("wv: refused {number}: "));
+    let found = starts.iter().any(|start| ended.err.starts_with(start));
+    assert!(ended.status == 1 && found, "{ended:?}");
+    assert!(ended.err.contains("than the prover's"), "{ended:?}");
+    assert_eq!(ended.out, b"", "{ended:?}");
+}
+
 #[test]
 fn refused_proofs() {
-    let folder = folder("refused_proofs");
-    folder.wv(&format!("{PROVE} {SMALL} {ORDER}"));
+    let folder = Folder::with_shelf("refused_proofs");
+    prove_small(&folder);
     let proof = folder.read("proof");
     let check = |y: &str, message: &str, proof: &[u8]| {
-        let line = format!("check stock16.circuit - --y {y} --message text:{message}");
+        let line = format!("check covers16.circuit - --y {y} --message 'text:{message}' --bits 0");
         folder.wv_reading(&line, proof)
     };
-    check("hex:01", "'order 8'", &proof);
-    let other = folder.wv(&format!("{CHECK} --message text:other"));
-    assert_eq!(other.status, 1, "{other:?}");
-    check("hex:0100", "a", &proof).refused(6);
-    check("hex:03", "a", &proof).refused(7);
-    check("hex:01", "a", &proof[..37]).refused(11);
-    check("hex:01", "a", b"").refused(11);
-    let mut cut = proof.clone();
-    cut.pop();
-    folder.write("cut", &cut);
-    let line = CHECK.replace("proof", "cut");
-    folder.wv(&format!("{line} {ORDER}")).refused(12);
-    let mut forged = proof.clone();
-    *forged.last_mut().unwrap() ^= 1;
-    folder.write("forged", &forged);
-    let line = CHECK.replace("proof", "forged");
-    let ended = folder.wv(&format!("{line} {ORDER}"));
-    assert_eq!(ended.status, 1, "{ended:?}");
-    let line = CHECK.replace("hex:01", "hex:00");
-    let ended = folder.wv(&format!("{line} {ORDER}"));
-    assert_eq!(ended.status, 1, "{ended:?}");
+    let accepted = check("hex:f50100", "order 7", &proof);
+    accepted.says("accepted, M 12, tau 4, n 4, soundness 7.4 bits\n");
+    assert_does_not_hold(&check("hex:f50100", "order 8", &proof));
+    assert_does_not_hold(&folder.wv(&format!("{CHECK} --message text:other")));
+    check("hex:f40100", "order 7", &proof).refused(10, "another y, message or circuit");
+    check("hex:f501", "a", &proof).refused(6, "--y has 2 bytes, the circuit asks for 3");
+    check("hex:f50102", "a", &proof).refused(7, "--y has bits set behind its 17");
+    check("hex:f50100", "a", &proof[..37]).refused(11, "standard input is no proof");
+    check("hex:f50100", "a", b"").refused(11, "standard input is no proof");
+    let mut zeroed = proof.clone();
+    zeroed[5] = 1;
+    check("hex:f50100", "a", &zeroed).refused(11, "is no proof");
+}
+
+#[test]
+fn changed_proofs() {
+    let folder = Folder::with_shelf("changed_proofs");
+    prove_small(&folder);
+    let proof = folder.read("proof");
+    let check = |name: &str, bytes: &[u8]| {
+        folder.write(name, bytes);
+        let line = CHECK.replace("proof", name);
+        folder.wv(&format!("{line} {ORDER}"))
+    };
+    let cut = "cut: another message or circuit than the prover's, or a proof that was cut";
+    check("cut", &proof[..proof.len() - 1]).refused(12, cut);
+    check("long", &[&proof[..], &[0]].concat()).refused(12, "long: ");
+    for place in [6, 37, 38, proof.len() - 1] {
+        let mut changed = proof.clone();
+        changed[place] ^= 1;
+        assert_does_not_hold(&check("changed", &changed));
+    }
+    folder.write("long.message", &[0; 4097]);
+    folder
+        .wv(&format!("{CHECK} --message long.message"))
+        .refused(6, "--message long.message has 4097 bytes, at most 4096");
+    folder
+        .wv(&format!("check row proof --y hex:01 {ORDER}"))
+        .refused(1, "row");
 }
 
 #[test]
 fn too_little_soundness_is_refused() {
-    let folder = folder("bits");
-    folder.wv(&format!("{PROVE} {SMALL} {ORDER}"));
-    let ended = folder.wv(&format!("{CHECK} {ORDER} --bits 128"));
-    assert_eq!(ended.status, 1);
-    let told = "wv: refused: the proof's soundness is 7.4 bits, below 128\n";
-    assert_eq!((ended.err.as_str(), ended.out.len()), (told, 0));
+    let folder = Folder::with_shelf("bits");
+    prove_small(&folder);
+    let few =
+        "proof: the proof holds, but its M 12, tau 4, n 4 have 7.4 bits of soundness, and 128 \
+               are asked for: `--bits 7.4` asks for less";
+    let ended = folder.wv(&format!("{CHECK} {ORDER}"));
+    ended.unwanted(few);
+    assert_eq!(ended.out, b"");
+    folder
+        .wv(&format!("{CHECK} {ORDER} --bits 7.5"))
+        .unwanted("and 7.5 are asked for");
+    for bits in ["0", "7", "7.4"] {
+        folder
+            .wv(&format!("{CHECK} {ORDER} --bits {bits}"))
+            .says("accepted, M 12, tau 4, n 4, soundness 7.4 bits\n");
+    }
+}
+
+/// What is no number of bits is a mistake, and not a wish for none.
+#[test]
+fn nonsense_for_bits() {
+    let folder = Folder::with_shelf("nonsense_bits");
+    prove_small(&folder);
+    let huge = "9".repeat(400);
+    for bits in [
+        "nan", "NaN", "inf", "-inf", "infinity", "-1", "-0", "+1", "1e2", "0x10", "", "many",
+        "1,5", ".5", "5.", &huge,
+    ] {
+        folder
+            .wv(&format!("{CHECK} {ORDER} --bits '{bits}'"))
+            .mistaken(&format!("--bits {bits}: not such a number"));
+    }
 }
 
 /// What cannot be proved takes no root and leaves no file.
 #[test]
 fn a_refusal_draws_no_root() {
-    let folder = folder("no_root");
-    let prove = |line: &str| folder.wv(&format!("prove {line} --shelf page --log log --out proof"));
-    prove(&format!("row row {ORDER}")).refused(1);
-    prove(&format!("stock16.circuit row {ORDER} --instances 1")).refused(8);
-    prove(&format!("stock16.circuit row {ORDER} --chosen 145")).refused(8);
-    prove(&format!("stock16.circuit row {ORDER} --parties 3")).refused(8);
-    prove(&format!("stock16.circuit hex:00 {ORDER}")).refused(6);
-    prove(&format!("stock16.circuit row {ORDER} --y hex:")).refused(6);
-    prove(&format!("stock16.circuit row {ORDER} --y hex:03")).refused(7);
-    prove(&format!("stock16.circuit row {ORDER} --y hex:00")).refused(10);
-    prove(&format!("stock16.circuit hex:f900fa00 {ORDER} --y hex:01")).refused(10);
+    let folder = Folder::with_shelf("no_root");
     folder.write("long", &[0; 4097]);
-    prove("stock16.circuit row --message long").refused(6);
+    let before = folder.files();
+    let prove = |line: &str| {
+        let line = format!("prove {line} --shelf page --log log --out proof");
+        folder.wv(&line)
+    };
+    let covers = |line: &str| prove(&format!("covers16.circuit {line} {ORDER}"));
+    prove(&format!("row row {ORDER}")).refused(1, "row");
+    covers("row --instances 1").refused(8, "--instances 1: 2 to 512");
+    covers("row --instances 513").refused(8, "--instances 513: 2 to 512");
+    covers("row --chosen 145").refused(8, "--chosen 145: 1 to 144");
+    covers("row --chosen 0").refused(8, "--chosen 0: 1 to 144");
+    covers("row --parties 3").refused(8, "--parties 3: 2, 4, 8 or 16");
+    covers("hex:00").refused(6, "the witness has 1 byte, the circuit asks for 4");
+    covers("row --y hex:").refused(6, "--y has 0 bytes, the circuit asks for 3");
+    covers("row --y row").refused(6, "--y row has 4 bytes, the circuit asks for 3");
+    covers("row --y hex:f50102").refused(7, "--y has bits set behind its 17");
+    covers("row --y hex:f40100").refused(10, "the witness row gives f50100, not f40100");
+    covers("hex:f900fa00 --y hex:f50100").refused(10, "gives f40100, not f50100");
+    prove("covers16.circuit row --message long")
+        .refused(6, "--message long has 4097 bytes, at most 4096");
     ready(&folder, 3);
-    assert!(!folder.has("proof"));
-    assert_eq!(folder.read("log"), b"");
+    assert_eq!(folder.files(), before);
 }
 
 /// The incident, by hand.
 #[test]
 fn an_old_page_put_back_is_refused() {
-    let folder = folder("incident");
+    let folder = Folder::with_shelf("incident");
     let old = folder.read("page");
-    let line = format!("{PROVE} {SMALL} {ORDER}");
-    assert_eq!(folder.wv(&line).status, 0);
+    prove_small(&folder);
     folder.write("page", &old);
-    let proof = folder.read("proof");
-    folder.wv(&line).refused(15);
-    folder.wv("shelf status page --log log").refused(15);
-    assert_eq!(folder.read("proof"), proof);
+    let before = folder.files();
+    let line = format!("{PROVE} {ORDER}");
+    let behind = "page is old, 1 draw behind: put the present page back";
+    folder.wv(&line).refused(15, behind);
+    folder.wv("shelf status page --log log").refused(15, behind);
+    assert_eq!(folder.files(), before);
 }
 
 #[test]
 fn an_empty_shelf_is_refused() {
-    let folder = folder("empty");
-    let line = format!("{PROVE} {SMALL} {ORDER}");
+    let folder = Folder::with_shelf("empty");
     for _ in 0..3 {
-        assert_eq!(folder.wv(&line).status, 0);
+        prove_small(&folder);
     }
-    folder.wv(&line).refused(16);
+    let proof = folder.read("proof");
+    folder
+        .wv(&format!("{PROVE} {ORDER}"))
+        .refused(16, "page: `wv shelf stock` puts more on it");
+    assert_eq!(folder.read("proof"), proof);
 }
 
 #[test]
 fn mistakes() {
-    let folder = folder("proof_mistakes");
+    let folder = Folder::with_shelf("proof_mistakes");
+    let before = folder.files();
     folder
-        .wv("prove stock16.circuit")
+        .wv("prove covers16.circuit")
         .mistaken("usage: wv prove");
     folder
-        .wv("prove stock16.circuit row")
+        .wv("prove covers16.circuit row")
         .mistaken("`--shelf` is needed");
     folder
         .wv(&PROVE.replace("--out proof", ORDER))
         .mistaken("`--out` is needed");
     folder.wv(PROVE).mistaken("`--message` is needed");
     folder
-        .wv("check stock16.circuit row")
+        .wv("check covers16.circuit row")
         .mistaken("`--y` is needed");
     folder.wv(CHECK).mistaken("`--message` is needed");
-    let ended = folder.wv(&format!("{PROVE} {ORDER} --parties eight"));
-    ended.mistaken("--parties eight");
-    let line = PROVE.replace("--out proof", "--out no/proof");
-    folder.wv(&format!("{line} {ORDER}")).mistaken("no/proof");
-    let ended = folder.wv(&format!("{CHECK} {ORDER}"));
-    ended.mistaken("proof: ");
-    ready(&folder, 3);
+    folder
+        .wv(&format!("{PROVE} {ORDER} --parties eight"))
+        .mistaken("--parties eight");
+    folder.wv(&format!("{CHECK} {ORDER}")).mistaken("proof: ");
+    assert_eq!(folder.files(), before);
 }

@@ -1,29 +1,101 @@
 //! Circuits: what they are, and what they give.
 
+use super::causes::Packed;
 use super::Command;
-use crate::args::{to_hex, Args, Target};
-use crate::failure::{print, Failure};
-use wivulameno::circuit;
+use crate::args::Args;
+use crate::failure::Failure;
+use crate::input::{to_hex, Input};
+use crate::output::{Taken, Target};
+use crate::report::Report;
+use std::ffi::OsStr;
+use wivulameno::{circuit, Refusal};
 
 pub const CIRCUIT: Command = Command {
     name: "circuit",
-    usage: "CIRCUIT",
+    usage: "CIRCUIT [--json]",
     about: "Read a circuit and print its sizes.",
     help: "\
-Prints the number of inputs, outputs, gates and AND gates, a line each. A circuit
-is refused with 1 to 5.
+Prints the number of inputs, outputs, gates and AND gates, a line each. A
+circuit is refused with 1 to 5.
+
+  --json  print an object with the keys inputs, outputs, gates, ands, refused
+          and message; the last two are null when all is well
 ",
+    example: "  wv circuit covers16.circuit\n",
     places: 1,
     options: &[],
-    flags: &[],
+    flags: &["json"],
     run: sizes,
 };
 
-fn sizes(args: &Args) -> Result<(), Failure> {
-    let [inputs, outputs, gates, ands] = circuit::read(&args.bytes(args.place(0))?)?;
-    print(&format!(
-        "inputs {inputs}\noutputs {outputs}\ngates {gates}\nAND gates {ands}\n"
-    ))
+fn sizes(args: &Args, report: &mut Report) -> Result<(), Failure> {
+    let circuit = Circuit::read(args, args.place(0))?;
+    let [inputs, outputs, gates, ands] = circuit.sizes;
+    report.number("inputs", "inputs", inputs);
+    report.number("outputs", "outputs", outputs);
+    report.number("gates", "gates", gates);
+    report.number("AND gates", "ands", ands);
+    Ok(())
+}
+
+/// A circuit that the library reads.
+pub struct Circuit {
+    input: Input,
+    sizes: [u32; 4],
+}
+
+impl Circuit {
+    /// Refused with 1 to 5.
+    pub fn read(args: &Args, value: &OsStr) -> Result<Circuit, Failure> {
+        let input = args.input(value)?;
+        let sizes = circuit::read(&input.bytes);
+        let cause = || input.name_or("the typed circuit").to_string();
+        let sizes = sizes.map_err(|refusal| Failure::Refused(refusal, cause()))?;
+        Ok(Circuit { input, sizes })
+    }
+
+    /// The circuit file.
+    pub fn bytes(&self) -> &[u8] {
+        &self.input.bytes
+    }
+
+    /// A witness, or what should be one.
+    pub fn witness<'a>(&self, input: &'a Input) -> Packed<'a> {
+        Packed {
+            name: input.titled("the witness"),
+            bytes: &input.bytes,
+            bits: self.sizes[0] as usize,
+        }
+    }
+
+    /// A claimed output, or what should be one.
+    pub fn output<'a>(&self, name: String, bytes: &'a [u8]) -> Packed<'a> {
+        Packed {
+            name,
+            bytes,
+            bits: self.sizes[1] as usize,
+        }
+    }
+
+    /// What the circuit gives for a witness.
+    pub fn outputs(&self, witness: &Input) -> Result<Vec<u8>, Failure> {
+        let mut y = vec![0; self.sizes[1].div_ceil(8) as usize];
+        let cause = |refusal| {
+            let witness = self.witness(witness);
+            let cause = match refusal {
+                Refusal::Length => witness.length(),
+                _ => witness.unused(),
+            };
+            Failure::Refused(refusal, cause.unwrap_or_default())
+        };
+        circuit::evaluate(self.bytes(), &witness.bytes, &mut y).map_err(cause)?;
+        Ok(y)
+    }
+
+    /// The file, which no output replaces.
+    pub fn taken(&self) -> Taken {
+        vec![(self.input.titled("the circuit"), self.input.place.clone())]
+    }
 }
 
 pub const EVALUATE: Command = Command {
@@ -36,30 +108,31 @@ The outputs are printed as a line of hexadecimal digits.
   --out FILE  write them there
   --raw       write the bytes themselves, without a line's end
 
+A witness that is typed on the command line is seen by other users in the
+process list, and kept in the shell's history: give a row that they may not read
+as a file, as `-` or as `fd:N`.
+
 Refused with 1 to 5 for the circuit, 6 for a witness of another length, 7 for
 unused bits in its last byte.
 ",
+    example: "  wv evaluate covers16.circuit covers16.row\n",
     places: 2,
     options: &["out"],
     flags: &["raw"],
     run: evaluate,
 };
 
-fn evaluate(args: &Args) -> Result<(), Failure> {
-    let circuit = args.bytes(args.place(0))?;
-    let y = outputs(&circuit, &args.bytes(args.place(1))?)?;
+fn evaluate(args: &Args, _: &mut Report) -> Result<(), Failure> {
+    let circuit = Circuit::read(args, args.place(0))?;
+    let witness = args.input(args.place(1))?;
+    let mut taken = circuit.taken();
+    taken.push((witness.titled("the witness"), witness.place.clone()));
+    let out = args.option("out").unwrap_or(OsStr::new("-"));
+    let target = Target::find(out, &taken)?;
+    let y = circuit.outputs(&witness)?;
     let written = match args.flag("raw") {
         true => y,
         false => (to_hex(&y) + "\n").into(),
     };
-    let standard = "-".into();
-    Target::make(args.option("out").unwrap_or(&standard))?.write(&written)
-}
-
-/// The y of a witness.
-pub fn outputs(circuit: &[u8], witness: &[u8]) -> Result<Vec<u8>, Failure> {
-    let [_, outputs, ..] = circuit::read(circuit)?;
-    let mut y = vec![0; outputs.div_ceil(8) as usize];
-    circuit::evaluate(circuit, witness, &mut y)?;
-    Ok(y)
+    target.write(&written)
 }

@@ -1,44 +1,63 @@
 //! The commands.
 
+mod causes;
+mod check;
 mod circuit;
-mod proof;
+mod files;
+mod prove;
 mod shelf;
 
 use crate::args::Args;
 use crate::failure::Failure;
+use crate::report::Report;
 
+/// A command of `wv`.
 pub struct Command {
     /// Its words, as `shelf new`.
     pub name: &'static str,
+    /// What stands behind the words.
     pub usage: &'static str,
     /// What it does, in a line.
     pub about: &'static str,
     /// What else there is to know, in lines.
     pub help: &'static str,
+    /// A call, in lines.
+    pub example: &'static str,
+    /// How many arguments have no name.
     pub places: usize,
+    /// The options that take a value.
     pub options: &'static [&'static str],
+    /// The options that take none.
     pub flags: &'static [&'static str],
-    pub run: fn(&Args) -> Result<(), Failure>,
+    /// Does the work, and reports what is to be printed.
+    pub run: fn(&Args, &mut Report) -> Result<(), Failure>,
 }
 
+/// All commands, in the order of the overview.
 pub const ALL: &[Command] = &[
     circuit::CIRCUIT,
     circuit::EVALUATE,
     shelf::NEW,
     shelf::STOCK,
     shelf::STATUS,
-    proof::PROVE,
-    proof::CHECK,
+    prove::PROVE,
+    check::CHECK,
 ];
 
 const COMMON: &str = "\
 Input bytes are given as the name of a file, as `-` for standard input, as
-`hex:4e20` for bytes typed in hexadecimal, or as `text:order 7`. Bits are packed
-into bytes lowest first. An output is a file, or `-` for standard output.
+`fd:3` for an open descriptor, as `hex:4e20` for bytes typed in hexadecimal, or
+as `text:order 7`. Bits are packed into bytes lowest first. An output is a file,
+or `-` for standard output; it replaces no input, no shelf page and no log. A
+word behind `--` is no option.
 
-Exit status: 0 done or accepted; 1 refused, with the refusal's number and a
-sentence on standard error; 2 the command line is wrong, or a file is not there
-or cannot be written.
+Exit status:
+  0  done or accepted
+  1  refused, with the refusal's number, if it has one, and a sentence on
+     standard error
+  2  the command line is wrong, or a file is not there, is not what it should
+     be, or cannot be written
+  3  another process has the shelf open
 ";
 
 /// The help for all commands.
@@ -46,18 +65,24 @@ pub fn overview() -> String {
     let lines: String = ALL.iter().map(Command::line).collect();
     format!(
         "wv proves facts about rows that others may not read.\n\n{lines}\n\
-         `wv COMMAND --help` tells more about a command.\n\n{COMMON}"
+         `wv help COMMAND` tells more about a command, `wv --version` its version.\n\n\
+         {COMMON}"
     )
 }
 
 impl Command {
-    pub fn words(&self) -> usize {
-        self.name.split(' ').count()
+    /// The command whose words these words begin with.
+    pub fn named_by(words: &[String]) -> Option<&'static Command> {
+        let is_it = |command: &&Command| {
+            let named = words.get(..command.words());
+            named.is_some_and(|words| words.join(" ") == command.name)
+        };
+        ALL.iter().find(is_it)
     }
 
-    pub fn is_named_by(&self, words: &[String]) -> bool {
-        let named = words.get(..self.words());
-        named.is_some_and(|words| words.join(" ") == self.name)
+    /// How many words its name has.
+    pub fn words(&self) -> usize {
+        self.name.split(' ').count()
     }
 
     /// A line of the overview.
@@ -65,20 +90,23 @@ impl Command {
         format!("  wv {:<14}{}\n", self.name, self.about)
     }
 
+    /// All that there is to know about it.
     pub fn full_help(&self) -> String {
         let Command {
             name,
             usage,
             about,
             help,
+            example,
             ..
         } = self;
-        format!("wv {name} {usage}\n\n{about}\n\n{help}\n{COMMON}")
+        format!("wv {name} {usage}\n\n{about}\n\n{help}\nFor example:\n{example}\n{COMMON}")
     }
 
+    /// The failure of a call that does not fit the usage.
     pub fn misused(&self, what: &str) -> Failure {
         let Command { name, usage, .. } = self;
-        let text = format!("{what}\nusage: wv {name} {usage}\n`wv {name} --help` tells more");
+        let text = format!("{what}\nusage: wv {name} {usage}\n`wv help {name}` tells more");
         Failure::Usage(text)
     }
 }

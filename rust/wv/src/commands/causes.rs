@@ -1,0 +1,86 @@
+//! Which argument a refusal is about.
+
+use crate::names::counted;
+use wivulameno::proof::Counts;
+
+/// The longest message.
+pub const MESSAGE: usize = 4096;
+
+/// Bits that were packed into bytes, one of them for each input or output of a
+/// circuit.
+pub struct Packed<'a> {
+    /// What it is called in a message.
+    pub name: String,
+    pub bytes: &'a [u8],
+    pub bits: usize,
+}
+
+impl Packed<'_> {
+    /// What is wrong with its length.
+    pub fn length(&self) -> Option<String> {
+        let asked = self.bits.div_ceil(8);
+        let found = counted(self.bytes.len() as u64, "byte");
+        let text = format!("{} has {found}, the circuit asks for {asked}", self.name);
+        (self.bytes.len() != asked).then_some(text)
+    }
+
+    /// What is wrong with the bits behind the last one.
+    pub fn unused(&self) -> Option<String> {
+        let Packed { name, bytes, bits } = self;
+        let used = bits % 8;
+        let unused = bytes.last().filter(|_| used != 0)? >> used;
+        let text = format!("{name} has bits set behind its {bits}, in its last byte");
+        (unused != 0).then_some(text)
+    }
+}
+
+/// What is wrong with a message's length.
+pub fn message(name: &str, message: &[u8]) -> Option<String> {
+    let len = message.len();
+    (len > MESSAGE).then(|| format!("{name} has {len} bytes, at most {MESSAGE}"))
+}
+
+/// What is wrong with the numbers of a proof.
+pub fn counts(counts: Counts) -> Option<String> {
+    let Counts { m, tau, n } = counts;
+    if !(2..=512).contains(&m) {
+        return Some(format!("--instances {m}: 2 to 512"));
+    }
+    if !(1..m).contains(&tau) {
+        return Some(format!("--chosen {tau}: 1 to {}", m - 1));
+    }
+    (![2, 4, 8, 16].contains(&n)).then(|| format!("--parties {n}: 2, 4, 8 or 16"))
+}
+
+#[cfg(test)]
+mod tests {
+    use super::*;
+
+    #[test]
+    fn lengths_and_unused_bits() {
+        let packed = |bytes: &'static [u8], bits| Packed {
+            name: "--y".into(),
+            bytes,
+            bits,
+        };
+        assert_eq!(packed(&[1, 2, 1], 17).length(), None);
+        assert_eq!(packed(&[1, 2, 1], 17).unused(), None);
+        let long = "--y has 3 bytes, the circuit asks for 2";
+        assert_eq!(packed(&[1, 2, 1], 16).length().unwrap(), long);
+        let set = "--y has bits set behind its 17, in its last byte";
+        assert_eq!(packed(&[1, 2, 2], 17).unused().unwrap(), set);
+        assert_eq!(packed(&[1, 0xff], 16).unused(), None);
+        assert_eq!(packed(&[], 3).unused(), None);
+    }
+
+    #[test]
+    fn numbers_of_a_proof() {
+        let cause = |m, tau, n| counts(Counts { m, tau, n });
+        assert_eq!(cause(145, 66, 8), None);
+        assert_eq!(cause(1, 1, 8).unwrap(), "--instances 1: 2 to 512");
+        assert_eq!(cause(513, 1, 8).unwrap(), "--instances 513: 2 to 512");
+        assert_eq!(cause(145, 145, 8).unwrap(), "--chosen 145: 1 to 144");
+        assert_eq!(cause(145, 0, 8).unwrap(), "--chosen 0: 1 to 144");
+        assert_eq!(cause(2, 1, 3).unwrap(), "--parties 3: 2, 4, 8 or 16");
+    }
+}

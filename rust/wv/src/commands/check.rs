@@ -1,0 +1,153 @@
+//! The check of a proof, at the buyer's end.
+
+use super::causes;
+use super::circuit::Circuit;
+use super::Command;
+use crate::args::Args;
+use crate::failure::Failure;
+use crate::input::Input;
+use crate::json::Value;
+use crate::progress::Progress;
+use crate::report::Report;
+use wivulameno::proof::{self, Counts, Statement};
+use wivulameno::Refusal;
+
+/// The soundness that is asked for when nothing else is said.
+pub const BITS: f64 = 128.0;
+
+pub const CHECK: Command = Command {
+    name: "check",
+    usage: "CIRCUIT PROOF --y Y --message MESSAGE [--bits B] [--json]",
+    about: "Check a proof.",
+    help: "\
+Accepts a proof that its maker has a witness for which the circuit gives y,
+bound to this message. Prints `accepted` with the numbers M, tau and n of the
+proof, and its soundness in bits.
+
+  --y Y              the claimed output
+  --message MESSAGE  what the proof is bound to
+  --bits B           refuse a proof whose soundness is below B bits, usually
+                     128. The maker chooses M, tau and n: with small ones a
+                     proof can be guessed. 0 accepts any
+  --json             print an object with the keys accepted, m, tau, n, bits,
+                     refused and message; the last two are null when all is well
+
+Refused with 1 to 5 for the circuit, 6 or 7 for y and the message, 11 or 12 for
+a proof that is none, 7, 10 or 13 for one that does not hold, and without a
+number for too few bits.
+",
+    example: "  \
+  wv check covers16.circuit order.proof --y hex:f50100 \\
+      --message 'text:order 4711'
+",
+    places: 2,
+    options: &["y", "message", "bits"],
+    flags: &["json"],
+    run: check,
+};
+
+fn check(args: &Args, report: &mut Report) -> Result<(), Failure> {
+    report.set("accepted", false);
+    let [y, message] = [args.needed("y")?, args.needed("message")?];
+    let asked = args.decimal("bits")?.unwrap_or(BITS);
+    let claim = Claim {
+        circuit: Circuit::read(args, args.place(0))?,
+        proof: args.input(args.place(1))?,
+        y: args.input(y)?,
+        message: args.input(message)?,
+    };
+    let counts = claim.holds()?;
+    let Counts { m, tau, n } = counts;
+    let bits = soundness(counts);
+    let shown = shown_bits(bits);
+    for (key, number) in [("m", m), ("tau", tau), ("n", n)] {
+        report.set(key, number);
+    }
+    report.set("bits", Value::Number(shown.clone()));
+    if bits < asked {
+        return Err(Failure::Unwanted(format!(
+            "{}: the proof holds, but its M {m}, tau {tau}, n {n} have {shown} bits of soundness, \
+             and {asked} are asked for: `--bits {shown}` asks for less",
+            claim.proof.name_or("the typed proof")
+        )));
+    }
+    report.set("accepted", true);
+    report.line(&format!(
+        "accepted, M {m}, tau {tau}, n {n}, soundness {shown} bits"
+    ));
+    Ok(())
+}
+
+/// What the maker of a proof claims.
+struct Claim {
+    circuit: Circuit,
+    proof: Input,
+    y: Input,
+    message: Input,
+}
+
+impl Claim {
+    /// Asks the library, and gives the proof's counts.
+    fn holds(&self) -> Result<Counts, Failure> {
+        let statement = Statement {
+            circuit: self.circuit.bytes(),
+            y: &self.y.bytes,
+            message: &self.message.bytes,
+        };
+        let progress = Progress::start("checking");
+        let answer = proof::check(statement, &self.proof.bytes);
+        drop(progress);
+        let failure = |refusal| Failure::Refused(refusal, self.cause(refusal));
+        answer.map_err(failure)?;
+        Ok(counts_of(&self.proof.bytes))
+    }
+
+    /// What is likely to be the reason.
+    fn cause(&self, refusal: Refusal) -> String {
+        let y = self.circuit.output(self.y.titled("--y"), &self.y.bytes);
+        let message = self.message.titled("--message");
+        let known = match refusal {
+            Refusal::Length => {
+                let long = || causes::message(&message, &self.message.bytes);
+                y.length().or_else(long)
+            }
+            Refusal::UnusedBits => y.unused(),
+            _ => None,
+        };
+        let proof = self.proof.name_or("the typed proof");
+        known.unwrap_or_else(|| match refusal {
+            Refusal::ProofHeader => {
+                format!("{proof} is no proof, or was cut or changed at its start")
+            }
+            Refusal::ProofLength => format!(
+                "{proof}: another message or circuit than the prover's, or a proof that was cut \
+                 or changed"
+            ),
+            _ => format!(
+                "{proof}: another y, message or circuit than the prover's, or a proof that was \
+                 changed"
+            ),
+        })
+    }
+}
+
+/// The soundness of legal counts, in bits.
+pub fn soundness(counts: Counts) -> f64 {
+    let Counts { m, tau, n } = counts;
+    crate::soundness::bits(m, tau, n)
+}
+
+/// Bits with one digit after the point, rounded down.
+pub fn shown_bits(bits: f64) -> String {
+    format!("{:.1}", (bits * 10.0).floor() / 10.0)
+}
+
+/// The numbers in the header of an accepted proof.
+fn counts_of(proof: &[u8]) -> Counts {
+    let number = |place: usize| u16::from_le_bytes([proof[place], proof[place + 1]]).into();
+    Counts {
+        m: number(0),
+        tau: number(2),
+        n: proof[4].into(),
+    }
+}

@@ -1,0 +1,218 @@
+//! Proofs, made with a root from a shelf.
+
+use super::causes;
+use super::check::{shown_bits, soundness, BITS};
+use super::circuit::Circuit;
+use super::files::ShelfFiles;
+use super::Command;
+use crate::args::Args;
+use crate::cost::USUAL;
+use crate::failure::{tell, Failure};
+use crate::input::{to_hex, Input};
+use crate::output::{Taken, Target};
+use crate::progress::Progress;
+use crate::report::Report;
+use wivulameno::proof::{self, Counts, Statement};
+use wivulameno::Refusal;
+
+/// As long as any proof can be.
+const LONGEST: usize = 1 << 20;
+
+pub const PROVE: Command = Command {
+    name: "prove",
+    usage: "CIRCUIT WITNESS --shelf PAGE --log LOG --message MESSAGE --out PROOF
+         [--y Y] [--instances M] [--chosen TAU] [--parties N] [--wait SECONDS]",
+    about: "Make a proof with a root from a shelf.",
+    help: "\
+Proves that the circuit gives y for the witness, without showing more of it.
+One root is drawn from the shelf for the proof. A call that would be refused
+draws none.
+
+  --shelf PAGE       the shelf, and
+  --log LOG          the file that counts its draws
+  --message MESSAGE  what the proof is bound to, up to 4096 bytes
+  --out PROOF        where the proof goes
+  --y Y              the claimed output; without it, what the circuit gives
+  --instances M      2 to 512, usually 145
+  --chosen TAU       1 to M - 1, usually 66
+  --parties N        2, 4, 8 or 16, usually 8
+  --wait SECONDS     how long to wait for a shelf that another process has open
+
+The usual numbers have 128 bits of soundness, which `wv check` asks for.
+
+A witness that is typed on the command line is seen by other users in the
+process list, and kept in the shell's history: give a row that they may not read
+as a file, as `-` or as `fd:N`.
+
+Refused with 1 to 5 for the circuit, 8 for the three numbers, 6 for a length, 7
+for unused bits, 10 if the witness does not give y, 14 to 18 by the shelf.
+",
+    example: "  \
+  wv prove covers16.circuit covers16.row --shelf shelf.page \\
+      --log /var/lib/depot/shelf.log --message 'text:order 4711' \\
+      --out order.proof
+",
+    places: 2,
+    options: &[
+        "shelf",
+        "log",
+        "message",
+        "out",
+        "y",
+        "instances",
+        "chosen",
+        "parties",
+        "wait",
+    ],
+    flags: &[],
+    run: prove,
+};
+
+fn prove(args: &Args, report: &mut Report) -> Result<(), Failure> {
+    let files = ShelfFiles::of(args, args.needed("shelf")?)?;
+    let [_, out] = [args.needed("message")?, args.needed("out")?];
+    let wish = Wish::read(args)?;
+    let mut taken = files.taken();
+    taken.extend(wish.taken());
+    let target = Target::find(out, &taken)?;
+    wish.rehearse()?;
+    wish.warn();
+    let root = draw(&files)?;
+    let proof = wish.proof(&root)?;
+    let leaves_standard_output = target.leaves_standard_output();
+    target.write(&proof)?;
+    if leaves_standard_output {
+        let told = format!("proved {} in {} bytes", to_hex(&wish.y), proof.len());
+        report.line(&told);
+    }
+    Ok(())
+}
+
+fn draw(files: &ShelfFiles) -> Result<[u8; 16], Failure> {
+    let failure = |trouble| files.failure(trouble);
+    let mut shelf = files.open()?;
+    files.note_stockings(shelf.status().map_err(failure)?);
+    shelf.draw().map_err(failure)
+}
+
+/// What is to be proved.
+struct Wish {
+    circuit: Circuit,
+    witness: Input,
+    message: Input,
+    claimed: Option<Input>,
+    y: Vec<u8>,
+    counts: Counts,
+}
+
+impl Wish {
+    fn read(args: &Args) -> Result<Wish, Failure> {
+        let counts = Counts {
+            m: args.number("instances")?.unwrap_or(USUAL.m),
+            tau: args.number("chosen")?.unwrap_or(USUAL.tau),
+            n: args.number("parties")?.unwrap_or(USUAL.n),
+        };
+        let circuit = Circuit::read(args, args.place(0))?;
+        let witness = args.input(args.place(1))?;
+        let claimed = args.option("y").map(|y| args.input(y)).transpose()?;
+        let message = args.input(args.needed("message")?)?;
+        let y = match &claimed {
+            Some(claimed) => claimed.bytes.clone(),
+            None => circuit.outputs(&witness)?,
+        };
+        Ok(Wish {
+            circuit,
+            witness,
+            message,
+            claimed,
+            y,
+            counts,
+        })
+    }
+
+    /// The files that the proof must not replace.
+    fn taken(&self) -> Taken {
+        let mut taken = self.circuit.taken();
+        let mut take = |what, input: &Input| taken.push((input.titled(what), input.place.clone()));
+        take("the witness", &self.witness);
+        take("the message", &self.message);
+        if let Some(claimed) = &self.claimed {
+            take("the claimed output", claimed);
+        }
+        taken
+    }
+
+    fn statement(&self) -> Statement<'_> {
+        Statement {
+            circuit: self.circuit.bytes(),
+            y: &self.y,
+            message: &self.message.bytes,
+        }
+    }
+
+    fn proved(&self, root: &[u8; 16], counts: Counts, proof: &mut [u8]) -> Result<usize, Refusal> {
+        proof::prove(self.statement(), &self.witness.bytes, root, counts, proof)
+    }
+
+    /// Is this refused with any root? Asks the library twice, with a root of
+    /// zeros and nothing kept: once with no room for a proof, which is refused
+    /// with 6 when all that is tested before is good, and once with the least
+    /// counts.
+    fn rehearse(&self) -> Result<(), Failure> {
+        let root = [0; 16];
+        let failure = |refusal| Failure::Refused(refusal, self.cause(refusal));
+        match self.proved(&root, self.counts, &mut []) {
+            Err(Refusal::Length) => {}
+            answer => return answer.map(|_| ()).map_err(failure),
+        }
+        let least = Counts { m: 2, tau: 1, n: 2 };
+        let mut dropped = vec![0; LONGEST];
+        let answer = self.proved(&root, least, &mut dropped);
+        answer.map(|_| ()).map_err(failure)
+    }
+
+    /// Which argument the refusal is about.
+    fn cause(&self, refusal: Refusal) -> String {
+        let witness = self.circuit.witness(&self.witness);
+        let claimed = self.claimed.as_ref();
+        let name = claimed.map_or("--y".into(), |claimed| claimed.titled("--y"));
+        let y = self.circuit.output(name, &self.y);
+        let cause = match refusal {
+            Refusal::Counts => causes::counts(self.counts),
+            Refusal::Length => witness.length().or_else(|| y.length()).or_else(|| {
+                let name = self.message.titled("--message");
+                causes::message(&name, &self.message.bytes)
+            }),
+            Refusal::UnusedBits => witness.unused().or_else(|| y.unused()),
+            Refusal::Output => self.circuit.outputs(&self.witness).ok().map(|outputs| {
+                let given = to_hex(&outputs);
+                format!("{} gives {given}, not {}", witness.name, to_hex(&self.y))
+            }),
+            _ => None,
+        };
+        cause.unwrap_or_default()
+    }
+
+    /// Says so if a buyer will not be content with these counts.
+    fn warn(&self) {
+        let Counts { m, tau, n } = self.counts;
+        let bits = soundness(self.counts);
+        if bits < BITS {
+            let bits = shown_bits(bits);
+            tell(&format!(
+                "warning: M {m}, tau {tau}, n {n} have {bits} bits of soundness: a buyer's \
+                 `wv check` refuses them unless told `--bits {bits}`"
+            ));
+        }
+    }
+
+    fn proof(&self, root: &[u8; 16]) -> Result<Vec<u8>, Failure> {
+        let Counts { m, tau, n } = self.counts;
+        let _progress = Progress::start(&format!("proving, M {m}, tau {tau}, n {n}"));
+        let mut proof = vec![0; LONGEST];
+        let len = self.proved(root, self.counts, &mut proof);
+        let failure = |refusal| Failure::Refused(refusal, self.cause(refusal));
+        proof.truncate(len.map_err(failure)?);
+        Ok(proof)
+    }
+}

@@ -1,0 +1,168 @@
+//! The bytes that an argument stands for.
+
+use crate::failure::{at, Failure};
+use crate::names::shown;
+use crate::place::{descriptor, Place};
+use std::cell::RefCell;
+use std::ffi::OsStr;
+use std::fs::File;
+use std::io::{self, Read};
+use std::path::Path;
+
+/// What was read, and where.
+pub struct Input {
+    /// The bytes themselves.
+    pub bytes: Vec<u8>,
+    /// The file, so that no output takes its place.
+    pub place: Place,
+    /// `row.bin`, `standard input`, `fd:3`; `None` for what was typed.
+    name: Option<String>,
+}
+
+impl Input {
+    fn typed(bytes: Vec<u8>) -> Input {
+        Input {
+            bytes,
+            place: Place::Nothing,
+            name: None,
+        }
+    }
+
+    fn read(mut from: impl Read, place: Place, name: String) -> Result<Input, Failure> {
+        let mut bytes = vec![];
+        from.read_to_end(&mut bytes).map_err(at(&name))?;
+        Ok(Input {
+            bytes,
+            place,
+            name: Some(name),
+        })
+    }
+
+    /// For a message: what it is, and its name.
+    pub fn titled(&self, what: &str) -> String {
+        match &self.name {
+            Some(name) => format!("{what} {name}"),
+            None => what.into(),
+        }
+    }
+
+    /// For a message: its name, or what it is if it has none.
+    pub fn name_or<'a>(&'a self, what: &'a str) -> &'a str {
+        self.name.as_deref().unwrap_or(what)
+    }
+}
+
+/// How bytes are given.
+enum Form<'a> {
+    Hex(&'a [u8]),
+    Text(&'a [u8]),
+    Descriptor(u32),
+    File(&'a OsStr),
+}
+
+fn form(value: &OsStr) -> Result<Form<'_>, Failure> {
+    let word = value.as_encoded_bytes();
+    if let Some(digits) = word.strip_prefix(b"hex:") {
+        return Ok(Form::Hex(digits));
+    }
+    if let Some(typed) = word.strip_prefix(b"text:") {
+        return Ok(Form::Text(typed));
+    }
+    if word.starts_with(b"fd:") {
+        let number = value.to_str().and_then(|word| word[3..].parse().ok());
+        let text = format!("{}: a descriptor is a number, as in fd:3", shown(value));
+        return number.map(Form::Descriptor).ok_or(Failure::Usage(text));
+    }
+    match word == b"-" {
+        true => Ok(Form::Descriptor(0)),
+        false => Ok(Form::File(value)),
+    }
+}
+
+/// The descriptors that were read, each of which gives its bytes once.
+#[derive(Default)]
+pub struct Inputs(RefCell<Vec<u32>>);
+
+impl Inputs {
+    /// The bytes of a file, of an open descriptor, or typed.
+    pub fn get(&self, value: &OsStr) -> Result<Input, Failure> {
+        match form(value)? {
+            Form::Hex(digits) => from_hex(digits).map(Input::typed),
+            Form::Text(typed) => Ok(Input::typed(typed.into())),
+            Form::Descriptor(number) => self.descriptor(number),
+            Form::File(path) => {
+                let name = shown(path);
+                let file = File::open(path).map_err(at(&name))?;
+                Input::read(file, Place::of(Path::new(path)), name)
+            }
+        }
+    }
+
+    /// The same, but for a secret, which must not be typed: `option` names it.
+    pub fn secret(&self, option: &str, value: &OsStr) -> Result<Input, Failure> {
+        if matches!(form(value)?, Form::Hex(_) | Form::Text(_)) {
+            let text = format!(
+                "{option} is a secret and is not typed, because the command line is seen by \
+                 other users in the process list and kept in the shell's history: give a file, \
+                 `-` or `fd:N`"
+            );
+            return Err(Failure::Usage(text));
+        }
+        self.get(value)
+    }
+
+    fn descriptor(&self, number: u32) -> Result<Input, Failure> {
+        let name = match number {
+            0 => "standard input".to_string(),
+            _ => format!("fd:{number}"),
+        };
+        if self.0.borrow().contains(&number) {
+            return Err(Failure::Usage(format!("{name} can be read once")));
+        }
+        self.0.borrow_mut().push(number);
+        let file = descriptor(number);
+        let place = file.as_ref().map_or(Place::Nothing, Place::of_open);
+        match number {
+            0 => Input::read(io::stdin().lock(), place, name),
+            _ => Input::read(file.map_err(at(&name))?, place, name),
+        }
+    }
+}
+
+fn from_hex(digits: &[u8]) -> Result<Vec<u8>, Failure> {
+    let digit = |&byte: &u8| {
+        let wrong = || {
+            let shown = byte.escape_ascii();
+            Failure::Usage(format!("hex: `{shown}` is no hexadecimal digit"))
+        };
+        char::from(byte).to_digit(16).ok_or_else(wrong)
+    };
+    let values: Vec<u32> = digits.iter().map(digit).collect::<Result<_, _>>()?;
+    if !values.len().is_multiple_of(2) {
+        let text = "hex: two digits make a byte, one is missing";
+        return Err(Failure::Usage(text.into()));
+    }
+    let bytes = values.chunks(2).map(|pair| (16 * pair[0] + pair[1]) as u8);
+    Ok(bytes.collect())
+}
+
+/// Bytes as hexadecimal digits.
+pub fn to_hex(bytes: &[u8]) -> String {
+    bytes.iter().map(|byte| format!("{byte:02x}")).collect()
+}
+
+#[cfg(test)]
+mod tests {
+    use super::*;
+
+    #[test]
+    fn hex_goes_both_ways() {
+        assert_eq!(from_hex(b"00fFa1").unwrap(), [0, 0xff, 0xa1]);
+        assert_eq!(from_hex(b"").unwrap(), []);
+        assert_eq!(to_hex(&[0, 0xff, 0xa1]), "00ffa1");
+        for wrong in ["1", "0x", "g0", "é0", "0 0"] {
+            let answer = from_hex(wrong.as_bytes());
+            assert!(matches!(answer, Err(Failure::Usage(_))), "{wrong}");
+        }
+    }
+}
