@@ -103,7 +103,7 @@ impl Args {
 
     /// A whole number, if the option is there.
     pub fn number(&self, name: &str) -> Result<Option<u32>, Failure> {
-        self.parsed(name, |digits| {
+        self.parsed(name, "a whole number", |digits| {
             let all_digits = digits.bytes().all(|byte| byte.is_ascii_digit());
             digits.parse().ok().filter(|_| all_digits)
         })
@@ -111,24 +111,26 @@ impl Args {
 
     /// A decimal number of 0 or more, if the option is there.
     pub fn decimal(&self, name: &str) -> Result<Option<f64>, Failure> {
-        self.parsed(name, decimal)
+        self.parsed(name, "a number of 0 or more", decimal)
     }
 
     /// A time in seconds; none if the option is not there.
     pub fn seconds(&self, name: &str) -> Result<Duration, Failure> {
         let time = |digits: &str| Duration::try_from_secs_f64(decimal(digits)?).ok();
-        Ok(self.parsed(name, time)?.unwrap_or_default())
+        let wait = self.parsed(name, "a number of seconds, 0 or more", time)?;
+        Ok(wait.unwrap_or_default())
     }
 
     fn parsed<T>(
         &self,
         name: &str,
+        what: &str,
         parse: impl Fn(&str) -> Option<T>,
     ) -> Result<Option<T>, Failure> {
         let Some(value) = self.option(name) else {
             return Ok(None);
         };
-        let wrong = || Failure::Usage(format!("--{name} {}: not such a number", shown(value)));
+        let wrong = || Failure::Usage(format!("--{name} {}: this is not {what}", shown(value)));
         let parsed = value.to_str().and_then(parse);
         parsed.ok_or_else(wrong).map(Some)
     }

@@ -409,8 +409,8 @@ fn page_and_log_are_two_files() {
 fn a_full_output_is_told() {
     let folder = Folder::with_circuit("full_output");
     folder
-        .wv("evaluate covers16.circuit row --out /dev/full")
-        .mistaken("/dev/full: ");
+        .sh("wv evaluate covers16.circuit row --out /dev/fd/3 3> /dev/full")
+        .mistaken("/dev/fd/3: No space left");
     let ended = folder.sh("wv circuit covers16.circuit > /dev/full");
     ended.mistaken("standard output: ");
     let ended = folder.sh("wv circuit missing 2> /dev/full");

@@ -101,7 +101,7 @@ fn escaped_names() {
         .mistaken("no option `--\\xff`");
     folder
         .wv_words(&[b"shelf", b"stock", b"p", b"--log=l", b"--fresh=\xff"])
-        .mistaken("--fresh \\xff: not such a number");
+        .mistaken("--fresh \\xff: this is not a whole number");
     folder
         .wv_words(&[b"evaluate", b"covers16.circuit", b"hex:0\xff"])
         .mistaken("`\\xff` is no hexadecimal digit");

@@ -1,4 +1,7 @@
 //! Outputs: nothing that is needed is overwritten, and nothing is left by half.
+//!
+//! No test names a file in `/dev` as an output: with a fault in `wv` it would be
+//! replaced for the whole machine. Descriptors lead there as well.
 #![deny(unused_must_use)]
 #![cfg(unix)]
 
@@ -86,6 +89,18 @@ fn an_output_is_not_the_next_page() {
     }
 }
 
+/// The next page would be written over an input that lies in its place.
+#[test]
+fn an_input_is_not_the_next_page() {
+    let folder = folder("input_next_page");
+    fs::hard_link(folder.path("row"), folder.path("page.next")).unwrap();
+    let before = folder.files();
+    folder
+        .wv(&format!("{PROVE} proof"))
+        .mistaken("the witness row is page.next, where the shelf's next page is written");
+    assert_eq!(folder.files(), before);
+}
+
 /// A page behind a link: its neighbour lies where the link leads.
 #[test]
 fn the_next_page_behind_a_link() {
@@ -139,7 +154,7 @@ fn descriptors_are_files_too() {
         "standard output is the shelf page page",
     );
     kept(
-        &format!("{prove} --out /dev/stdout < row >> log"),
+        &format!("{prove} --out /dev/fd/1 < row >> log"),
         "standard output is the log log",
     );
     kept(
@@ -157,7 +172,7 @@ fn descriptors_are_files_too() {
 fn a_device_is_no_file() {
     let folder = folder("device");
     let prove = "prove covers16.circuit row --shelf page --log log --message /dev/null --out";
-    let ended = folder.wv(&format!("{prove} /dev/null"));
+    let ended = folder.sh(&format!("wv {prove} /dev/fd/3 3> /dev/null"));
     assert_eq!((ended.status, ended.err.as_str()), (0, ""));
     assert_eq!(folder.draws(), 1);
 }
@@ -219,7 +234,9 @@ fn direct_outputs() {
         String::from_utf8(folder.read("file")).unwrap()
     };
     let expected = format!("head\n{Y}\ntail\n");
-    for name in ["-", "/dev/stdout", "/dev/fd/1", "/proc/self/fd/1"] {
+    // As `/dev/stdout` is.
+    symlink("/proc/self/fd/1", folder.path("stdout")).unwrap();
+    for name in ["-", "stdout", "/dev/fd/1", "/proc/self/fd/1"] {
         assert_eq!(around(&format!("{evaluate} {name}")), expected, "{name}");
     }
     folder
@@ -229,7 +246,7 @@ fn direct_outputs() {
         .says("");
     assert_eq!(folder.read("file"), expected.as_bytes());
     folder
-        .sh(&format!("{evaluate} /dev/stdout | cat"))
+        .sh(&format!("{evaluate} stdout | cat"))
         .says(&format!("{Y}\n"));
     folder
         .sh(&format!(
@@ -237,15 +254,15 @@ fn direct_outputs() {
         ))
         .says("");
     assert_eq!(folder.read("got"), format!("{Y}\n").as_bytes());
-    let made = folder.wv(&format!("{PROVE} /dev/full"));
-    made.mistaken("/dev/full: No space left");
+    let made = folder.sh(&format!("wv {PROVE} /dev/fd/3 3> /dev/full"));
+    made.mistaken("/dev/fd/3: No space left");
 }
 
 /// A proof on standard output has nothing else around it.
 #[test]
 fn a_proof_on_standard_output() {
     let folder = folder("proof_out");
-    let made = folder.wv(&format!("{PROVE} /dev/stdout"));
+    let made = folder.wv(&format!("{PROVE} /dev/fd/1"));
     assert_eq!((made.status, made.err.as_str()), (0, ""));
     let check = "check covers16.circuit - --y claimed --message order";
     let checked = folder.wv_reading(check, &made.out);
@@ -416,10 +433,11 @@ fn killed_while_proving() {
             });
         }
         let mut run = command.stderr(Stdio::null()).spawn().expect("it starts");
-        while folder.draws() < drawn || folder.has("page.next") {
+        // The line's end says that the page is in place: what is left is the proof.
+        while folder.draws() < drawn || !folder.read("log").ends_with(b"\n") {
             thread::sleep(Duration::from_millis(1));
         }
-        thread::sleep(Duration::from_millis(20));
+        thread::sleep(Duration::from_millis(10));
         // SAFETY: it is our child, which is not waited for yet.
         assert_eq!(unsafe { kill(run.id() as i32, signal_sent) }, 0);
         let status = run.wait().expect("it ends");

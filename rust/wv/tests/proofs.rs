@@ -173,7 +173,7 @@ fn nonsense_for_bits() {
     ] {
         folder
             .wv(&format!("{CHECK} {ORDER} --bits '{bits}'"))
-            .mistaken(&format!("--bits {bits}: not such a number"));
+            .mistaken(&format!("--bits {bits}: this is not a number of 0 or more"));
     }
 }
 
@@ -198,8 +198,9 @@ fn a_refusal_draws_no_root() {
     covers("row --y hex:").refused(6, "--y has 0 bytes, the circuit asks for 3");
     covers("row --y row").refused(6, "--y row has 4 bytes, the circuit asks for 3");
     covers("row --y hex:f50102").refused(7, "--y has bits set behind its 17");
-    covers("row --y hex:f40100").refused(10, "the witness row gives f50100, not f40100");
-    covers("hex:f900fa00 --y hex:f50100").refused(10, "gives f40100, not f50100");
+    covers("row --y hex:f40100").refused(10, "the witness row gives f50100, and --y is f40100");
+    covers("hex:f900fa00 --y hex:f50100")
+        .refused(10, "the witness gives f40100, and --y is f50100");
     prove("covers16.circuit row --message long")
         .refused(6, "--message long has 4097 bytes, at most 4096");
     ready(&folder, 3);

@@ -63,6 +63,17 @@ impl ShelfFiles {
         ]
     }
 
+    /// Is none of these inputs in the place where the next page is written?
+    pub fn spare(&self, inputs: &Taken) -> Result<(), Failure> {
+        for (next, place) in self.pages().iter().skip(1) {
+            if let Some((what, _)) = inputs.iter().find(|(_, input)| input.is(place)) {
+                let text = format!("{what} is {next}: it needs a place of its own");
+                return Err(Failure::Usage(text));
+            }
+        }
+        Ok(())
+    }
+
     /// The files that no output replaces.
     pub fn taken(&self) -> Taken {
         let mut taken = self.pages();

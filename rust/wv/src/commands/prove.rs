@@ -72,8 +72,9 @@ fn prove(args: &Args, report: &mut Report) -> Result<(), Failure> {
     let files = ShelfFiles::of(args, args.needed("shelf")?)?;
     let [_, out] = [args.needed("message")?, args.needed("out")?];
     let wish = Wish::read(args)?;
-    let mut taken = files.taken();
-    taken.extend(wish.taken());
+    let mut taken = wish.taken();
+    files.spare(&taken)?;
+    taken.extend(files.taken());
     let target = Target::find(out, &taken)?;
     wish.rehearse()?;
     wish.warn();
@@ -185,8 +186,8 @@ impl Wish {
             }),
             Refusal::UnusedBits => witness.unused().or_else(|| y.unused()),
             Refusal::Output => self.circuit.outputs(&self.witness).ok().map(|outputs| {
-                let given = to_hex(&outputs);
-                format!("{} gives {given}, not {}", witness.name, to_hex(&self.y))
+                let [given, claimed] = [to_hex(&outputs), to_hex(&self.y)];
+                format!("{} gives {given}, and --y is {claimed}", witness.name)
             }),
             _ => None,
         };
