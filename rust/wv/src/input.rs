@@ -9,6 +9,10 @@ use std::fs::File;
 use std::io::{self, Read};
 use std::path::Path;
 
+/// More than any input has, and less than fills a memory: a circuit has up to
+/// 33,288 bytes, a proof up to 621,462.
+const LIMIT: u64 = 1 << 24;
+
 /// What was read, and where.
 pub struct Input {
     /// The bytes themselves.
@@ -28,9 +32,13 @@ impl Input {
         }
     }
 
-    fn read(mut from: impl Read, place: Place, name: String) -> Result<Input, Failure> {
+    fn read(from: impl Read, place: Place, name: String) -> Result<Input, Failure> {
         let mut bytes = vec![];
-        from.read_to_end(&mut bytes).map_err(at(&name))?;
+        let read = from.take(LIMIT + 1).read_to_end(&mut bytes);
+        if read.map_err(at(&name))? as u64 > LIMIT {
+            let text = format!("{name}: more than {LIMIT} bytes, which is no input's length");
+            return Err(Failure::File(text));
+        }
         Ok(Input {
             bytes,
             place,

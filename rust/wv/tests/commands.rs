@@ -116,6 +116,10 @@ fn the_first_mistakes() {
     folder.wv("evaluate a b --out c --out=d").mistaken("twice");
     folder.wv("evaluate a b --raw=1").mistaken("takes no value");
     folder.wv("circuit missing").mistaken("missing: ");
+    folder.wv("circuit .").mistaken(".: ");
+    folder
+        .wv("circuit /dev/zero")
+        .mistaken("/dev/zero: more than");
     folder
         .wv_reading("evaluate - -", &covers16())
         .mistaken("standard input can be read once");

@@ -109,11 +109,11 @@ fn a_log_that_was_set_back() {
     folder.write("log", &without_lines(&folder.read("log"), 2));
     let todo = "no page of this shelf can be trusted: delete all its pages, and make a new shelf \
                 with a new log and new roots";
-    let ahead = format!("log was set back, 2 draws behind the page: {todo}");
+    let ahead = format!("log was set back, 2 draws behind page: {todo}");
     let lines = "slots 3\nready 1\ndraws 2\nlog 0\npage ahead by 2 draws: the log was set back\n";
     stands(&folder, lines, |ended| ended.refused(15, &ahead));
     folder.wv(PROVE).refused(15, &ahead);
-    let set_back = format!("log was set back: {todo}");
+    let set_back = format!("page: log was set back: {todo}");
     folder.wv(STOCK).refused(15, &set_back);
     folder.write("page", &old);
     folder.wv(PROVE).refused(15, &set_back);

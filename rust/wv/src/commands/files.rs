@@ -225,10 +225,10 @@ impl ShelfFiles {
                 counted(draws, "draw")
             )),
             Standing::Ahead { draws } => counted_15(format!(
-                "{log} was set back, {} behind the page: {BEGIN_AGAIN}",
+                "{log} was set back, {} behind {page}: {BEGIN_AGAIN}",
                 counted(draws, "draw")
             )),
-            Standing::SetBack => counted_15(format!("{log} was set back: {BEGIN_AGAIN}")),
+            Standing::SetBack => counted_15(format!("{page}: {log} was set back: {BEGIN_AGAIN}")),
             Standing::Replaced => Failure::Unwanted(format!(
                 "{page} is from before a new page was begun under {log}: put the new one back"
             )),
