@@ -11,7 +11,7 @@ fn main() {
     println!("cargo::rerun-if-changed={}", archive.display());
     if !archive.is_file() {
         eprintln!("error: there is no {}", archive.display());
-        eprintln!("run `rt staticlib wivulameno` first");
+        eprintln!("run `make lib` in {} first", repository.display());
         std::process::exit(1);
     }
     println!("cargo::rustc-link-search=native={}", folder.display());

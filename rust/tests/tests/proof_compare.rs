@@ -6,6 +6,9 @@ use tests::calls::{Setting, COUNTS};
 use tests::circuits::{any_slots, legal, File, AND, XOR};
 use tests::proofs::{compare_check, compare_prove, longest, Prove};
 use tests::random::Random;
+use wivulameno::circuit::sizes;
+use wivulameno::proof::{longest_proof, proof_len, Counts};
+use wivulameno::seeds::challenge;
 
 const SETTINGS: usize = 120;
 
@@ -13,7 +16,7 @@ const SETTINGS: usize = 120;
 fn compare(random: &mut Random, setting: &Setting, counts: [u32; 2], message: usize) -> Vec<u8> {
     let mut call = Prove::of(random, setting, counts, message);
     let proof = compare_prove(random, &call).expect("proved");
-    assert!(proof.len() <= call.proof_len, "{}", call.shown());
+    compare_lengths(&call, &proof);
     if random.once_in(3) {
         call.proof_len += random.pick(&[1, 2, 7, 48, 1000]);
         let again = compare_prove(random, &call);
@@ -22,6 +25,24 @@ fn compare(random: &mut Random, setting: &Setting, counts: [u32; 2], message: us
     let answer = compare_check(random, &call.check(&proof));
     assert_eq!(answer, Ok(()), "{}", call.shown());
     proof
+}
+
+/// The library's crate tells the same counts, and the same lengths before and
+/// after the challenge.
+fn compare_lengths(call: &Prove, proof: &[u8]) {
+    let [m, tau, n] = call.counts;
+    let counts = Counts { m, tau, n };
+    assert_eq!(Counts::of_proof(proof), Some(counts), "{}", call.shown());
+    let sizes = sizes(&call.circuit).expect("a legal circuit");
+    let longest = longest_proof(sizes, counts);
+    assert_eq!(longest, Some(call.proof_len), "{}", call.shown());
+    let mut chosen = vec![0; 3 * tau as usize];
+    let drawn = challenge(m, tau, n, &proof[6..38], &call.message, &mut chosen);
+    assert_eq!(drawn, Ok(()));
+    let is_last = |instance: &&[u8]| u32::from(instance[2]) == n - 1;
+    let hiding_last = chosen.chunks(3).filter(is_last).count() as u32;
+    let len = proof_len(sizes, counts, hiding_last);
+    assert_eq!(len, Some(proof.len()), "{}", call.shown());
 }
 
 fn a_small_setting(random: &mut Random, n: u32) -> Setting {
@@ -213,7 +234,7 @@ fn an_example() {
         message: &call.message,
     };
     let [m, tau, n] = counts;
-    let counts = wivulameno::proof::Counts { m, tau, n };
+    let counts = Counts { m, tau, n };
     let mut again = vec![0; call.proof_len];
     let len = wivulameno::proof::prove(statement, witness, &call.root, counts, &mut again);
     assert!(len == Ok(proof.len()) && again[..proof.len()] == proof);

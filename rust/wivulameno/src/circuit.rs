@@ -1,5 +1,7 @@
-//! Circuit files.
+//! Circuit files. `include/wivulameno.h` has their layout.
 
+use crate::limits::{MAX_GATES, MAX_INPUTS, MAX_OUTPUTS};
+use crate::proof::oct;
 use crate::{answer, Refusal};
 
 extern "C" {
@@ -14,20 +16,66 @@ extern "C" {
     ) -> u32;
 }
 
-/// Writes I, O, G and A of `circuit` into `sizes`.
+/// How large a circuit is.
+#[derive(Clone, Copy, Debug, PartialEq, Eq, Hash)]
+pub struct Sizes {
+    /// I, the inputs: the bits of a witness.
+    pub inputs: u32,
+    /// O, the outputs: the bits of y.
+    pub outputs: u32,
+    /// G, the gates.
+    pub gates: u32,
+    /// A, the AND gates among them.
+    pub ands: u32,
+}
+
+impl Sizes {
+    /// The bytes of a witness.
+    pub const fn witness_len(self) -> usize {
+        oct(self.inputs)
+    }
+
+    /// The bytes of y.
+    pub const fn y_len(self) -> usize {
+        oct(self.outputs)
+    }
+
+    /// Can a circuit have these sizes?
+    pub(crate) const fn are_legal(self) -> bool {
+        let inputs = 1 <= self.inputs && self.inputs <= MAX_INPUTS;
+        let outputs = 1 <= self.outputs && self.outputs <= MAX_OUTPUTS;
+        let gates = self.ands <= self.gates && self.gates <= MAX_GATES;
+        inputs && outputs && gates
+    }
+}
+
+/// The sizes of `circuit`. Refuses with 1 to 5.
+pub fn sizes(circuit: &[u8]) -> Result<Sizes, Refusal> {
+    let [inputs, outputs, gates, ands] = read(circuit)?;
+    Ok(Sizes {
+        inputs,
+        outputs,
+        gates,
+        ands,
+    })
+}
+
+/// Writes I, O, G and A of `circuit` into `sizes`, as the C function does.
 pub fn read_into(circuit: &[u8], sizes: &mut [u32; 4]) -> Result<(), Refusal> {
     // SAFETY: both are valid for their lengths and do not overlap.
     answer(unsafe { wv_read(circuit.as_ptr(), circuit.len(), sizes) })
 }
 
-/// I, O, G and A of `circuit`.
+/// I, O, G and A of `circuit`; [`sizes`] gives them names. Refuses with 1 to 5.
 pub fn read(circuit: &[u8]) -> Result<[u32; 4], Refusal> {
     let mut sizes = [0; 4];
     read_into(circuit, &mut sizes)?;
     Ok(sizes)
 }
 
-/// Fills `y` with the outputs of `circuit` for `witness`.
+/// Fills `y` with the outputs of `circuit` for `witness`. Refuses with 1 to 5, 6
+/// for a length that is not [`Sizes::witness_len`] or [`Sizes::y_len`], 7 for an
+/// unused bit of the witness.
 pub fn evaluate(circuit: &[u8], witness: &[u8], y: &mut [u8]) -> Result<(), Refusal> {
     // SAFETY: the slices are valid for their lengths and `y` overlaps no other.
     answer(unsafe {

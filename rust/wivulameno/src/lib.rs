@@ -1,12 +1,63 @@
-//! Safe functions over the static library `libwivulameno.a`.
+//! Proofs about rows that others may not read: safe functions over the static
+//! library `libwivulameno.a`, and a shelf of roots in files.
 //!
-//! A slice gives the library what it asks of a lent buffer: a valid pointer
-//! that is not null, its length, and no overlap with what is written.
+//! | module | what is there |
+//! | --- | --- |
+//! | [`circuit`] | read a circuit, evaluate it |
+//! | [`proof`] | prove and check; how long a proof is, and how sound |
+//! | [`store`] | shelf and log in files, in the order of writes that survives a cut |
+//! | [`shelf`] | shelf pages in memory, for a host with a log of its own |
+//! | [`mpc`], [`seeds`] | the parts that proofs are made of |
+//! | [`limits`] | the largest sizes and counts |
+//!
+//! A depot proves that two bits of a row are both 1, and a buyer checks it:
+//!
+//! ```
+//! use wivulameno::circuit::sizes;
+//! use wivulameno::proof::{check, longest_proof, prove, Counts, Statement};
+//! use wivulameno::{Refusal, Shelf};
+//!
+//! # let folder = std::env::temp_dir().join(format!("wivulameno-lib-{}", std::process::id()));
+//! # std::fs::create_dir_all(&folder)?;
+//! # let (page, log) = (folder.join("shelf.page"), folder.join("shelf.log"));
+//! # let sixteen_random_bytes = [7; 16];
+//! // Two inputs, one output, one gate: wire 2 is wire 0 AND wire 1.
+//! let circuit = [2, 0, 1, 0, 1, 0, 1, 0, 2, 0, 2, 0, 0, 0, 1, 0, 0, 0];
+//! let statement = Statement { circuit: &circuit, y: &[1], message: b"order 4711" };
+//!
+//! // The depot: a new root for each proof, counted on disk when it is drawn.
+//! let mut shelf = Shelf::create(&page, &log, 255)?;
+//! shelf.stock(&sixteen_random_bytes)?;
+//! let counts = Counts { m: 145, tau: 66, n: 8 };
+//! let mut proof = vec![0; longest_proof(sizes(&circuit)?, counts).expect("legal counts")];
+//! let len = prove(statement, &[0b11], &shelf.draw()?, counts, &mut proof)?;
+//! proof.truncate(len);
+//!
+//! // The buyer: the depot chose the counts, so they are looked at.
+//! check(statement, &proof)?;
+//! let bits = Counts::of_proof(&proof).and_then(Counts::soundness_bits);
+//! assert!(bits >= Some(128.0));
+//! let other = Statement { y: &[0], ..statement };
+//! assert_eq!(check(other, &proof), Err(Refusal::Output));
+//! # std::fs::remove_dir_all(&folder)?;
+//! # Ok::<(), Box<dyn std::error::Error>>(())
+//! ```
+//!
+//! # The library's conditions
+//!
+//! A slice gives the library what it asks of a lent buffer: a valid pointer that
+//! is not null, its length, and no overlap of what is written with anything else.
+//! A refused call leaves every lent byte as it was.
+//!
+//! The library is built for x86-64 Linux. [`store::Disk`] relies on Unix to keep a
+//! page from other users' eyes and to wait until a file's name is on disk.
+#![warn(missing_docs, missing_debug_implementations)]
 
 mod ffi;
 mod refusal;
 
 pub mod circuit;
+pub mod limits;
 pub mod mpc;
 pub mod proof;
 pub mod seeds;
@@ -16,6 +67,8 @@ pub mod store;
 pub use refusal::Refusal;
 pub use store::{Log, Shelf};
 
+use limits::DIGEST_LEN;
+
 fn answer(status: u32) -> Result<(), Refusal> {
     match status {
         0 => Ok(()),
@@ -23,21 +76,21 @@ fn answer(status: u32) -> Result<(), Refusal> {
     }
 }
 
-/// The digest of `message` under SHA3-256.
-pub fn sha3_256(message: &[u8]) -> [u8; 32] {
-    let mut digest = [0; 32];
+/// The digest of `message` under SHA3-256 (FIPS 202).
+pub fn sha3_256(message: &[u8]) -> [u8; DIGEST_LEN] {
+    let mut digest = [0; DIGEST_LEN];
     sha3_256_into(message, &mut digest);
     digest
 }
 
 /// Writes the digest of `message` into `digest`.
-pub fn sha3_256_into(message: &[u8], digest: &mut [u8; 32]) {
+pub fn sha3_256_into(message: &[u8], digest: &mut [u8; DIGEST_LEN]) {
     // SAFETY: both are valid for their lengths and do not overlap.
     let status = unsafe { ffi::wv_sha3_256(message.as_ptr(), message.len(), digest) };
     answer(status).expect("SHA3-256 refuses nothing");
 }
 
-/// Fills `output` with SHAKE128 of `message`.
+/// Fills `output` with SHAKE128 (FIPS 202) of `message`.
 pub fn shake128(message: &[u8], output: &mut [u8]) {
     // SAFETY: both slices are valid for their lengths and do not overlap.
     let status = unsafe {
@@ -51,7 +104,7 @@ pub fn shake128(message: &[u8], output: &mut [u8]) {
     answer(status).expect("SHAKE128 refuses nothing");
 }
 
-/// Fills `output` with SHAKE256 of `message`.
+/// Fills `output` with SHAKE256 (FIPS 202) of `message`.
 pub fn shake256(message: &[u8], output: &mut [u8]) {
     // SAFETY: both slices are valid for their lengths and do not overlap.
     let status = unsafe {

@@ -1,4 +1,6 @@
-//! Runs of a circuit by n parties, showings and replays.
+//! Runs of a circuit by n parties, showings and replays: what a proof is made of,
+//! for tests and for a closer look. `include/wivulameno.h` has the parts and
+//! their lengths.
 
 use crate::{answer, Refusal};
 
@@ -69,30 +71,45 @@ extern "C" {
 }
 
 /// The parts that a run fills.
+#[derive(Debug)]
 pub struct RunOut<'a> {
+    /// I bits.
     pub masked_inputs: &'a mut [u8],
+    /// The broadcast rows of n parties, each of A + O bits in bytes of its own.
     pub rows: &'a mut [u8],
+    /// O bits.
     pub y: &'a mut [u8],
 }
 
 /// The four parts of a showing, to be read.
-#[derive(Clone, Copy)]
+#[derive(Clone, Copy, Debug)]
 pub struct Showing<'a> {
+    /// The rows of n parties, each of I + 2A bits in bytes of its own; that of
+    /// the hidden party is zero.
     pub tapes: &'a [u8],
+    /// A bits, all zero if the last party is hidden.
     pub corrections: &'a [u8],
+    /// I bits.
     pub masked_inputs: &'a [u8],
+    /// The broadcast row of the hidden party, A + O bits.
     pub row: &'a [u8],
 }
 
-/// The four parts of a showing, to be filled.
+/// The four parts of a showing, to be filled; see [`Showing`].
+#[derive(Debug)]
 pub struct ShowingOut<'a> {
+    /// As in [`Showing`].
     pub tapes: &'a mut [u8],
+    /// As in [`Showing`].
     pub corrections: &'a mut [u8],
+    /// As in [`Showing`].
     pub masked_inputs: &'a mut [u8],
+    /// As in [`Showing`].
     pub row: &'a mut [u8],
 }
 
-/// Fills `corrections` with those of the tapes of n parties.
+/// Fills `corrections` with those of the tapes of n parties. Refuses with 1 to 5,
+/// 8, 6, 7.
 pub fn prepare(
     circuit: &[u8],
     n: u32,
@@ -115,6 +132,7 @@ pub fn prepare(
 }
 
 /// Runs the circuit for `witness` by n parties, with the corrections as lent.
+/// Refuses with 1 to 5, 8, 6, 7.
 pub fn run(
     circuit: &[u8],
     n: u32,
@@ -147,6 +165,7 @@ pub fn run(
 }
 
 /// Fills `out` with the showing that hides party p, cut after `cut` gates.
+/// Refuses with 1 to 5, 8, 9, 6, 7.
 pub fn show(
     circuit: &[u8],
     n: u32,
@@ -182,7 +201,7 @@ pub fn show(
 }
 
 /// Fills `rows` with the broadcasts of all parties in the run that is shown,
-/// whose output must be `y`.
+/// whose output must be `y`. Refuses with 1 to 5, 8, 9, 6, 7, 10.
 pub fn replay(
     circuit: &[u8],
     n: u32,

@@ -1,5 +1,13 @@
 //! Proofs that a circuit gives an output for a witness that stays hidden.
 
+mod counts;
+mod length;
+mod soundness;
+
+pub use counts::Counts;
+pub(crate) use length::oct;
+pub use length::{longest_proof, proof_len};
+
 use crate::{answer, Refusal};
 
 extern "C" {
@@ -35,23 +43,18 @@ extern "C" {
 
 /// What is proved: that the prover knows a witness for which the circuit gives
 /// y. The message is bound to the proof.
-#[derive(Clone, Copy)]
+#[derive(Clone, Copy, Debug, PartialEq, Eq)]
 pub struct Statement<'a> {
+    /// The circuit file.
     pub circuit: &'a [u8],
+    /// The claimed outputs. All that the checker is to know of the row is in
+    /// here.
     pub y: &'a [u8],
+    /// Any bytes, up to [`MAX_MESSAGE`](crate::limits::MAX_MESSAGE).
     pub message: &'a [u8],
 }
 
-/// M instances, tau of them chosen, n parties.
-#[derive(Clone, Copy, Debug, PartialEq, Eq)]
-pub struct Counts {
-    pub m: u32,
-    pub tau: u32,
-    pub n: u32,
-}
-
-/// Writes a proof to the start of `proof`, and its length into `written`. The
-/// root is to be used once, as drawn from a shelf.
+/// As [`prove`], with the length that the C function writes into `written`.
 pub fn prove_into(
     statement: Statement,
     witness: &[u8],
@@ -89,8 +92,14 @@ pub fn prove_into(
     })
 }
 
-/// Writes a proof to the start of `proof` and gives its length. The root is to
-/// be used once, as drawn from a shelf.
+/// Writes a proof to the start of `proof` and gives its length. The room that is
+/// asked for is [`longest_proof`].
+///
+/// The root is 16 random bytes, drawn from a shelf: a new root for each call,
+/// also after a refused one. Two proofs from one root can show the witness.
+///
+/// Refuses with 1 to 5 for the circuit, 8 for the counts, 6 for a length, 7 for an
+/// unused bit, 10 if the circuit does not give y for the witness.
 pub fn prove(
     statement: Statement,
     witness: &[u8],
@@ -103,7 +112,12 @@ pub fn prove(
     Ok(usize::try_from(written).expect("no more than the buffer"))
 }
 
-/// Is this a proof of the statement?
+/// Is this a proof of the statement? Any legal counts are accepted: a caller who
+/// wants so many bits asks [`Counts::of_proof`] and [`Counts::soundness_bits`].
+///
+/// Refuses with 1 to 5 for the circuit, 6 or 7 for y and the message, 11 or 12
+/// for what is no proof of such a circuit, and 7, 10 or 13 for a proof that does
+/// not hold.
 pub fn check(statement: Statement, proof: &[u8]) -> Result<(), Refusal> {
     let Statement {
         circuit,

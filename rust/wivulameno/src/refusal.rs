@@ -7,23 +7,42 @@ use std::fmt;
 #[derive(Clone, Copy, Debug, PartialEq, Eq, Hash)]
 #[non_exhaustive]
 pub enum Refusal {
+    /// The circuit's length is not what its header asks for.
     CircuitLength = 1,
+    /// The circuit has more inputs, outputs or gates than allowed, or no input or no
+    /// output.
     CircuitSizes = 2,
+    /// A gate record has an unknown kind or a field that should be zero.
     Gate = 3,
+    /// The chain does not visit every gate exactly once and then end.
     Chain = 4,
+    /// A gate reads a wire that is not written by then, or an output is no wire.
     Wire = 5,
+    /// An input or a buffer does not have the length that is asked for.
     Length = 6,
+    /// A bit that must be zero is not.
     UnusedBits = 7,
+    /// M, tau or n is not allowed.
     Counts = 8,
+    /// There is no such party, or the cut is behind the last gate.
     Party = 9,
+    /// The output is not the claimed one.
     Output = 10,
+    /// The proof does not begin with a proof's header.
     ProofHeader = 11,
+    /// The proof's length is not what its challenge asks for.
     ProofLength = 12,
+    /// The proof does not fit its own digest.
     ProofDigest = 13,
+    /// The shelf page is damaged.
     Unsound = 14,
+    /// The shelf page is not the present one: its draws are not the log's count.
     AnotherCount = 15,
+    /// The shelf has no root ready.
     Empty = 16,
+    /// The shelf has no room for another root.
     Full = 17,
+    /// The shelf has counted as many draws as it can.
     Spent = 18,
 }
 

@@ -1,4 +1,5 @@
-//! Seed trees and the challenge.
+//! Seed trees and the challenge: what a proof is made of, for tests and for a
+//! closer look.
 
 use crate::{answer, Refusal};
 
@@ -33,7 +34,9 @@ extern "C" {
     ) -> u32;
 }
 
-/// Fills `leaves` with the n leaves of the tree of `master`, 16 bytes each.
+/// Fills `leaves` with the n leaves of the tree of `master`, 16 bytes each, for
+/// the instance j, 0 to
+/// [`MAX_INSTANCE_NUMBER`](crate::limits::MAX_INSTANCE_NUMBER). Refuses with 8, 6.
 pub fn expand(j: u32, n: u32, master: &[u8], leaves: &mut [u8]) -> Result<(), Refusal> {
     // SAFETY: both slices are valid for their lengths and do not overlap.
     answer(unsafe {
@@ -48,7 +51,8 @@ pub fn expand(j: u32, n: u32, master: &[u8], leaves: &mut [u8]) -> Result<(), Re
     })
 }
 
-/// Fills `siblings` with the opening of all leaves but leaf p.
+/// Fills `siblings` with the opening of all leaves but leaf p: 16 bytes for each
+/// level of the tree, top first. Refuses with 8, 9, 6.
 pub fn open(j: u32, n: u32, p: u32, master: &[u8], siblings: &mut [u8]) -> Result<(), Refusal> {
     // SAFETY: both slices are valid for their lengths and do not overlap.
     answer(unsafe {
@@ -65,7 +69,7 @@ pub fn open(j: u32, n: u32, p: u32, master: &[u8], siblings: &mut [u8]) -> Resul
 }
 
 /// Fills `out` with 3 bytes for each chosen instance: its number and its hidden
-/// party.
+/// party. Refuses with 8, 6.
 pub fn challenge(
     m: u32,
     tau: u32,

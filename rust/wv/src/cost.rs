@@ -1,16 +1,11 @@
 //! What a proof costs: its size, its soundness, and times as they were measured.
 
 use crate::soundness;
+pub use wivulameno::circuit::Sizes;
+use wivulameno::proof::{self, longest_proof};
 
-/// I, O and A of a circuit.
-#[derive(Clone, Copy, Debug, PartialEq, Eq)]
-pub struct Sizes {
-    pub inputs: usize,
-    pub outputs: usize,
-    pub ands: usize,
-}
-
-/// M instances, τ of them chosen, n parties.
+/// M instances, τ of them chosen, n parties, within the limits: those of the
+/// library with what is shown of them.
 #[derive(Clone, Copy, Debug, PartialEq, Eq)]
 pub struct Counts {
     pub m: u32,
@@ -23,6 +18,7 @@ const fn counts(m: u32, tau: u32, n: u32) -> Counts {
 }
 
 /// Counts of one kind, by rising n.
+#[derive(Debug)]
 pub struct Family {
     pub name: &'static str,
     pub goal: f64,
@@ -74,15 +70,19 @@ impl Counts {
 
     /// The most bytes that a proof can have.
     pub fn longest(self, sizes: Sizes) -> usize {
-        let Sizes {
-            inputs,
-            outputs,
-            ands,
-        } = sizes;
-        let oct = |bits: usize| bits.div_ceil(8);
-        let siblings = 16 * self.n.ilog2() as usize;
-        let chosen = siblings + oct(ands) + 32 + oct(inputs) + oct(ands + outputs);
-        38 + 48 * (self.m - self.tau) as usize + self.tau as usize * chosen
+        longest_proof(sizes, self.into()).expect("sizes and counts within the limits")
+    }
+}
+
+impl From<Counts> for proof::Counts {
+    fn from(Counts { m, tau, n }: Counts) -> proof::Counts {
+        proof::Counts { m, tau, n }
+    }
+}
+
+impl From<proof::Counts> for Counts {
+    fn from(proof::Counts { m, tau, n }: proof::Counts) -> Counts {
+        Counts { m, tau, n }
     }
 }
 
@@ -177,19 +177,9 @@ mod tests {
     const COVERS: Sizes = Sizes {
         inputs: 32,
         outputs: 17,
+        gates: 63,
         ands: 16,
     };
-
-    /// m10 of the paper: circuit K, M = 4, τ = 1, n = 2 has 233 bytes.
-    #[test]
-    fn the_longest_proof_of_a_marked_case() {
-        let sizes = Sizes {
-            inputs: 2,
-            outputs: 1,
-            ands: 1,
-        };
-        assert_eq!(counts(4, 1, 2).longest(sizes), 233);
-    }
 
     #[test]
     fn families_reach_their_goals() {

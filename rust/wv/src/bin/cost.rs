@@ -6,8 +6,9 @@
 
 use std::fs;
 use std::process::ExitCode;
+use wivulameno::circuit::{sizes, Sizes};
 use wv::at_least::at_least;
-use wv::cost::{self, Measured, Sizes};
+use wv::cost::{self, Measured};
 use wv::plot;
 
 const WORST: &[u8] = include_bytes!("../../../../examples/worst.circuit");
@@ -37,14 +38,8 @@ fn circuits() -> [(&'static str, Vec<u8>); 2] {
     [("covers16", at_least(16, true)), ("worst", WORST.to_vec())]
 }
 
-fn sizes(circuit: &[u8]) -> Sizes {
-    let sizes = wivulameno::circuit::read(circuit).expect("a legal circuit");
-    let [inputs, outputs, _, ands] = sizes.map(|size| size as usize);
-    Sizes {
-        inputs,
-        outputs,
-        ands,
-    }
+fn sizes_of(circuit: &[u8]) -> Sizes {
+    sizes(circuit).expect("a legal circuit")
 }
 
 /// The first line without its mark, and the rows.
@@ -66,17 +61,20 @@ fn plot_data(data: &str, image: &str) -> Result<(), String> {
 
 fn print_table(data: &[Measured]) -> Result<(), String> {
     let circuits = circuits();
-    let sizes = circuits.each_ref().map(|(name, file)| (*name, sizes(file)));
+    let sizes = circuits
+        .each_ref()
+        .map(|(name, file)| (*name, sizes_of(file)));
     print!("{}", cost::table(&sizes, data));
     Ok(())
 }
 
 mod measuring {
-    use super::circuits;
+    use super::{circuits, sizes_of};
     use std::fs;
     use std::time::Instant;
-    use wivulameno::proof::{check, prove, Counts, Statement};
-    use wv::cost::{data_head, Measured, FAMILIES};
+    use wivulameno::circuit::evaluate;
+    use wivulameno::proof::{check, prove, Statement};
+    use wv::cost::{data_head, Counts, Measured, FAMILIES};
 
     const ROUNDS: usize = 20;
 
@@ -100,21 +98,19 @@ mod measuring {
         fs::write(path, text).map_err(|error| format!("{path}: {error}"))
     }
 
-    fn measured(name: &str, circuit: &[u8], counts: wv::cost::Counts) -> Measured {
-        let witness = witness(name);
-        let mut y = vec![0; super::sizes(circuit).outputs.div_ceil(8)];
-        wivulameno::circuit::evaluate(circuit, &witness, &mut y).expect("no refusal");
+    fn measured(name: &str, circuit: &[u8], counts: Counts) -> Measured {
+        let (witness, sizes) = (witness(name), sizes_of(circuit));
+        let mut y = vec![0; sizes.y_len()];
+        evaluate(circuit, &witness, &mut y).expect("no refusal");
         let statement = Statement {
             circuit,
             y: &y,
             message: b"order 4711",
         };
-        let wv::cost::Counts { m, tau, n } = counts;
-        let numbers = Counts { m, tau, n };
-        let mut proof = vec![0; counts.longest(super::sizes(circuit))];
+        let mut proof = vec![0; counts.longest(sizes)];
         let mut bytes = 0;
         let prove_time = best(|| {
-            let made = prove(statement, &witness, &[0x5a; 16], numbers, &mut proof);
+            let made = prove(statement, &witness, &[0x5a; 16], counts.into(), &mut proof);
             bytes = made.expect("no refusal");
         });
         let check_time = best(|| check(statement, &proof[..bytes]).expect("accepted"));

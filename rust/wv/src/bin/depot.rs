@@ -59,14 +59,18 @@ fn example(folder: &Path) -> Done<Example> {
     let circuit = at_least(WIDTH, true);
     let path = folder.join("covers16.circuit");
     fs::write(&path, &circuit)?;
-    let [inputs, outputs, gates, ands] = circuit::read(&circuit)?;
+    let sizes = circuit::sizes(&circuit)?;
     println!(
-        "  {}: {} bytes, I {inputs}, O {outputs}, G {gates}, of them {ands} AND",
+        "  {}: {} bytes, I {}, O {}, G {}, of them {} AND",
         path.display(),
-        circuit.len()
+        circuit.len(),
+        sizes.inputs,
+        sizes.outputs,
+        sizes.gates,
+        sizes.ands
     );
     let witness = row(WIDTH, STOCK, ORDER);
-    let mut y = vec![0; outputs.div_ceil(8) as usize];
+    let mut y = vec![0; sizes.y_len()];
     circuit::evaluate(&circuit, &witness, &mut y)?;
     assert_eq!(y, covered(WIDTH, ORDER));
     println!("  the row has {STOCK} on hand, which stays in the depot");
@@ -88,13 +92,14 @@ fn stocked([page, log]: &[PathBuf; 2]) -> Done<Shelf> {
     }
     println!("  {}: {} bytes", page.display(), fs::metadata(page)?.len());
     tell(&mut shelf)?;
+    println!();
     Ok(shelf)
 }
 
 fn tell(shelf: &mut Shelf) -> Done {
     let status = shelf.status()?;
     let (ready, draws, count) = (status.ready, status.draws, status.count);
-    println!("  {ready} roots ready, the page has seen {draws} draws, the log counts {count}\n");
+    println!("  {ready} roots ready; draws: {draws} on the page, {count} in the log");
     Ok(())
 }
 
@@ -102,6 +107,7 @@ fn drawn(shelf: &mut Shelf) -> Done<[u8; 16]> {
     println!("One root is drawn. The log counts it before it is used.");
     let root = shelf.draw()?;
     tell(shelf)?;
+    println!();
     Ok(root)
 }
 
@@ -110,16 +116,16 @@ fn incident([page, log]: &[PathBuf; 2], before: &[u8]) -> Done {
     println!("The incident: the page from before the draw is put back.");
     fs::write(page, before)?;
     let mut shelf = Shelf::open(page, log)?;
-    let status = shelf.status()?;
-    let (ready, draws, count) = (status.ready, status.draws, status.count);
-    println!("  {ready} roots ready, the page has seen {draws} draws, the log counts {count}");
-    match shelf.draw() {
-        Err(trouble) if trouble.refusal() == Some(Refusal::AnotherCount) => {
+    tell(&mut shelf)?;
+    let Err(trouble) = shelf.draw() else {
+        return Err("a root went out twice".into());
+    };
+    match trouble.refusal() {
+        Some(Refusal::AnotherCount) => {
             println!("  a draw: {trouble}");
             Ok(())
         }
-        Err(trouble) => Err(trouble.into()),
-        Ok(_) => Err("a root went out twice".into()),
+        _ => Err(trouble.into()),
     }
 }
 
@@ -128,8 +134,9 @@ mod proof {
     use std::fs;
     use std::path::Path;
     use std::time::Instant;
-    use wivulameno::proof::{check, prove, Counts, Statement};
-    use wv::cost::{Sizes, USUAL};
+    use wivulameno::circuit::sizes;
+    use wivulameno::proof::{check, prove, Statement};
+    use wv::cost::{Counts, USUAL};
 
     const MESSAGE: &[u8] = b"order 4711 of 15 November";
 
@@ -139,12 +146,11 @@ mod proof {
             y: &example.y,
             message: MESSAGE,
         };
-        let wv::cost::Counts { m, tau, n } = USUAL;
+        let Counts { m, tau, n } = USUAL;
         println!("The proof, with M {m}, tau {tau}, n {n}.");
         let mut proof = vec![0; USUAL.longest(sizes(&example.circuit)?)];
         let start = Instant::now();
-        let counts = Counts { m, tau, n };
-        let len = prove(statement, &example.witness, root, counts, &mut proof)?;
+        let len = prove(statement, &example.witness, root, USUAL.into(), &mut proof)?;
         println!("  made in {}", milliseconds(start));
         proof.truncate(len);
         let path = folder.join("order.proof");
@@ -169,15 +175,6 @@ mod proof {
             Ok(()) => return Err("accepted for another message".into()),
         }
         Ok(())
-    }
-
-    fn sizes(circuit: &[u8]) -> Done<Sizes> {
-        let [inputs, outputs, _, ands] = wivulameno::circuit::read(circuit)?;
-        Ok(Sizes {
-            inputs: inputs as usize,
-            outputs: outputs as usize,
-            ands: ands as usize,
-        })
     }
 
     fn milliseconds(start: Instant) -> String {

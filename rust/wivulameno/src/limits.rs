@@ -1,0 +1,59 @@
+//! The limits, as `include/wivulameno.h` has them. What is beyond one is refused.
+
+use crate::circuit::Sizes;
+use crate::proof::{longest_proof, Counts};
+
+/// A circuit has 1 to so many inputs.
+pub const MAX_INPUTS: u32 = 512;
+
+/// A circuit has 1 to so many outputs.
+pub const MAX_OUTPUTS: u32 = 256;
+
+/// A circuit has 0 to so many gates.
+pub const MAX_GATES: u32 = 4096;
+
+/// The bytes of the longest circuit.
+pub const MAX_CIRCUIT: usize = 8 + 2 * MAX_OUTPUTS as usize + 8 * MAX_GATES as usize;
+
+/// A run has 2, 4, 8 or so many parties.
+pub const MAX_PARTIES: u32 = 16;
+
+/// A proof has 2 to so many instances.
+pub const MAX_INSTANCES: u32 = 512;
+
+/// The number of an instance, in a tree of seeds, is 0 to this.
+pub const MAX_INSTANCE_NUMBER: u32 = 65_535;
+
+/// A message has 0 to so many bytes.
+pub const MAX_MESSAGE: usize = 4096;
+
+/// The bytes of a proof before its instances.
+pub const PROOF_HEADER_LEN: usize = 38;
+
+/// The bytes of the longest proof of all.
+pub const MAX_PROOF: usize = {
+    let sizes = Sizes {
+        inputs: MAX_INPUTS,
+        outputs: MAX_OUTPUTS,
+        gates: MAX_GATES,
+        ands: MAX_GATES,
+    };
+    let counts = Counts {
+        m: MAX_INSTANCES,
+        tau: MAX_INSTANCES - 1,
+        n: MAX_PARTIES,
+    };
+    longest_proof(sizes, counts).unwrap()
+};
+
+/// The bytes of a root, of a master and of a leaf.
+pub const ROOT_LEN: usize = 16;
+
+/// The bytes of a SHA3-256 digest.
+pub const DIGEST_LEN: usize = 32;
+
+/// A shelf page has 1 to so many slots.
+pub const MAX_SLOTS: u16 = 255;
+
+/// So many draws a shelf counts; the next one is refused with 18.
+pub const MAX_DRAWS: u32 = u32::MAX;

@@ -1,0 +1,166 @@
+//! The limits are the library's: what is at a limit is accepted, what is beyond
+//! it is refused. And a proof has the length that is foretold.
+
+use wivulameno::circuit::{read, sizes, Sizes};
+use wivulameno::limits::*;
+use wivulameno::proof::{check, longest_proof, proof_len, prove, Counts, Statement};
+use wivulameno::seeds::{challenge, expand};
+use wivulameno::{shelf, Refusal};
+
+/// A circuit whose gates are INV, one after the other from wire 0; all outputs
+/// are wire 0.
+fn circuit(inputs: u32, outputs: u32, gates: u32) -> Vec<u8> {
+    let mut words = vec![inputs, outputs, gates, gates.min(1)];
+    words.extend(vec![0; outputs as usize]);
+    for slot in 1..=gates {
+        let read = if slot == 1 { 0 } else { inputs + slot - 2 };
+        words.extend([3, read, 0, (slot + 1) % (gates + 1)]);
+    }
+    let bytes = words.iter().map(|&word| (word as u16).to_le_bytes());
+    bytes.flatten().collect()
+}
+
+#[test]
+fn of_circuits() {
+    let largest = circuit(MAX_INPUTS, MAX_OUTPUTS, MAX_GATES);
+    assert_eq!(largest.len(), MAX_CIRCUIT);
+    let expected = Sizes {
+        inputs: MAX_INPUTS,
+        outputs: MAX_OUTPUTS,
+        gates: MAX_GATES,
+        ands: 0,
+    };
+    assert_eq!(sizes(&largest), Ok(expected));
+    assert_eq!((expected.witness_len(), expected.y_len()), (64, 32));
+    let beyond = [
+        circuit(MAX_INPUTS + 1, 1, 0),
+        circuit(1, MAX_OUTPUTS + 1, 0),
+        circuit(1, 1, MAX_GATES + 1),
+        circuit(0, 1, 1),
+        circuit(1, 0, 1),
+    ];
+    for circuit in beyond {
+        assert_eq!(read(&circuit), Err(Refusal::CircuitSizes));
+        assert_eq!(sizes(&circuit), Err(Refusal::CircuitSizes));
+    }
+}
+
+#[test]
+fn of_trees() {
+    let master = [1; ROOT_LEN];
+    let expand = |j, n: u32| expand(j, n, &master, &mut vec![0; n as usize * ROOT_LEN]);
+    assert_eq!(expand(MAX_INSTANCE_NUMBER, MAX_PARTIES), Ok(()));
+    assert_eq!(expand(MAX_INSTANCE_NUMBER + 1, 2), Err(Refusal::Counts));
+    assert_eq!(expand(0, 2 * MAX_PARTIES), Err(Refusal::Counts));
+}
+
+/// `Counts::are_legal` says what the library says.
+#[test]
+fn of_counts() {
+    let ms = [0, 1, 2, 3, 511, MAX_INSTANCES, MAX_INSTANCES + 1, u32::MAX];
+    let taus = [0, 1, 2, 510, 511, 512, 513, u32::MAX];
+    let ns = [0, 1, 2, 3, 4, 6, 8, 15, 16, 17, 32, 1 << 31, u32::MAX];
+    for m in ms {
+        for tau in taus {
+            for n in ns {
+                let mut out = vec![0; 3 * tau.min(600) as usize];
+                let answer = challenge(m, tau, n, &[7; DIGEST_LEN], b"", &mut out);
+                let legal = Counts { m, tau, n }.are_legal();
+                assert_eq!(answer != Err(Refusal::Counts), legal, "{m} {tau} {n}");
+            }
+        }
+    }
+}
+
+#[test]
+fn of_pages() {
+    let page = |slots: u16, draws: u32| {
+        let mut words = vec![slots, 0, 1, 0, draws as u16, (draws >> 16) as u16];
+        for slot in 1..=slots {
+            words.push((slot + 1) % (slots + 1));
+            words.extend([0; ROOT_LEN / 2]);
+        }
+        let bytes = words.iter().flat_map(|word| word.to_le_bytes());
+        bytes.collect::<Vec<u8>>()
+    };
+    let mut full = page(MAX_SLOTS, MAX_DRAWS);
+    assert_eq!(Some(full.len()), shelf::page_len(MAX_SLOTS));
+    for _ in 0..MAX_SLOTS {
+        assert_eq!(shelf::stock(&mut full, &[1; ROOT_LEN]), Ok(()));
+    }
+    assert_eq!(shelf::stock(&mut full, &[1; ROOT_LEN]), Err(Refusal::Full));
+    let count = u64::from(MAX_DRAWS);
+    assert_eq!(shelf::draw(&mut full, count), Err(Refusal::Spent));
+    for slots in [0, MAX_SLOTS + 1] {
+        let answer = shelf::stock(&mut page(slots, 0), &[1; ROOT_LEN]);
+        assert_eq!(answer, Err(Refusal::Unsound));
+    }
+    let answer = shelf::stock(&mut page(1, 0), &[1; ROOT_LEN + 1]);
+    assert_eq!(answer, Err(Refusal::Length));
+}
+
+/// Circuit K of the paper, with its one AND gate.
+const K: [u8; 18] = [2, 0, 1, 0, 1, 0, 1, 0, 2, 0, 2, 0, 0, 0, 1, 0, 0, 0];
+
+fn k(message: &[u8]) -> Statement<'_> {
+    Statement {
+        circuit: &K,
+        y: &[1],
+        message,
+    }
+}
+
+#[test]
+fn of_messages() {
+    let counts = Counts { m: 4, tau: 1, n: 2 };
+    let prove = |message: &[u8]| prove(k(message), &[3], &[1; ROOT_LEN], counts, &mut [0; 233]);
+    assert!(prove(&[7; MAX_MESSAGE]).is_ok());
+    assert_eq!(prove(&[7; MAX_MESSAGE + 1]), Err(Refusal::Length));
+}
+
+/// How many chosen instances of a proof hide the last party.
+fn hiding_last(proof: &[u8], Counts { m, tau, n }: Counts, message: &[u8]) -> u32 {
+    let mut chosen = vec![0; 3 * tau as usize];
+    let hstar = &proof[PROOF_HEADER_LEN - DIGEST_LEN..PROOF_HEADER_LEN];
+    challenge(m, tau, n, hstar, message, &mut chosen).expect("no refusal");
+    let is_last = |instance: &&[u8]| u32::from(instance[2]) == n - 1;
+    chosen.chunks(3).filter(is_last).count() as u32
+}
+
+#[test]
+fn lengths_of_proofs() {
+    let sizes = sizes(&K).expect("a circuit");
+    for (m, tau, n) in [(4, 1, 2), (9, 8, 4), (20, 7, 8), (12, 11, 16)] {
+        let counts = Counts { m, tau, n };
+        let longest = longest_proof(sizes, counts).expect("legal counts");
+        for seed in 0..8 {
+            let (root, message) = ([seed; ROOT_LEN], [seed]);
+            let mut proof = vec![0; longest];
+            let short = prove(k(&message), &[3], &root, counts, &mut proof[1..]);
+            assert_eq!(short, Err(Refusal::Length), "{counts:?}");
+            let len = prove(k(&message), &[3], &root, counts, &mut proof).expect("room");
+            proof.truncate(len);
+            assert_eq!(check(k(&message), &proof), Ok(()));
+            assert_eq!(Counts::of_proof(&proof), Some(counts));
+            let last = hiding_last(&proof, counts, &message);
+            assert_eq!(proof_len(sizes, counts, last), Some(len), "{counts:?}");
+        }
+    }
+}
+
+/// `Counts::of_proof` is `None` exactly where a check is refused with 11.
+#[test]
+fn headers_of_proofs() {
+    let fields = [0, 1, 2, 3, 4, 8, 16, 32, 255];
+    for m in [[0, 0], [2, 0], [0, 2], [1, 2], [255, 255]] {
+        for (tau, n) in fields.iter().flat_map(|&tau| fields.map(|n| (tau, n))) {
+            for (zero, len) in [(0, 38), (1, 38), (0, 37), (0, 6), (0, 5), (0, 0)] {
+                let mut proof = [5; 38];
+                proof[..6].copy_from_slice(&[m[0], m[1], tau, 0, n, zero]);
+                let proof = &proof[..len];
+                let refused = check(k(b""), proof) == Err(Refusal::ProofHeader);
+                assert_eq!(Counts::of_proof(proof).is_none(), refused, "{proof:?}");
+            }
+        }
+    }
+}
