@@ -45,7 +45,8 @@ def evaluate(file, row):
 
 
 def at_least(width, a, b):
-    """Is number a at least number b? a and b are the first wires of the two.
+    """Output 0: is number a at least number b? a and b are the first wires of the two. The bits of b follow as outputs,
+    so that what is claimed says which b: a row with a and b of its own choice would show nothing.
     The borrow of a - b goes from bit to bit: where the bits differ it becomes that of b, else it stays. So
     borrow' = (NOT a AND b) OR (borrow AND NOT (a XOR b)) = borrow XOR ((a XOR b) AND (b XOR borrow)): one AND for each bit."""
     gates = []
@@ -63,7 +64,8 @@ def at_least(width, a, b):
         else:
             borrow = gate(XOR, borrow, gate(AND, differ, gate(XOR, y, borrow)))
     answer = gate(INV, borrow)
-    return circuit(2 * width, [answer], gates, lambda i: i + 1)
+    told = [("in", b + j) for j in range(width)]
+    return circuit(2 * width, [answer, *told], gates, lambda i: i + 1)
 
 
 def worst():
@@ -83,24 +85,32 @@ def numbers(width):
     return [0, 1, 2, 3, 7, 8, 255, 256, 1000, top // 2, top // 2 + 1, top - 1, top]
 
 
+def bits(width, number):
+    return [number >> j & 1 for j in range(width)]
+
+
+def check_pairs(file, width, a_first):
+    """Evaluates the circuit on pairs of numbers at the edges, a or b in the low bits of the row."""
+    for a in numbers(width):
+        for b in numbers(width):
+            row = pair(width, a, b) if a_first else pair(width, b, a)
+            assert evaluate(file, row) == [int(a >= b), *bits(width, b)]
+
+
 def main(folder):
     ones = bytes([255] * 64)
     table = {
         # name: the circuit, a row that it accepts, a row that it does not
-        "stock16": (at_least(16, 0, 16), pair(16, 1000, 250), pair(16, 250, 1000)),
-        "stock32": (at_least(32, 0, 32), pair(32, 3_000_000_000, 2_999_999_999), pair(32, 2_999_999_999, 3_000_000_000)),
-        "date": (at_least(16, 16, 0), pair(16, 20_000, 20_045), pair(16, 20_045, 20_000)),
+        "covers16": (at_least(16, 0, 16), pair(16, 1000, 250), pair(16, 250, 1000)),
+        "covers32": (at_least(32, 0, 32), pair(32, 3_000_000_000, 2_999_999_999), pair(32, 2_999_999_999, 3_000_000_000)),
+        "fresh": (at_least(16, 16, 0), pair(16, 20_000, 20_045), pair(16, 20_045, 20_000)),
         "worst": (worst(), ones, ones[:-1] + b"\x7f"),
     }
-    for width, name in (16, "stock16"), (32, "stock32"):
-        for a in numbers(width):
-            for b in numbers(width):
-                assert evaluate(table[name][0], pair(width, a, b)) == [int(a >= b)]
-    for today in numbers(16):
-        for day in numbers(16):
-            assert evaluate(table["date"][0], pair(16, today, day)) == [int(day >= today)]
+    check_pairs(table["covers16"][0], 16, True)
+    check_pairs(table["covers32"][0], 32, True)
+    check_pairs(table["fresh"][0], 16, False)
     for name, (file, row, failing) in table.items():
-        assert evaluate(file, row) == [1] and evaluate(file, failing) == [0]
+        assert evaluate(file, row)[0] == 1 and evaluate(file, failing)[0] == 0
         (folder / f"{name}.circuit").write_bytes(file)
         (folder / f"{name}.row").write_bytes(row)
 

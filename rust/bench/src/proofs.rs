@@ -77,24 +77,10 @@ impl Example {
     }
 }
 
-/// log2 of the number of ways to choose k of n.
-fn ways(n: u32, k: u32) -> f64 {
-    let factor = |i| f64::from(n - i).log2() - f64::from(i + 1).log2();
-    (0..k).map(factor).sum()
-}
-
-/// The bits of soundness (section 2.2 of the paper): a prover that cheats in the
-/// preprocessing of m - k instances has to see them chosen, and to guess the
-/// hidden party of the other chosen ones.
+/// The bits of soundness, rounded so that equal errors are equal numbers.
 fn soundness(m: u32, tau: u32, n: u32) -> f64 {
-    let guessed = 0..=tau;
-    let bits = guessed.map(|k| {
-        let chosen = ways(m, tau) - ways(m - tau + k, k);
-        chosen + f64::from(k) * f64::from(n).log2()
-    });
-    let least = bits.fold(f64::MAX, f64::min);
-    // So that equal errors are equal numbers.
-    (least * 1e6).round() / 1e6
+    let bits = wivulameno::proof::Counts { m, tau, n }.soundness_bits();
+    (bits.expect("legal counts") * 1e6).round() / 1e6
 }
 
 /// The least tau that is sound enough, or the least of the soundest if none is.
@@ -212,7 +198,11 @@ fn print_table(examples: &[Example], rounds: usize, openssl: Option<&OpenSsl>) {
 
 /// The examples, then the worst circuit in fewer rounds.
 pub fn print(openssl: Option<&OpenSsl>) {
-    let small = [example!("stock16"), example!("stock32"), example!("date")];
+    let small = [
+        example!("covers16"),
+        example!("covers32"),
+        example!("fresh"),
+    ];
     print_table(&small.map(Example::of), 15, openssl);
     print_table(&[Example::worst()], 6, openssl);
 }

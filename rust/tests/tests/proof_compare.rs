@@ -211,14 +211,15 @@ fn the_largest() {
 #[test]
 fn an_example() {
     let mut random = Random::new(79);
-    let circuit = include_bytes!("../../../examples/stock32.circuit");
-    let witness = include_bytes!("../../../examples/stock32.row");
+    let circuit = include_bytes!("../../../examples/covers32.circuit");
+    let witness = include_bytes!("../../../examples/covers32.row");
     let sizes = reference::circuit::read(circuit).expect("a legal circuit");
     let counts = [128, 32, 8];
     let call = Prove {
         circuit: circuit.to_vec(),
         witness: witness.to_vec(),
-        y: vec![1],
+        // Covered, and the order of 2,999,999,999.
+        y: vec![0xff, 0xbb, 0xa0, 0x65, 0x01],
         message: b"order 17".to_vec(),
         root: random.bytes(16),
         counts,

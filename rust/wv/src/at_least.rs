@@ -74,20 +74,49 @@ mod tests {
         let examples: [(u16, &[u8], &[u8]); 2] = [
             (
                 16,
-                include_bytes!("../../../examples/stock16.circuit"),
-                include_bytes!("../../../examples/stock16.row"),
+                include_bytes!("../../../examples/covers16.circuit"),
+                include_bytes!("../../../examples/covers16.row"),
             ),
             (
                 32,
-                include_bytes!("../../../examples/stock32.circuit"),
-                include_bytes!("../../../examples/stock32.row"),
+                include_bytes!("../../../examples/covers32.circuit"),
+                include_bytes!("../../../examples/covers32.row"),
             ),
         ];
         let rows = [row(16, 1000, 250), row(32, 3_000_000_000, 2_999_999_999)];
         for ((width, circuit, example), row) in examples.into_iter().zip(rows) {
-            assert_eq!(at_least(width, false), circuit);
+            assert_eq!(at_least(width, true), circuit);
             assert_eq!(row, example);
         }
+    }
+
+    /// The example `fresh` has the number that it tells, today, in front.
+    #[test]
+    fn the_row_is_fresh() {
+        let circuit = include_bytes!("../../../examples/fresh.circuit");
+        assert_eq!(
+            include_bytes!("../../../examples/fresh.row")[..],
+            row(16, 20_000, 20_045)
+        );
+        for (today, date) in [(20_000, 20_045), (20_000, 20_000), (20_001, 20_000)] {
+            let mut y = [0; 3];
+            let answer = wivulameno::circuit::evaluate(circuit, &row(16, today, date), &mut y);
+            assert_eq!(answer, Ok(()));
+            assert_eq!(y[..] == covered(16, today), date >= today, "{today} {date}");
+        }
+    }
+
+    /// Without its bits among the outputs, anybody could fill in an order.
+    #[test]
+    fn without_telling_there_is_one_output() {
+        let sizes = wivulameno::circuit::read(&at_least(16, false));
+        assert_eq!(sizes, Ok([32, 1, 63, 16]));
+    }
+
+    /// By hand: 1 and then 250 in 16 bits, lowest first, is 501 in 17 bits.
+    #[test]
+    fn an_order_of_250() {
+        assert_eq!(covered(16, 250), [0xf5, 0x01, 0x00]);
     }
 
     #[test]
