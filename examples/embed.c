@@ -30,7 +30,7 @@ static uint8_t witness[INPUTS / 8];
 static uint8_t y[(OUTPUTS + 7) / 8];
 static uint8_t page[PAGE_LEN];
 static uint8_t old_page[PAGE_LEN];
-static uint8_t root[16];
+static uint8_t root[WV_ROOT_LEN];
 
 static void must(const char *what, uint32_t answer, uint32_t expected)
 {
@@ -94,7 +94,8 @@ static void use_circuit(unsigned stock, unsigned order)
     uint32_t sizes[4];
 
     make_circuit();
-    must("read the circuit", wv_read(circuit, sizeof circuit, sizes), 0);
+    must("read the circuit", wv_read(circuit, sizeof circuit, sizes),
+         WV_ACCEPTED);
     printf("  I %lu, O %lu, G %lu, A %lu\n",
            (unsigned long)sizes[0], (unsigned long)sizes[1],
            (unsigned long)sizes[2], (unsigned long)sizes[3]);
@@ -102,11 +103,11 @@ static void use_circuit(unsigned stock, unsigned order)
     put_u16(witness + 2, order);
     must("evaluate the row",
          wv_evaluate(circuit, sizeof circuit, witness, sizeof witness,
-                     y, sizeof y), 0);
+                     y, sizeof y), WV_ACCEPTED);
     printf("  the stock covers the order: %d\n", y[0] & 1);
     must("evaluate a row of another length",
          wv_evaluate(circuit, sizeof circuit, witness, sizeof witness - 1,
-                     y, sizeof y), 6);
+                     y, sizeof y), WV_REFUSED_LENGTH);
 }
 
 /* A page without roots: all slots are on the spare chain, in order. */
@@ -115,6 +116,8 @@ static void new_page(uint32_t draws)
     uint8_t *place = page;
     unsigned slot;
 
+    if (wv_page_len(SLOTS) != sizeof page)
+        exit(1);
     memset(page, 0, sizeof page);
     place = put_u16(place, SLOTS);
     place = put_u16(place, 0);
@@ -138,7 +141,8 @@ static void stock_shelf(unsigned count)
     while (count-- > 0) {
         if (fread(root, 1, sizeof root, source) != sizeof root)
             exit(1);
-        must("stock a root", wv_stock(page, sizeof page, root, sizeof root), 0);
+        must("stock a root", wv_stock(page, sizeof page, root, sizeof root),
+             WV_ACCEPTED);
         memset(root, 0, sizeof root);
     }
     fclose(source);
@@ -155,7 +159,8 @@ static uint64_t log_count;
 static void draw_root(void)
 {
     memcpy(old_page, page, sizeof page);
-    must("draw a root", wv_draw(page, sizeof page, log_count, root), 0);
+    must("draw a root", wv_draw(page, sizeof page, log_count, root),
+         WV_ACCEPTED);
     log_count++;
     /* write the log, with a digest of the new page; wait for the disk */
     /* write the new page beside the old one, wait, rename it, wait */
@@ -165,29 +170,39 @@ static void draw_root(void)
 #define M 145
 #define TAU 66
 #define N 8
-/* A is WIDTH; log2 of N is 3. */
-#define PROOF_LEN (38 + 48 * (M - TAU) \
-                   + TAU * (16 * 3 + WIDTH / 8 + 32 + INPUTS / 8 \
-                            + (WIDTH + OUTPUTS + 7) / 8))
 
-static uint8_t proof[PROOF_LEN];
+static uint8_t proof[16 * 1024];
 static const uint8_t message[] = "order 4711";
+static const size_t message_len = sizeof message - 1;
+
+/*
+ * One root, one call of wv_prove: the root is dropped whatever the answer is.
+ * Two proofs from one root can show the row.
+ */
+static uint32_t prove(size_t proof_len, uint64_t *written)
+{
+    uint32_t answer;
+
+    draw_root();
+    answer = wv_prove(circuit, sizeof circuit, witness, sizeof witness,
+                      y, sizeof y, message, message_len, root, sizeof root,
+                      M, TAU, N, proof, proof_len, written);
+    memset(root, 0, sizeof root);
+    return answer;
+}
 
 static void prove_and_check(void)
 {
     uint64_t written = 0;
     uint8_t claimed[sizeof y];
-    const size_t message_len = sizeof message - 1;
+    const size_t proof_len = wv_proof_len(INPUTS, OUTPUTS, WIDTH, M, TAU, N);
 
-    must("prove with too short a buffer",
-         wv_prove(circuit, sizeof circuit, witness, sizeof witness,
-                  y, sizeof y, message, message_len, root, sizeof root,
-                  M, TAU, N, proof, sizeof proof - 1, &written), 6);
-    must("prove",
-         wv_prove(circuit, sizeof circuit, witness, sizeof witness,
-                  y, sizeof y, message, message_len, root, sizeof root,
-                  M, TAU, N, proof, sizeof proof, &written), 0);
-    memset(root, 0, sizeof root);
+    if (proof_len == 0 || proof_len > sizeof proof)
+        exit(1);
+    must("prove with too short a buffer", prove(proof_len - 1, &written),
+         WV_REFUSED_LENGTH);
+    /* A new root is drawn for this call, also after the refused one. */
+    must("prove", prove(proof_len, &written), WV_ACCEPTED);
     printf("  %lu bytes\n", (unsigned long)written);
 
     /* The buyer's end. It knows the order, and asks for these numbers. */
@@ -198,24 +213,28 @@ static void prove_and_check(void)
         exit(1);
     must("check",
          wv_check(circuit, sizeof circuit, claimed, sizeof claimed,
-                  message, message_len, proof, (size_t)written), 0);
+                  message, message_len, proof, (size_t)written),
+         WV_ACCEPTED);
     claimed[0] ^= 2;
     must("check for another order",
          wv_check(circuit, sizeof circuit, claimed, sizeof claimed,
-                  message, message_len, proof, (size_t)written), 10);
+                  message, message_len, proof, (size_t)written),
+         WV_REFUSED_OUTPUT);
     must("check a proof that is cut",
          wv_check(circuit, sizeof circuit, y, sizeof y,
-                  message, message_len, proof, (size_t)written - 1), 12);
+                  message, message_len, proof, (size_t)written - 1),
+         WV_REFUSED_PROOF_LENGTH);
 }
 
 /* The cache kept the page from before the draw, and puts it back. */
 static void incident(void)
 {
-    static const uint8_t untouched[16];
+    static const uint8_t untouched[WV_ROOT_LEN];
 
     memcpy(page, old_page, sizeof page);
     must("draw from the old page",
-         wv_draw(page, sizeof page, log_count, root), 15);
+         wv_draw(page, sizeof page, log_count, root),
+         WV_REFUSED_ANOTHER_COUNT);
     if (memcmp(page, old_page, sizeof page) != 0
         || memcmp(root, untouched, sizeof root) != 0) {
         printf("a refused call changed a lent byte\n");
@@ -227,8 +246,7 @@ int main(void)
 {
     use_circuit(1000, 250);
     new_page(0);
-    stock_shelf(2);
-    draw_root();
+    stock_shelf(3);
     prove_and_check();
     incident();
     return 0;

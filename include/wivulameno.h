@@ -1,13 +1,15 @@
 /*
- * wivulameno: functions over lent buffers, in the static library libwivulameno.a.
+ * wivulameno: functions over lent buffers, in the static library
+ * libwivulameno.a, for x86-64 Linux.
  *
- * Every function returns 0 for success, or the number of a refusal. A refused
- * call leaves every lent byte as it was.
+ * Every function returns 0 (WV_ACCEPTED) for success, or the number of a
+ * refusal. A refused call leaves every lent byte as it was.
  *
  * A lent buffer is a pointer and its length in bytes. The pointer is valid for
- * that length and is never NULL, not even for length 0. The lent buffers of one
- * call must not overlap. A const buffer is only read; of another buffer, no
- * byte outside of its length is read or written.
+ * that length and is never NULL, not even for length 0. A const buffer is only
+ * read; of another buffer, no byte outside of its length is read or written.
+ * In one call, a buffer that is written overlaps nothing else that is lent.
+ * Buffers that are only read may be the same or overlap.
  */
 #ifndef WIVULAMENO_H
 #define WIVULAMENO_H
@@ -19,11 +21,75 @@
 extern "C" {
 #endif
 
+#define WV_VERSION_MAJOR 0
+#define WV_VERSION_MINOR 1
+#define WV_VERSION_PATCH 0
+#define WV_VERSION "0.1.0"
+
+/* What a function returns. A number means the same in all of them. */
+enum wv_answer {
+    /* done; from wv_check: the proof is accepted */
+    WV_ACCEPTED = 0,
+    /* the circuit's length is not what its header asks for */
+    WV_REFUSED_CIRCUIT_LENGTH = 1,
+    /* more inputs, outputs or gates than allowed, or no input or no output */
+    WV_REFUSED_CIRCUIT_SIZES = 2,
+    /* a gate record has an unknown kind or a field that should be zero */
+    WV_REFUSED_GATE = 3,
+    /* the chain does not visit every gate exactly once and then end */
+    WV_REFUSED_CHAIN = 4,
+    /* a gate reads a wire not written by then, or an output is no wire */
+    WV_REFUSED_WIRE = 5,
+    /* an input or a buffer has not the length that is asked for */
+    WV_REFUSED_LENGTH = 6,
+    /* a bit that must be zero is not */
+    WV_REFUSED_UNUSED_BITS = 7,
+    /* the number of instances, of chosen ones or of parties is not allowed */
+    WV_REFUSED_COUNTS = 8,
+    /* there is no such party, or the cut is behind the last gate */
+    WV_REFUSED_PARTY = 9,
+    /* the output is not the claimed one */
+    WV_REFUSED_OUTPUT = 10,
+    /* the proof does not begin with a proof's header */
+    WV_REFUSED_PROOF_HEADER = 11,
+    /* the proof's length is not what its challenge asks for */
+    WV_REFUSED_PROOF_LENGTH = 12,
+    /* the proof does not fit its own digest */
+    WV_REFUSED_PROOF_DIGEST = 13,
+    /* the shelf page is damaged */
+    WV_REFUSED_UNSOUND = 14,
+    /* the shelf page is not the present one: its draws are not the count */
+    WV_REFUSED_ANOTHER_COUNT = 15,
+    /* the shelf has no root ready */
+    WV_REFUSED_EMPTY = 16,
+    /* the shelf has no room for another root */
+    WV_REFUSED_FULL = 17,
+    /* the shelf has counted as many draws as it can */
+    WV_REFUSED_SPENT = 18
+};
+
+/* The limits. Those of circuit, message and proof, and each _LEN, are bytes. */
+#define WV_MAX_INPUTS 512        /* a circuit has 1 to 512 inputs, */
+#define WV_MAX_OUTPUTS 256       /* 1 to 256 outputs */
+#define WV_MAX_GATES 4096        /* and 0 to 4096 gates */
+#define WV_MAX_CIRCUIT 33288     /* the longest circuit */
+#define WV_MAX_PARTIES 16        /* there are 2, 4, 8 or 16 parties */
+#define WV_MAX_INSTANCES 512     /* a proof has 2 to 512 instances */
+#define WV_MAX_INSTANCE_NUMBER 65535
+#define WV_MAX_MESSAGE 4096      /* the longest message */
+#define WV_PROOF_HEADER_LEN 38
+#define WV_MAX_PROOF 621462      /* the longest proof; see wv_proof_len */
+#define WV_ROOT_LEN 16           /* also of a master and of a leaf */
+#define WV_DIGEST_LEN 32
+#define WV_MAX_SLOTS 255         /* a shelf page has 1 to 255 slots */
+#define WV_MAX_DRAWS 4294967295u /* a shelf counts so many draws */
+
 /*
  * Writes the SHA3-256 digest (FIPS 202) of the data to digest, 32 bytes.
  * Refuses nothing.
  */
-uint32_t wv_sha3_256(const uint8_t *data, size_t len, uint8_t digest[32]);
+uint32_t wv_sha3_256(const uint8_t *data, size_t len,
+                     uint8_t digest[WV_DIGEST_LEN]);
 
 /*
  * Fills out with SHAKE128 (FIPS 202) of the data. Any two lengths are good, 0
@@ -201,21 +267,27 @@ uint32_t wv_replay(const uint8_t *circuit, size_t circuit_len,
  * that a backup can keep and that no log has counted, and it can hold a root
  * that is drawn later from another page.
  *
- * After a crash, compare the log's count with the draws of the page:
+ * After a crash, and when a draw is refused with 15, compare the draws of the
+ * page with the log's count:
  *
- *   - They are equal: this is the present page.
+ *   - They are equal: this is the present page, or one from before a stocking,
+ *     which lacks the roots that were stocked since.
  *   - The page is one draw behind, and the log does not say that the last page
  *     got in place: call wv_draw on a copy, with the count less 1. If the page
  *     that it leaves has the digest in the log, it is the present page: put it
  *     in place, and drop the root.
- *   - Else the page is behind the log: an old copy was put back. It still holds
- *     roots that may have been used, and every draw on it is refused with 15.
- *     Put the page of the present count there, from wherever it was kept. If
- *     there is none, start a new page without roots, its draws set to the log's
- *     count, and stock new roots.
- *   - The page is ahead of the log: the log was set back, or a page got on disk
- *     before it was counted. Then no page can be trusted: delete them all, and
- *     start a new page and a new log.
+ *   - Else, with fewer draws than the count, the page is behind. The page is
+ *     old: a copy was put back. It still holds roots that may have been used,
+ *     and every draw on it is refused with 15. The log is right. Put the
+ *     present page back, from wherever it was kept. If there is none, begin a
+ *     new page without roots, its draws set to the log's count, and stock new
+ *     roots.
+ *   - With more draws than the count, the page is ahead. With the order above
+ *     no crash and no old page puts a page ahead, only a log that was set back.
+ *     Then no page can be trusted: the count, as it grows again, can agree with
+ *     a page whose roots have been used. Write into the log, for good, that it
+ *     was set back, so that no page put back later is drawn from. Delete the
+ *     pages, and begin a new shelf: a new page, a new log, new roots.
  *
  * Never change the draws of a page, and never count the log down, to make the
  * two agree. Never put the counting off until the host's own work commits. This
@@ -223,10 +295,21 @@ uint32_t wv_replay(const uint8_t *circuit, size_t circuit_len,
  *
  * wv_stock takes no count and cannot see an old page: a root stocked on one is
  * lost when the present page is put back. Save the page as in step 3 after a
- * stocking too. Each stocking counts as its own, so the same root
- * stocked twice can be drawn twice: stock each root once, keep no copy, and
- * after a crash take a new root rather than one that may be on the page.
+ * stocking too. Each stocking counts as its own, so the same root stocked twice
+ * can be drawn twice: stock each root once, keep no copy, and after a crash
+ * take a new root rather than one that may be on the page.
+ *
+ * A page holds 255 roots at most. Stock new ones before it is empty: a prove
+ * takes one each time.
  */
+
+/* The length of a page of so many slots; 0 if it is not 1 to 255. */
+static inline size_t wv_page_len(uint32_t slots)
+{
+    if (slots < 1 || slots > WV_MAX_SLOTS)
+        return 0;
+    return 12 + 18 * (size_t)slots;
+}
 
 /*
  * Writes the root to the first spare slot of the page and moves that slot to
@@ -251,7 +334,7 @@ uint32_t wv_stock(uint8_t *page, size_t page_len,
  *       start a new page with a new log
  */
 uint32_t wv_draw(uint8_t *page, size_t page_len, uint64_t count,
-                 uint8_t root[16]);
+                 uint8_t root[WV_ROOT_LEN]);
 
 /*
  * A tree of seeds has n leaves, one for each party; n is 2, 4, 8 or 16. The
@@ -318,15 +401,36 @@ uint32_t wv_challenge(uint32_t m, uint32_t tau, uint32_t n,
  */
 
 /*
+ * The most bytes that a proof can have, as above: the room that wv_prove asks
+ * for. 0 if a number is out of its limits.
+ */
+static inline size_t wv_proof_len(uint32_t inputs, uint32_t outputs,
+                                  uint32_t ands,
+                                  uint32_t m, uint32_t tau, uint32_t n)
+{
+    size_t levels, chosen;
+
+    if (inputs < 1 || inputs > WV_MAX_INPUTS
+        || outputs < 1 || outputs > WV_MAX_OUTPUTS || ands > WV_MAX_GATES
+        || m < 2 || m > WV_MAX_INSTANCES || tau < 1 || tau >= m
+        || (n != 2 && n != 4 && n != 8 && n != WV_MAX_PARTIES))
+        return 0;
+    levels = n == 2 ? 1 : n == 4 ? 2 : n == 8 ? 3 : 4;
+    chosen = 16 * levels + (ands + 7) / 8 + 32 + (inputs + 7) / 8
+             + (ands + outputs + 7) / 8;
+    return WV_PROOF_HEADER_LEN + 48 * (size_t)(m - tau) + tau * chosen;
+}
+
+/*
  * Proves that the circuit gives y for the witness. The root is 16 random bytes,
- * drawn from a shelf and used for this one proof: two proofs from one root can
- * show the witness. Writes the proof to the start of proof, and its length to
- * written; the bytes of proof beyond that length stay as they were. Refuses
- * with 1 to 5, then:
+ * drawn from a shelf: a new root for each call, also after a refused one. Two
+ * proofs from one root can show the witness. Writes the proof to the start of
+ * proof, and its length to written; the bytes of proof beyond that length stay
+ * as they were. Refuses with 1 to 5, then:
  *    8  m is not 2 to 512, tau is not 1 to m - 1, or n is not 2, 4, 8 or 16
  *    6  the witness is not of I bits or y not of O bits, the message is longer
  *       than 4096 bytes, the root is not of 16 bytes, or proof has fewer bytes
- *       than a proof can have (see above)
+ *       than a proof can have (wv_proof_len)
  *    7  an unused bit of the witness or of y is not zero
  *   10  the circuit does not give y for the witness
  */
@@ -340,8 +444,9 @@ uint32_t wv_prove(const uint8_t *circuit, size_t circuit_len,
 
 /*
  * Checks a proof for the circuit, y and the message; 0 is accepted. The numbers
- * m, tau and n are those that the proof's first bytes say: a caller who asks
- * for certain ones compares these bytes. Refuses with 1 to 5, then:
+ * m, tau and n are those that the proof's first bytes say, and any within the
+ * limits are accepted: a caller who asks for certain ones compares these bytes.
+ * With m 2 and tau 1, every second guess passes. Refuses with 1 to 5, then:
  *    6  y is not of O bits, or the message is longer than 4096 bytes
  *    7  an unused bit of y is not zero
  *   11  the proof is shorter than 38 bytes, its m, tau or n is out of the

@@ -21,12 +21,11 @@
 #include "wivulameno.h"
 
 #define OCT(bits) (((size_t)(bits) + 7) / 8)
-#define CIRCUIT_MOST 33288
-#define TAPE_ROW_MOST OCT(512 + 2 * 4096)
-#define ROW_MOST OCT(4096 + 256)
-#define PARTIES_MOST 16
+#define TAPE_ROW_MOST OCT(WV_MAX_INPUTS + 2 * WV_MAX_GATES)
+#define ROW_MOST OCT(WV_MAX_GATES + WV_MAX_OUTPUTS)
+#define PARTIES_MOST WV_MAX_PARTIES
 
-static uint8_t circuit[CIRCUIT_MOST];
+static uint8_t circuit[WV_MAX_CIRCUIT];
 static uint8_t witness[64];
 static uint8_t y[32];
 static uint8_t tapes[PARTIES_MOST * TAPE_ROW_MOST];
@@ -286,8 +285,9 @@ static uint32_t prove(uint32_t n, const uint8_t *root)
 /*
  * Twice without secrets, to have h* and then to find its permutation; then with
  * witness and root hidden. What is left is refusal 10: the witness's output is
- * compared with y. That is a jump or two, and the same number for every circuit
- * of one output and for every n, so none for a gate, a party or an instance.
+ * compared with y. That is a jump or two, and the same number for every circuit,
+ * of one output or of 17, and for every n: none for an output, a gate, a party
+ * or an instance.
  */
 #define JUMPS_MOST 2
 static unsigned declared_jumps;

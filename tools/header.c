@@ -1,0 +1,121 @@
+/*
+ * The header's own functions and constants, in C99 and in C++: compared with
+ * numbers that were worked out by hand, and with what the library answers.
+ */
+#include <stdio.h>
+#include <string.h>
+
+#include "wivulameno.h"
+
+static int failures;
+
+static void equal(const char *what, size_t found, size_t expected)
+{
+    if (found == expected)
+        return;
+    printf("FAIL %s: %lu, expected %lu\n", what, (unsigned long)found,
+           (unsigned long)expected);
+    failures++;
+}
+
+/* The paper's m10; then a table of the README; then the ends of the limits. */
+static void proof_lengths(void)
+{
+    equal("K", wv_proof_len(2, 1, 1, 4, 1, 2), 233);
+    equal("covers16, n 2", wv_proof_len(32, 17, 16, 69, 44, 2), 3834);
+    equal("covers16, n 4", wv_proof_len(32, 17, 16, 163, 80, 4), 10022);
+    equal("covers16, n 8", wv_proof_len(32, 17, 16, 145, 66, 8), 9836);
+    equal("covers16, n 16", wv_proof_len(32, 17, 16, 142, 56, 16), 10158);
+    equal("worst", wv_proof_len(512, 1, 4096, 220, 141, 2), 164147);
+    equal("the shortest", wv_proof_len(1, 1, 0, 2, 1, 2), 136);
+    equal("the longest",
+          wv_proof_len(WV_MAX_INPUTS, WV_MAX_OUTPUTS, WV_MAX_GATES,
+                       WV_MAX_INSTANCES, WV_MAX_INSTANCES - 1, WV_MAX_PARTIES),
+          WV_MAX_PROOF);
+}
+
+static void numbers_out_of_limits(void)
+{
+    equal("no input", wv_proof_len(0, 1, 1, 4, 1, 2), 0);
+    equal("inputs", wv_proof_len(WV_MAX_INPUTS + 1, 1, 1, 4, 1, 2), 0);
+    equal("no output", wv_proof_len(2, 0, 1, 4, 1, 2), 0);
+    equal("outputs", wv_proof_len(2, WV_MAX_OUTPUTS + 1, 1, 4, 1, 2), 0);
+    equal("gates", wv_proof_len(2, 1, WV_MAX_GATES + 1, 4, 1, 2), 0);
+    equal("all gates", wv_proof_len(2, 1, UINT32_MAX, 4, 1, 2), 0);
+    equal("one instance", wv_proof_len(2, 1, 1, 1, 1, 2), 0);
+    equal("instances", wv_proof_len(2, 1, 1, WV_MAX_INSTANCES + 1, 1, 2), 0);
+    equal("none chosen", wv_proof_len(2, 1, 1, 4, 0, 2), 0);
+    equal("all chosen", wv_proof_len(2, 1, 1, 4, 4, 2), 0);
+    equal("one party", wv_proof_len(2, 1, 1, 4, 1, 1), 0);
+    equal("three parties", wv_proof_len(2, 1, 1, 4, 1, 3), 0);
+    equal("32 parties", wv_proof_len(2, 1, 1, 4, 1, 32), 0);
+}
+
+static void page_lengths(void)
+{
+    equal("one slot", wv_page_len(1), 30);
+    equal("four slots", wv_page_len(4), 84);
+    equal("all slots", wv_page_len(WV_MAX_SLOTS), 4602);
+    equal("no slot", wv_page_len(0), 0);
+    equal("slots", wv_page_len(WV_MAX_SLOTS + 1), 0);
+}
+
+/* Circuit K of document 01: its one output is the AND of its two inputs. */
+static const uint8_t k[18] = {
+    2, 0, 1, 0, 1, 0, 1, 0, 2, 0, 2, 0, 0, 0, 1, 0, 0, 0
+};
+
+/* The room that wv_prove asks for is what wv_proof_len says, and no less. */
+static void prove_in(size_t proof_len, uint32_t expected)
+{
+    static uint8_t proof[233];
+    static const uint8_t root[WV_ROOT_LEN] = {1};
+    const uint8_t witness = 3, y = 1, message = 'a';
+    uint64_t written = 0;
+    uint32_t answer = wv_prove(k, sizeof k, &witness, 1, &y, 1, &message, 1,
+                               root, sizeof root, 4, 1, 2,
+                               proof, proof_len, &written);
+
+    equal("prove", answer, expected);
+    if (answer == WV_ACCEPTED)
+        equal("check", wv_check(k, sizeof k, &y, 1, &message, 1,
+                                proof, (size_t)written), WV_ACCEPTED);
+}
+
+/* Buffers that are only read may overlap: k[2] is 1, which is y here. */
+static void read_buffers_overlap(void)
+{
+    static uint8_t proof[233];
+    static const uint8_t root[WV_ROOT_LEN] = {2};
+    const uint8_t witness = 3;
+    uint64_t written = 0;
+
+    equal("prove from one buffer",
+          wv_prove(k, sizeof k, &witness, 1, k + 2, 1, k, sizeof k,
+                   root, sizeof root, 4, 1, 2, proof, sizeof proof, &written),
+          WV_ACCEPTED);
+    equal("check from one buffer",
+          wv_check(k, sizeof k, k + 2, 1, k, sizeof k, proof, (size_t)written),
+          WV_ACCEPTED);
+}
+
+int main(void)
+{
+    char version[40];
+    uint32_t sizes[4];
+
+    sprintf(version, "%d.%d.%d", WV_VERSION_MAJOR, WV_VERSION_MINOR,
+            WV_VERSION_PATCH);
+    equal("the version", (size_t)strcmp(version, WV_VERSION), 0);
+    proof_lengths();
+    numbers_out_of_limits();
+    page_lengths();
+    equal("the longest circuit",
+          8 + 2 * WV_MAX_OUTPUTS + 8 * WV_MAX_GATES, WV_MAX_CIRCUIT);
+    equal("read", wv_read(k, sizeof k, sizes), WV_ACCEPTED);
+    equal("read a part", wv_read(k, 7, sizes), WV_REFUSED_CIRCUIT_LENGTH);
+    prove_in(wv_proof_len(2, 1, 1, 4, 1, 2), WV_ACCEPTED);
+    prove_in(wv_proof_len(2, 1, 1, 4, 1, 2) - 1, WV_REFUSED_LENGTH);
+    read_buffers_overlap();
+    return failures == 0 ? 0 : 1;
+}
