@@ -6,6 +6,7 @@
 
 cargo_run = cargo run --release --manifest-path rust/Cargo.toml --target-dir target/rust --offline --locked --quiet
 costs = docs/proof-cost
+below = $(shell sed -n 's/^wivulameno://p' crates.txt)
 
 run: lib
 	@$(cargo_run) --package wv --bin depot -- target/run
@@ -13,10 +14,12 @@ run: lib
 test:
 	@tools/gate
 
+# rt check proves crates that do not stand on each other side by side, rt staticlib one after the other: so the crates
+# below the library come first.
 lib:
 	@mkdir -p target
 	@echo "The library is proved, then built: some minutes the first time."
-	@rt staticlib wivulameno >target/lib.out 2>&1 || { cat target/lib.out; exit 1; }
+	@{ rt check $(below) && rt staticlib wivulameno; } >target/lib.out 2>&1 || { cat target/lib.out; exit 1; }
 
 bench: lib
 	$(cargo_run) --package bench
