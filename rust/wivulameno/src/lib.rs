@@ -50,7 +50,8 @@
 //! A refused call leaves every lent byte as it was.
 //!
 //! The library is built for x86-64 Linux. [`store::Disk`] relies on Unix to keep a
-//! page from other users' eyes and to wait until a file's name is on disk.
+//! page from other users' eyes, to wait until a file's name is on disk, and to
+//! see that two names are one file.
 #![warn(missing_docs, missing_debug_implementations)]
 
 mod ffi;
@@ -68,6 +69,11 @@ pub use refusal::Refusal;
 pub use store::{Log, Shelf};
 
 use limits::DIGEST_LEN;
+
+/// The README's program in Rust, as it stands there.
+#[cfg(doctest)]
+#[doc = include_str!("../../../README.md")]
+struct Readme;
 
 fn answer(status: u32) -> Result<(), Refusal> {
     match status {
