@@ -1,17 +1,8 @@
 //! What a proof costs: its size, its soundness, and times as they were measured.
 
-use crate::soundness;
 pub use wivulameno::circuit::Sizes;
-use wivulameno::proof::{self, longest_proof};
-
-/// M instances, τ of them chosen, n parties, within the limits: those of the
-/// library with what is shown of them.
-#[derive(Clone, Copy, Debug, PartialEq, Eq)]
-pub struct Counts {
-    pub m: u32,
-    pub tau: u32,
-    pub n: u32,
-}
+use wivulameno::proof::longest_proof;
+pub use wivulameno::proof::Counts;
 
 const fn counts(m: u32, tau: u32, n: u32) -> Counts {
     Counts { m, tau, n }
@@ -57,33 +48,16 @@ pub const FAMILIES: [Family; 3] = [
 /// What `wv prove` takes when nothing else is said.
 pub const USUAL: Counts = counts(145, 66, 8);
 
-impl Counts {
-    /// Soundness in bits.
-    pub fn bits(self) -> f64 {
-        soundness::bits(self.m, self.tau, self.n)
-    }
-
-    /// The bits with one digit after the point, rounded down.
-    pub fn bits_shown(self) -> String {
-        format!("{:.1}", (self.bits() * 10.0).floor() / 10.0)
-    }
-
-    /// The most bytes that a proof can have.
-    pub fn longest(self, sizes: Sizes) -> usize {
-        longest_proof(sizes, self.into()).expect("sizes and counts within the limits")
-    }
+/// Soundness in bits, with one digit after the point, rounded down. The counts
+/// must be legal.
+pub fn bits_shown(counts: Counts) -> String {
+    let bits = counts.soundness_bits().expect("legal counts");
+    format!("{:.1}", (bits * 10.0).floor() / 10.0)
 }
 
-impl From<Counts> for proof::Counts {
-    fn from(Counts { m, tau, n }: Counts) -> proof::Counts {
-        proof::Counts { m, tau, n }
-    }
-}
-
-impl From<proof::Counts> for Counts {
-    fn from(proof::Counts { m, tau, n }: proof::Counts) -> Counts {
-        Counts { m, tau, n }
-    }
+/// The most bytes that a proof can have. The counts must be legal.
+pub fn longest(sizes: Sizes, counts: Counts) -> usize {
+    longest_proof(sizes, counts).expect("legal sizes and counts")
 }
 
 /// A measured proof; times in milliseconds.
@@ -150,7 +124,7 @@ pub fn table(circuits: &[(&str, Sizes)], data: &[Measured]) -> String {
     text += &"---|---|---|".repeat(circuits.len());
     for counts in FAMILIES.iter().flat_map(|family| family.members) {
         let Counts { m, tau, n } = counts;
-        text += &format!("\n| {} | {m} | {tau} | {n} |", counts.bits_shown());
+        text += &format!("\n| {} | {m} | {tau} | {n} |", bits_shown(*counts));
         for (name, sizes) in circuits {
             text += &cells(name, *counts, *sizes, data);
         }
@@ -164,7 +138,7 @@ fn cells(name: &str, counts: Counts, sizes: Sizes, data: &[Measured]) -> String 
     let time = |time: Option<f64>| time.map_or("–".into(), |time| format!("{time:.1}"));
     format!(
         " {} | {} | {} |",
-        counts.longest(sizes),
+        longest(sizes, counts),
         time(found.map(|row| row.prove)),
         time(found.map(|row| row.check))
     )
@@ -173,6 +147,7 @@ fn cells(name: &str, counts: Counts, sizes: Sizes, data: &[Measured]) -> String 
 #[cfg(test)]
 mod tests {
     use super::*;
+    use crate::soundness;
 
     const COVERS: Sizes = Sizes {
         inputs: 32,
@@ -185,11 +160,12 @@ mod tests {
     fn families_reach_their_goals() {
         for family in &FAMILIES {
             for member in family.members {
-                assert!(member.bits() >= family.goal, "{member:?}");
-                assert!(member.bits() < family.goal + 1.0, "{member:?}");
+                let bits = member.soundness_bits().expect("legal counts");
+                assert!(bits >= family.goal, "{member:?}");
+                assert!(bits < family.goal + 1.0, "{member:?}");
             }
         }
-        assert!(USUAL.bits() >= 128.0);
+        assert!(USUAL.soundness_bits() >= Some(128.0));
     }
 
     /// No other M and τ of the same n reach the goal with a shorter proof.
@@ -199,9 +175,10 @@ mod tests {
             for member in family.members {
                 let shortest = (1..=150).filter_map(|tau| {
                     let m = soundness::least_m(family.goal, tau, member.n, 230)?;
-                    Some(counts(m, tau, member.n).longest(COVERS))
+                    Some(longest(COVERS, counts(m, tau, member.n)))
                 });
-                assert_eq!(shortest.min(), Some(member.longest(COVERS)), "{member:?}");
+                let expected = longest(COVERS, *member);
+                assert_eq!(shortest.min(), Some(expected), "{member:?}");
             }
         }
     }

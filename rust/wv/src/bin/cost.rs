@@ -73,8 +73,8 @@ mod measuring {
     use std::fs;
     use std::time::Instant;
     use wivulameno::circuit::evaluate;
-    use wivulameno::proof::{check, prove, Statement};
-    use wv::cost::{data_head, Counts, Measured, FAMILIES};
+    use wivulameno::proof::{check, prove, Counts, Statement};
+    use wv::cost::{data_head, longest, Measured, FAMILIES};
 
     const ROUNDS: usize = 20;
 
@@ -107,10 +107,10 @@ mod measuring {
             y: &y,
             message: b"order 4711",
         };
-        let mut proof = vec![0; counts.longest(sizes)];
+        let mut proof = vec![0; longest(sizes, counts)];
         let mut bytes = 0;
         let prove_time = best(|| {
-            let made = prove(statement, &witness, &[0x5a; 16], counts.into(), &mut proof);
+            let made = prove(statement, &witness, &[0x5a; 16], counts, &mut proof);
             bytes = made.expect("no refusal");
         });
         let check_time = best(|| check(statement, &proof[..bytes]).expect("accepted"));

@@ -135,8 +135,8 @@ mod proof {
     use std::path::Path;
     use std::time::Instant;
     use wivulameno::circuit::sizes;
-    use wivulameno::proof::{check, prove, Statement};
-    use wv::cost::{Counts, USUAL};
+    use wivulameno::proof::{check, prove, Counts, Statement};
+    use wv::cost::{bits_shown, longest, USUAL};
 
     const MESSAGE: &[u8] = b"order 4711 of 15 November";
 
@@ -148,15 +148,15 @@ mod proof {
         };
         let Counts { m, tau, n } = USUAL;
         println!("The proof, with M {m}, tau {tau}, n {n}.");
-        let mut proof = vec![0; USUAL.longest(sizes(&example.circuit)?)];
+        let mut proof = vec![0; longest(sizes(&example.circuit)?, USUAL)];
         let start = Instant::now();
-        let len = prove(statement, &example.witness, root, USUAL.into(), &mut proof)?;
+        let len = prove(statement, &example.witness, root, USUAL, &mut proof)?;
         println!("  made in {}", milliseconds(start));
         proof.truncate(len);
         let path = folder.join("order.proof");
         fs::write(&path, &proof)?;
         println!("  {}: {len} bytes", path.display());
-        println!("  soundness {} bits\n", USUAL.bits_shown());
+        println!("  soundness {} bits\n", bits_shown(USUAL));
         check_as_buyer(statement, &fs::read(path)?)
     }
 
