@@ -17,7 +17,7 @@ extern "C" {
 
 const CONTINUE: i32 = 18;
 const KILLED: i32 = 9;
-const BUSY: i32 = 2;
+const BUSY: i32 = 3;
 
 /// The library that sees the calls, built once.
 fn steps() -> &'static Path {
@@ -184,8 +184,6 @@ fn every_write_waits_for_the_disk() {
     let expected = [&opened[..], &log_line, &replaced, &log_end].concat();
     assert_eq!(folder.steps_of(STOCK), expected);
     let proved = folder.steps_of(&prove("proof"));
-    let start = proved.iter().position(|step| step == "write log");
-    let start = start.expect("a line of the log");
     let of_shelf: Vec<_> = proved.iter().filter(|step| is_of_shelf(step)).collect();
     let expected = [
         &opened[..2],
@@ -196,11 +194,13 @@ fn every_write_waits_for_the_disk() {
     ]
     .concat();
     assert_eq!(of_shelf, expected);
+    // The proof is written, and its file replaced, when the shelf is done.
     let last = proved.iter().rposition(|step| is_of_shelf(step));
-    let written = proved
-        .iter()
-        .position(|step| step.starts_with("write proof"));
-    assert!(written > last && last > Some(start), "{proved:?}");
+    let after = &proved[last.expect("a step") + 1..];
+    let words: Vec<_> = after.iter().map(|step| step.split(' ').next()).collect();
+    let expected = ["create", "write", "fsync", "rename", "fsync"];
+    assert_eq!(words, expected.map(Some), "{proved:?}");
+    assert!(after[3].ends_with(" proof"), "{proved:?}");
 }
 
 fn is_of_shelf(step: &str) -> bool {
