@@ -166,7 +166,7 @@ impl ShelfFiles {
                 "{}: another process has the shelf open: `--wait SECONDS` waits for it",
                 shown(&self.log)
             )),
-            Trouble::Missing(Name::Log) => Failure::File(format!(
+            Trouble::Missing(Name::Log) | Trouble::NotALog => Failure::File(format!(
                 "{}: name the log of this page; if it is lost, {BEGIN_AGAIN}",
                 self.told(&trouble)
             )),
