@@ -10,4 +10,5 @@ pub mod paged;
 pub mod pages;
 pub mod proofs;
 pub mod random;
+pub mod specs;
 pub mod vectors;

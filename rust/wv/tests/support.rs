@@ -293,7 +293,9 @@ fn a_shelf_that_is_open_elsewhere() {
     fs::rename(second, folder.path("page")).unwrap();
     assert_eq!(folder.files(), before);
     drop(shelf);
-    folder.wv(PROVE).says(&proved_line(&folder));
+    // A test beside this one can have a child that has not let go yet.
+    let ended = folder.wv(&format!("{PROVE} --wait 60"));
+    ended.says(&proved_line(&folder));
 }
 
 fn proved_line(folder: &Folder) -> String {
