@@ -24,6 +24,56 @@ use Rattle.instance.specs.Instance.{Asked, opened, hiding, onlineDigest, master
 use Rattle.instance.specs.Stretch.{correctionBytes, stretchBytes, sentMaster, sentOnline, siblingsPart, correctionsPart, commitmentPart, maskedPart, rowPart}
 use Rattle.honest.proofs.Places.{middle}
 
+-- five strings one after the other, of the lengths of a chosen instance's parts
+module _ (c : Circuit) (n p : ℕ) (siblings corrections committed masked row : List ℕ) (size-1 : length siblings ≡ 16 * heightOf n)
+    (size-2 : length corrections ≡ correctionBytes c n p) (size-3 : length committed ≡ 32) (size-4 : length masked ≡ oct (c .inputs)) where
+  abbrev five : List ℕ
+  five = siblings ++ corrections ++ committed ++ masked ++ row
+
+  -- in order
+  five-parts : five ≡ siblings ++ (corrections ++ (committed ++ (masked ++ row)))
+  five-parts = simp append-assoc
+
+  -- where the third, the fourth and the last begin
+  length-two : length (siblings ++ corrections) ≡ 16 * heightOf n + correctionBytes c n p
+  length-two = length-append siblings corrections ∙ omega (arith, size-1, size-2)
+
+  length-three : length ((siblings ++ corrections) ++ committed) ≡ 16 * heightOf n + correctionBytes c n p + 32
+  length-three = length-append (siblings ++ corrections) committed ∙ omega (arith, length-two, size-3)
+
+  length-four : length (((siblings ++ corrections) ++ committed) ++ masked) ≡ 16 * heightOf n + correctionBytes c n p + 32 + oct (c .inputs)
+  length-four = length-append ((siblings ++ corrections) ++ committed) masked ∙ omega (arith, length-three, size-4)
+
+  -- where the last one ends
+  pub length-five : length row ≡ oct (andsOf c + length (c .outputs)) → length five ≡ stretchBytes c n (hiding p)
+  unfolding stretchBytes
+  length-five size-5 = length-append (((siblings ++ corrections) ++ committed) ++ masked) row ∙ omega (arith, length-four, size-5)
+
+  -- each of them is read back
+  pub first-back : siblingsPart n five ≡ siblings
+  unfolding siblingsPart
+  first-back = rw five-parts (take-at siblings _ (16 * heightOf n) size-1)
+
+  pub second-back : correctionsPart c n p five ≡ corrections
+  unfolding correctionsPart
+  second-back = rw five-parts (middle siblings corrections _ (16 * heightOf n) (correctionBytes c n p) size-1 size-2)
+
+  pub third-back : commitmentPart c n p five ≡ committed
+  unfolding commitmentPart
+  third-back =
+      rw (five-parts, ← append-assoc siblings corrections)
+      (middle (siblings ++ corrections) committed _ (16 * heightOf n + correctionBytes c n p) 32 length-two size-3)
+
+  pub fourth-back : maskedPart c n p five ≡ masked
+  unfolding maskedPart
+  fourth-back =
+      rw (five-parts, ← append-assoc siblings corrections, ← append-assoc (siblings ++ corrections) committed)
+      (middle ((siblings ++ corrections) ++ committed) masked _ (16 * heightOf n + correctionBytes c n p + 32) (oct (c .inputs)) length-three size-4)
+
+  pub last-back : rowPart c n p five ≡ row
+  unfolding rowPart
+  last-back = drop-at (((siblings ++ corrections) ++ committed) ++ masked) row (16 * heightOf n + correctionBytes c n p + 32 + oct (c .inputs)) length-four
+
 -- instance j of the protocol by n parties, from a master
 module _ (c : Circuit) (n j : ℕ) (witness master : List ℕ) where
   -- a digest has 32 bytes
@@ -99,51 +149,37 @@ module _ (c : Circuit) (n j : ℕ) (witness master : List ℕ) where
     abbrev part : List ℕ
     part = stretchOf c n j witness master (hiding p)
 
-    -- the parts in order
-    parts : part ≡ siblings ++ (sent ++ (committed ++ (masked ++ row)))
-    unfolding stretchOf
-    parts = simp append-assoc
-
-    -- where the third, the fourth and the last part begin
-    length-two : length (siblings ++ sent) ≡ 16 * heightOf n + correctionBytes c n p
-    length-two = length-append siblings sent ∙ omega (arith, length-siblings j (heightOf n) 1 p master, length-sent p)
-
-    length-three : length ((siblings ++ sent) ++ committed) ≡ 16 * heightOf n + correctionBytes c n p + 32
-    length-three = length-append (siblings ++ sent) committed ∙ omega (arith, length-two, length-commitment p)
-
-    length-four : length (((siblings ++ sent) ++ committed) ++ masked) ≡ 16 * heightOf n + correctionBytes c n p + 32 + oct (c .inputs)
-    length-four = length-append ((siblings ++ sent) ++ committed) masked ∙ omega (arith, length-three, length-masked)
+    -- the lengths of the first four
+    length-siblings-sent : length siblings ≡ 16 * heightOf n
+    length-siblings-sent = length-siblings j (heightOf n) 1 p master
 
     -- where the last one ends
     length-chosen : length part ≡ stretchBytes c n (hiding p)
-    unfolding stretchOf stretchBytes
+    unfolding stretchOf
     length-chosen =
-        length-append (((siblings ++ sent) ++ committed) ++ masked) row
-        ∙ omega (arith, length-four, length-pack (rowBits (masterRun c n j witness master) p), ap oct (length-rowBits p))
+        length-five c n p siblings sent committed masked row length-siblings-sent (length-sent p) (length-commitment p) length-masked
+        (length-pack (rowBits (masterRun c n j witness master) p) ∙ ap oct (length-rowBits p))
 
     -- each of them is read back
     pub siblings-back : siblingsPart n part ≡ siblings
-    unfolding siblingsPart
-    siblings-back = rw parts (take-at siblings _ (16 * heightOf n) (length-siblings j (heightOf n) 1 p master))
+    unfolding stretchOf
+    siblings-back = first-back c n p siblings sent committed masked row length-siblings-sent (length-sent p) (length-commitment p) length-masked
 
     pub corrections-back : correctionsPart c n p part ≡ sent
-    unfolding correctionsPart
-    corrections-back = rw parts (middle siblings sent _ (16 * heightOf n) (correctionBytes c n p) (length-siblings j (heightOf n) 1 p master) (length-sent p))
+    unfolding stretchOf
+    corrections-back = second-back c n p siblings sent committed masked row length-siblings-sent (length-sent p) (length-commitment p) length-masked
 
     pub commitment-back : commitmentPart c n p part ≡ committed
-    unfolding commitmentPart
-    commitment-back =
-        rw (parts, ← append-assoc siblings sent) (middle (siblings ++ sent) committed _ (16 * heightOf n + correctionBytes c n p) 32 length-two (length-commitment p))
+    unfolding stretchOf
+    commitment-back = third-back c n p siblings sent committed masked row length-siblings-sent (length-sent p) (length-commitment p) length-masked
 
     pub masked-back : maskedPart c n p part ≡ masked
-    unfolding maskedPart
-    masked-back =
-        rw (parts, ← append-assoc siblings sent, ← append-assoc (siblings ++ sent) committed)
-        (middle ((siblings ++ sent) ++ committed) masked _ (16 * heightOf n + correctionBytes c n p + 32) (oct (c .inputs)) length-three length-masked)
+    unfolding stretchOf
+    masked-back = fourth-back c n p siblings sent committed masked row length-siblings-sent (length-sent p) (length-commitment p) length-masked
 
     pub row-back : rowPart c n p part ≡ row
-    unfolding rowPart stretchOf
-    row-back = drop-at (((siblings ++ sent) ++ committed) ++ masked) row (16 * heightOf n + correctionBytes c n p + 32 + oct (c .inputs)) length-four
+    unfolding stretchOf
+    row-back = last-back c n p siblings sent committed masked row length-siblings-sent (length-sent p) (length-commitment p) length-masked
 
   -- the stretch has the bytes that are asked
   pub length-stretch : length master ≡ 16 → (a : Asked) → length (stretchOf c n j witness master a) ≡ stretchBytes c n a
