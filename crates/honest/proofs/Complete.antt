@@ -27,14 +27,14 @@ use Rattle.proof.specs.File.{headerM, headerTau, headerN, headerHstar, goodHead
 use Rattle.proof.specs.Prove.{proofOf, witnesses}
 use Rattle.instance.specs.Opened.{openedRun}
 use Rattle.proof.specs.Check.{checkProof, checkLegal, checkRead, checkOp}
-use Rattle.proof.specs.Theorems.{Complete, Published}
+use Rattle.honest.specs.Theorems.{Complete}
 use Rattle.honest.proofs.Passing.{and-true}
 use Rattle.honest.proofs.Opened.{opened-output}
 use Rattle.honest.proofs.Asking.{Below, challenged-below}
 use Rattle.honest.proofs.Stretches.{commitments-given, online-given, unused-given}
 use Rattle.honest.proofs.Written.{length-master, length-proof, stretch-there, hstar-there, M-there, tau-there, n-there, good-there}
 use Rattle.honest.proofs.Proved.{has-height, proved}
-use Rattle.honest.proofs.Published.{accepted}
+use Rattle.honest.proofs.Tests.{ProofTests, proof-accepted}
 
 -- equal digests of all instances give one h*
 hstar-cong : (M : ℕ) (f f′ g g′ : ℕ → List ℕ) → ((j : ℕ) → j < M → f j ≡ f′ j) → ((j : ℕ) → j < M → g j ≡ g′ j)
@@ -74,8 +74,8 @@ module _ (c : Circuit) (M tau n : ℕ) (witness message root y : List ℕ) (hw :
   below : (j : ℕ) → Below n (ask j)
   below = challenged-below M tau n hstar message (omega (arith, fit .below)) (omega (arith, sizes n height .some))
 
-  -- the published check holds of an honest proof
-  honest : Published c y proof M n ask
+  -- the tests of an honest proof pass
+  honest : ProofTests c y proof (headerHstar proof) M n ask
   unfolding firstMessage
   honest = record {
     size = length-proof c M tau n witness message root;
@@ -100,7 +100,7 @@ module _ (c : Circuit) (M tau n : ℕ) (witness message root y : List ℕ) (hw :
       legal-accepts c y message proof M tau n hstar (M-there c M tau n witness message root m)
       (tau-there c M tau n witness message root t) (n-there c M tau n witness message root) (hstar-there c M tau n witness message root) a b
       (good-there c M tau n witness message root m t counts parties)
-      (accepted c y proof M n ask honest)
+      (proof-accepted c y proof M n ask honest)
 
 -- every honest proof passes
 pub complete : Complete

@@ -1,5 +1,12 @@
 pub mod Passing
+pub mod Tests
+pub mod Decoded
+pub mod Leaves
+pub mod Verifies
 pub mod Published
+pub mod Encoded
+pub mod Decodes
+pub mod Messages
 pub mod Places
 pub mod Parts
 pub mod Derived

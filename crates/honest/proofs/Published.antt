@@ -1,154 +1,324 @@
 -- Check is the published check, and the length of a proof that it accepts.
 -- Assumes nothing.
-use mathlib.Core.Path.{_≡_, refl, sym, ap, _∙_}
+use mathlib.Core.Path.{_≡_, refl, sym, ap, ap₂, subst, _∙_}
 use mathlib.Core.Bool.{Bool, true, _&&_}
-use mathlib.Core.List.{List, []}
-use Prim.Native.Nat.{ℕ}
+use mathlib.Core.List.{List, flatten}
+use Prim.Native.Nat.{ℕ, _+_, _<_}
 use native.Mathlib.Omega.{arith}
-use borrow.Author.Tests.{eq-eqb, eqb-true, le-leb, leb-true}
+use borrow.Author.Tests.{eq-eqb, eqb-true, le-leb, leb-true, lt-ltb}
 use lib.Dec.{eqb, leb}
-use lib.ListN.{length}
+use lib.ListN.{length, drop}
+use lib.Seq.{length-take-le}
 use Rattle.bits.specs.Bits.{pack, unusedZero}
-use Rattle.bits.specs.Bytes.{sameBytes}
-use Rattle.bits.proofs.Equal.{same-eq, eq-same}
+use Rattle.bits.proofs.Tabulate.{tabulate-cong}
 use Rattle.bits.proofs.Tests.{and-true-left, and-true-right}
+use Rattle.keccak.specs.Sponge.{sha3-256}
+use Rattle.parties.specs.Parties.{heightOf, isPartyCount}
+use Rattle.parties.proofs.Counts.{sizes}
 use Rattle.circuit.specs.Circuit.{Circuit}
-use Rattle.circuit.specs.File.{Reading, refused, legal, readCircuit}
-use Rattle.circuit.specs.Operations.{Answer, success}
-use Rattle.mpc.specs.Operations.{holds}
+use Rattle.circuit.specs.File.{legal, readCircuit}
+use Rattle.mpc.specs.Run.{Transcript}
+use Rattle.mpc.specs.Tapes.{andsOf}
+use Rattle.seeds.specs.Inputs.{commitmentsInput, onlineInput, allCommitmentsInput, allOnlineInput}
+use Rattle.seeds.specs.Digest.{transcriptOf}
+use Rattle.seeds.specs.Operations.{areCounts}
+use Rattle.seeds.proofs.Instances.{Fit, counts-fit}
 use Rattle.instance.specs.Instance.{Asked, opened, hiding}
+use Rattle.instance.specs.Stretch.{stretchBytes, sentMaster, sentOnline, correctionsPart, maskedPart, rowPart}
+use Rattle.instance.specs.Opened.{openedRun, stretchCommitments, stretchOnline, stretchUnused}
 use Rattle.proof.specs.Protocol.{hstarOf, challenged}
-use Rattle.proof.specs.File.{headerM, headerTau, headerN, headerHstar, goodHeader, proofBytes, stretchAt}
-use Rattle.instance.specs.Opened.{openedRun, stretchCommitments, stretchOnline, stretchUnused, stretchOutput}
-use Rattle.proof.specs.Check.{every, elseRefuse, checkProof, checkLegal, checkRead, checkOp}
-use Rattle.proof.specs.Theorems.{Published, Accepts, CheckIsPublished, AcceptedLength}
-use Rattle.honest.proofs.Passing.{and-true, refuse-test, refuse-rest, every-at, all-every}
+use Rattle.proof.specs.File.{headerM, headerTau, headerN, headerZero, headerHstar, goodHeader, proofBytes, stretchAt}
+use Rattle.honest.specs.Response.{Unchosen, Chosen, Sent, unchosen, chosen, Response, answered, Header, decodeHeader, challengeIn, decodeSent, bytesFrom, decode, impliedLength, UnusedZero}
+use Rattle.honest.specs.Verification.{all, honestCom, openedCom, simulation, msgs, Verified}
+use Rattle.honest.specs.Theorems.{GoodHeader, Accepts, CheckIsPublished, AcceptedLength}
+use Rattle.honest.proofs.Passing.{and-true}
+use Rattle.honest.proofs.Tests.{ProofTests, CheckTests, passed, accepted}
+use Rattle.honest.proofs.Asking.{Below, challenged-below}
+use Rattle.honest.proofs.Inside.{length-stretchAt}
+use Rattle.honest.proofs.Proved.{has-height}
+use Rattle.honest.proofs.Decoded.{header-is, partsOf, decoded-parts, all-bytes}
+use Rattle.honest.proofs.Verifies.{unchosen-hj, chosen-hj, simulation-is, chosen-h′j}
 
--- a proof, of which `ask` says what is asked of each instance
-module _ (c : Circuit) (y proof : List ℕ) (M n : ℕ) (ask : ℕ → Asked) where
-  -- the four tests
-  abbrev size : Bool
-  size = eqb (length proof) (proofBytes c M n ask)
+-- what is sent of two chosen instances is equal if its parts are
+pub chosen-party : (p q : ℕ) (x z : Chosen) → chosen p x ≡ chosen q z → p ≡ q
+chosen-party p q x z e = cc
 
-  abbrev unused : ℕ → Bool
-  unused j = stretchUnused c n (stretchAt c n ask proof j) (ask j)
+pub chosen-sent : (p q : ℕ) (x z : Chosen) → chosen p x ≡ chosen q z → x ≡ z
+chosen-sent p q x z e = cc
 
-  abbrev output : ℕ → Bool
-  output j = stretchOutput c n j y (stretchAt c n ask proof j) (ask j)
+-- what is sent of instance j, by its stretch s
+module _ (c : Circuit) (n j : ℕ) (count : heightOf n ≡ 0 → ⊥) where
+  -- it answers what is asked
+  parts-answer : (a : Asked) (s : List ℕ) → answered (partsOf c n a s) ≡ a
+  unfolding answered
+  parts-answer opened s = refl
+  parts-answer (hiding p) s = refl
 
-  abbrev recomputed : List ℕ
-  recomputed =
-      hstarOf M (λ j. stretchCommitments c n j (stretchAt c n ask proof j) (ask j))
-      (λ j. stretchOnline c n j (stretchAt c n ask proof j) (ask j))
+  -- the master has 16 bytes
+  master-size : (s : List ℕ) → length s ≡ stretchBytes c n opened → length (sentMaster s) ≡ 16
+  unfolding stretchBytes
+  master-size s l = length-take-le 16 s (omega arith)
 
-  -- check makes them in this order
-  tests : checkProof c y proof M n ask
-      ≡ elseRefuse size 12 (elseRefuse (every M unused) 7
-      (elseRefuse (every M output) 10 (elseRefuse (sameBytes recomputed (headerHstar proof)) 13 (success []))))
-  unfolding checkProof
-  tests = refl
+  -- the digests of step 1, 2 and 3, and the output of step 3
+  abbrev hj-chosen : ℕ → Chosen → List ℕ
+  hj-chosen p x = sha3-256 (commitmentsInput j (all n (openedCom n j p x)))
 
-  -- the test of the output, where all but p are opened
-  output-is : (j p : ℕ) → ask j ≡ hiding p → output j ≡ sameBytes (pack (openedRun c n j p (stretchAt c n ask proof j) .output)) y
-  unfolding stretchOutput
-  output-is j p e = ap (stretchOutput c n j y (stretchAt c n ask proof j)) e
+  abbrev hj-unchosen : Unchosen → List ℕ
+  hj-unchosen u = sha3-256 (commitmentsInput j (all n (honestCom c n j (u .seed*))))
 
-  -- it passes where each replay gives y
-  output-passes : (j : ℕ) (a : Asked)
-      → ((p : ℕ) → a ≡ hiding p → pack (openedRun c n j p (stretchAt c n ask proof j) .output) ≡ y)
-      → stretchOutput c n j y (stretchAt c n ask proof j) a ≡ true
-  unfolding stretchOutput
-  output-passes j opened h = refl
-  output-passes j (hiding p) h = eq-same _ y (h p refl)
+  abbrev h′j-chosen : ℕ → Chosen → List ℕ
+  h′j-chosen p x = sha3-256 (onlineInput j (x .masked) (all n (msgs c n j p x)))
 
-  -- what check accepts meets the published check
-  published : checkProof c y proof M n ask ≡ success [] → Published c y proof M n ask
-  published e =
-      let e0 = sym tests ∙ e in
-      let e1 = refuse-rest size 12 _ [] e0 in
-      let e2 = refuse-rest (every M unused) 7 _ [] e1 in
-      let e3 = refuse-rest (every M output) 10 _ [] e2 in
-      record {
-        size = eqb-true (length proof) (proofBytes c M n ask) (refuse-test size 12 _ [] e0);
-        unused = every-at M unused (refuse-test (every M unused) 7 _ [] e1);
-        output = λ j p h q.
-            same-eq _ y (sym (output-is j p q) ∙ every-at M output (refuse-test (every M output) 10 _ [] e2) j h);
-        digest = same-eq recomputed (headerHstar proof) (refuse-test (sameBytes recomputed (headerHstar proof)) 13 _ [] e3);
-      }
+  -- h_j
+  commitments-chosen : (a : Asked) (s : List ℕ) → length s ≡ stretchBytes c n a → Below n a
+      → (p : ℕ) (x : Chosen) → partsOf c n a s ≡ chosen p x → stretchCommitments c n j s a ≡ hj-chosen p x
+  unfolding stretchCommitments
+  commitments-chosen opened s l b p x e = cc
+  commitments-chosen (hiding q) s l b p x e = sym (chosen-hj c n j q count (b q refl) s l) ∙ ap₂ hj-chosen (chosen-party q p _ x e) (chosen-sent q p _ x e)
 
-  -- what meets it is accepted
-  pub accepted : Published c y proof M n ask → checkProof c y proof M n ask ≡ success []
-  accepted h =
-      let a : size ≡ true = eq-eqb (length proof) (proofBytes c M n ask) (h .size) in
-      let b : every M unused ≡ true = all-every M unused (h .unused) in
-      let d : every M output ≡ true = all-every M output (λ j l. output-passes j (ask j) (λ p e. h .output j p l e)) in
-      let e : sameBytes recomputed (headerHstar proof) ≡ true = eq-same recomputed (headerHstar proof) (h .digest) in
-      tests ∙ rw (a, b, d, e)
+  commitments-unchosen : (a : Asked) (s : List ℕ) → length s ≡ stretchBytes c n a
+      → (u : Unchosen) → partsOf c n a s ≡ unchosen u → stretchCommitments c n j s a ≡ hj-unchosen u
+  unfolding stretchCommitments
+  commitments-unchosen opened s l u e =
+      let f : record { seed* = sentMaster s; h′ = sentOnline s } ≡ u = cc in
+      sym (unchosen-hj c n j count (sentMaster s) (master-size s l)) ∙ ap hj-unchosen f
+  commitments-unchosen (hiding q) s l u e = cc
 
--- a check that accepts has passed the tests before the proof's
-module _ (y message proof : List ℕ) (c : Circuit) where
-  -- the tests, and what is asked by the header's challenge
-  abbrev sizes : Bool
-  sizes = holds (length (c .outputs)) y && leb (length message) 4096
+  -- h'_j
+  online-chosen : (a : Asked) (s : List ℕ) → length s ≡ stretchBytes c n a → Below n a
+      → (p : ℕ) (x : Chosen) → partsOf c n a s ≡ chosen p x → stretchOnline c n j s a ≡ h′j-chosen p x
+  unfolding stretchOnline
+  online-chosen opened s l b p x e = cc
+  online-chosen (hiding q) s l b p x e = sym (chosen-h′j c n j q count (b q refl) s l) ∙ ap₂ h′j-chosen (chosen-party q p _ x e) (chosen-sent q p _ x e)
 
-  abbrev clean : Bool
-  clean = unusedZero (length (c .outputs)) y
+  online-unchosen : (a : Asked) (s : List ℕ) (u : Unchosen) → partsOf c n a s ≡ unchosen u → stretchOnline c n j s a ≡ u .h′
+  unfolding stretchOnline
+  online-unchosen opened s u e = let f : record { seed* = sentMaster s; h′ = sentOnline s } ≡ u = cc in ap (λ (z : Unchosen). z .h′) f
+  online-unchosen (hiding q) s u e = cc
 
-  abbrev asks : ℕ → Asked
-  asks = challenged (headerM proof) (headerTau proof) (headerN proof) (headerHstar proof) message
+  -- two digests are equal if they are what each kind of instance gives
+  either-way : (a : Asked) (s v w : List ℕ) (f : ℕ → Chosen → List ℕ) (g : Unchosen → List ℕ)
+      → ((p : ℕ) (x : Chosen) → partsOf c n a s ≡ chosen p x → v ≡ f p x) → ((u : Unchosen) → partsOf c n a s ≡ unchosen u → v ≡ g u)
+      → ((p : ℕ) (x : Chosen) → partsOf c n a s ≡ chosen p x → w ≡ f p x) → ((u : Unchosen) → partsOf c n a s ≡ unchosen u → w ≡ g u) → v ≡ w
+  either-way opened s v w f g v₁ v₂ w₁ w₂ = v₂ _ refl ∙ sym (w₂ _ refl)
+  either-way (hiding p) s v w f g v₁ v₂ w₁ w₂ = v₁ p _ refl ∙ sym (w₁ p _ refl)
 
-  abbrev rest : Answer
-  rest = checkProof c y proof (headerM proof) (headerN proof) asks
+  -- its unused bits
+  unused-step : (a : Asked) (s : List ℕ) → ((p : ℕ) (x : Chosen) → partsOf c n a s ≡ chosen p x → UnusedZero c x) → stretchUnused c n s a ≡ true
+  unfolding stretchUnused
+  unused-step opened s f = refl
+  unused-step (hiding p) s f = let u = f p _ refl in and-true _ _ (u .aux) (and-true _ _ (u .masked) (u .msgs))
 
-  -- check makes them in this order
-  legal-tests : checkLegal y message proof c ≡ elseRefuse sizes 6 (elseRefuse clean 7 (elseRefuse (goodHeader proof) 11 rest))
-  unfolding checkLegal
-  legal-tests = refl
+  unused-chosen : (a : Asked) (s : List ℕ) → stretchUnused c n s a ≡ true → (p : ℕ) (x : Chosen) → partsOf c n a s ≡ chosen p x → UnusedZero c x
+  unfolding stretchUnused
+  unused-chosen opened s t p x e = let z : _≡_ {A = ℕ} 0 1 = cc in absurd (omega arith)
+  unused-chosen (hiding q) s t p x e =
+      let a : Bool = unusedZero (andsOf c) (correctionsPart c n q s) in
+      let m : Bool = unusedZero (c .inputs) (maskedPart c n q s) in
+      let r : Bool = unusedZero (andsOf c + length (c .outputs)) (rowPart c n q s) in
+      let u : m && r ≡ true = and-true-right a (m && r) t in
+      subst (UnusedZero c) (chosen-sent q p _ x e)
+      (record { aux = and-true-left a (m && r) t; masked = and-true-left m r u; msgs = and-true-right m r u })
 
-  -- what is accepted of a legal circuit meets the published check
-  legal-accepts : (s : List ℕ) → readCircuit s ≡ legal c → checkLegal y message proof c ≡ success [] → Accepts s y message proof
-  legal-accepts s r e =
-      let e0 = sym legal-tests ∙ e in
-      let e1 = refuse-rest sizes 6 _ [] e0 in
-      let e2 = refuse-rest clean 7 _ [] e1 in
-      let t = refuse-test sizes 6 _ [] e0 in
-      record {
-        circuit = c;
-        read = r;
-        y-size = eqb-true (length y) _ (and-true-left (holds (length (c .outputs)) y) (leb (length message) 4096) t);
-        short = leb-true (length message) 4096 (and-true-right (holds (length (c .outputs)) y) (leb (length message) 4096) t);
-        y-unused = refuse-test clean 7 _ [] e1;
-        header = refuse-test (goodHeader proof) 11 _ [] e2;
-        published = published c y proof (headerM proof) (headerN proof) asks (refuse-rest (goodHeader proof) 11 _ [] e2);
-      }
+  -- its output
+  output-chosen : (a : Asked) (s y : List ℕ) → length s ≡ stretchBytes c n a → Below n a
+      → ((p : ℕ) → a ≡ hiding p → pack (openedRun c n j p s .output) ≡ y)
+      → (p : ℕ) (x : Chosen) → partsOf c n a s ≡ chosen p x → pack (simulation c n j p x .output) ≡ y
+  output-chosen opened s y l b f p x e = cc
+  output-chosen (hiding q) s y l b f p x e =
+      ap₂ (λ (z : ℕ) (v : Chosen). pack (simulation c n j z v .output)) (sym (chosen-party q p _ x e)) (sym (chosen-sent q p _ x e))
+      ∙ (ap (λ (r : Transcript). pack (r .output)) (simulation-is c n j q count (b q refl) s l) ∙ f q refl)
 
--- what a check that accepts has read
-read-accepts : (s y message proof : List ℕ) (r : Reading) → readCircuit s ≡ r → checkRead r y message proof ≡ success [] → Accepts s y message proof
-unfolding checkRead
-read-accepts s y message proof (refused k) r e = let z : _≡_ {A = ℕ} 0 1 = cc in absurd (omega arith)
-read-accepts s y message proof (legal c) r e = legal-accepts y message proof c s r e
+  output-step : (a : Asked) (s y : List ℕ) → length s ≡ stretchBytes c n a → Below n a
+      → ((p : ℕ) (x : Chosen) → partsOf c n a s ≡ chosen p x → pack (simulation c n j p x .output) ≡ y)
+      → (p : ℕ) → a ≡ hiding p → pack (openedRun c n j p s .output) ≡ y
+  output-step opened s y l b f p e = cc
+  output-step (hiding q) s y l b f p e =
+      let g : q ≡ p = cc in
+      ap (λ (z : ℕ). pack (openedRun c n j z s .output)) (sym g)
+      ∙ (ap (λ (r : Transcript). pack (r .output)) (sym (simulation-is c n j q count (b q refl) s l)) ∙ f q _ refl)
 
--- what check accepts meets the published check
-op-sound : (s y message proof : List ℕ) → checkOp s y message proof ≡ success [] → Accepts s y message proof
-unfolding checkOp
-op-sound s y message proof e = read-accepts s y message proof (readCircuit s) refl e
+-- M instances by n parties, where `ask` says what is asked of each, and the length of the proof is right
+module _ (c : Circuit) (y proof hstar : List ℕ) (M n : ℕ) (ask : ℕ → Asked) (count : heightOf n ≡ 0 → ⊥) (below : (j : ℕ) → Below n (ask j))
+    (size : length proof ≡ proofBytes c M n ask) where
+  -- the stretch of an instance, and what is decoded of it
+  abbrev part : ℕ → List ℕ
+  part j = stretchAt c n ask proof j
 
--- what meets it is accepted
-op-complete : (s y message proof : List ℕ) → Accepts s y message proof → checkOp s y message proof ≡ success []
-unfolding checkOp checkRead
-op-complete s y message proof h =
-    let c = h .circuit in
-    let a : sizes y message proof c ≡ true = and-true _ _ (eq-eqb _ _ (h .y-size)) (le-leb (length message) 4096 (h .short)) in
-    let b : rest y message proof c ≡ success [] = accepted c y proof (headerM proof) (headerN proof) (asks y message proof c) (h .published) in
-    ap (λ (x : Reading). checkRead x y message proof) (h .read) ∙ (legal-tests y message proof c ∙ rw (a, h .y-unused, h .header, b))
+  abbrev sent : Response
+  sent j = decodeSent c n (ask j) (bytesFrom c n ask (drop 38 proof) j) .0
+
+  part-size : (j : ℕ) → j < M → length (part j) ≡ stretchBytes c n (ask j)
+  part-size j l = length-stretchAt c n M ask proof size j l
+
+  -- the parts are what is sent
+  parts-are : (j : ℕ) (z : Sent) → sent j ≡ z → partsOf c n (ask j) (part j) ≡ z
+  parts-are j z e = sym (decoded-parts c n ask proof j) ∙ e
+
+  sent-are : (j : ℕ) (z : Sent) → partsOf c n (ask j) (part j) ≡ z → sent j ≡ z
+  sent-are j z e = decoded-parts c n ask proof j ∙ e
+
+  -- what passes the tests is verified
+  verified : ProofTests c y proof hstar M n ask → Verified c y hstar M n ask sent
+  unfolding hstarOf transcriptOf
+  verified t = record {
+    answers = λ j l. ap answered (decoded-parts c n ask proof j) ∙ parts-answer c n j count (ask j) (part j);
+    hj = λ j. stretchCommitments c n j (part j) (ask j);
+    h = sha3-256 (allCommitmentsInput (all M (λ j. stretchCommitments c n j (part j) (ask j))));
+    h′j = λ j. stretchOnline c n j (part j) (ask j);
+    h′ = sha3-256 (allOnlineInput (all M (λ j. stretchOnline c n j (part j) (ask j))));
+    step-1 = λ j p x l e. commitments-chosen c n j count (ask j) (part j) (part-size j l) (below j) p x (parts-are j _ e);
+    step-2 = λ j u l e. commitments-unchosen c n j count (ask j) (part j) (part-size j l) u (parts-are j _ e);
+    step-2-h = refl;
+    step-3-output = λ j p x l e. output-chosen c n j count (ask j) (part j) y (part-size j l) (below j) (λ q r. t .output j q l r) p x (parts-are j _ e);
+    step-3 = λ j p x l e. online-chosen c n j count (ask j) (part j) (part-size j l) (below j) p x (parts-are j _ e);
+    step-3-sent = λ j u l e. online-unchosen c n j count (ask j) (part j) u (parts-are j _ e);
+    step-3-h′ = refl;
+    step-4 = t .digest;
+  }
+
+  -- the digests of what is verified
+  commitments-are : (v : Verified c y hstar M n ask sent) (j : ℕ) → j < M → stretchCommitments c n j (part j) (ask j) ≡ v .hj j
+  commitments-are v j l =
+      either-way c n j count (ask j) (part j) (stretchCommitments c n j (part j) (ask j)) (v .hj j) (hj-chosen c n j count) (hj-unchosen c n j count)
+      (commitments-chosen c n j count (ask j) (part j) (part-size j l) (below j))
+      (commitments-unchosen c n j count (ask j) (part j) (part-size j l))
+      (λ p x e. v .step-1 j p x l (sent-are j _ e))
+      (λ u e. v .step-2 j u l (sent-are j _ e))
+
+  online-are : (v : Verified c y hstar M n ask sent) (j : ℕ) → j < M → stretchOnline c n j (part j) (ask j) ≡ v .h′j j
+  online-are v j l =
+      either-way c n j count (ask j) (part j) (stretchOnline c n j (part j) (ask j)) (v .h′j j) (h′j-chosen c n j count) (λ u. u .h′)
+      (online-chosen c n j count (ask j) (part j) (part-size j l) (below j))
+      (online-unchosen c n j count (ask j) (part j))
+      (λ p x e. v .step-3 j p x l (sent-are j _ e))
+      (λ u e. v .step-3-sent j u l (sent-are j _ e))
+
+  -- and the other way round, where the unused bits are zero
+  tested : ((j p : ℕ) (x : Chosen) → j < M → sent j ≡ chosen p x → UnusedZero c x) → Verified c y hstar M n ask sent → ProofTests c y proof hstar M n ask
+  unfolding hstarOf transcriptOf
+  tested clean v = record {
+    size = size;
+    unused = λ j l. unused-step c n j count (ask j) (part j) (λ p x e. clean j p x l (sent-are j _ e));
+    output = λ j p l e. output-step c n j count (ask j) (part j) y (part-size j l) (below j) (λ q x r. v .step-3-output j q x l (sent-are j _ r)) p e;
+    digest =
+        ap₂ transcriptOf
+        (ap (λ (t : List (List ℕ)). sha3-256 (allCommitmentsInput (flatten t))) (tabulate-cong M _ (v .hj) (commitments-are v)) ∙ sym (v .step-2-h))
+        (ap (λ (t : List (List ℕ)). sha3-256 (allOnlineInput (flatten t))) (tabulate-cong M _ (v .h′j) (online-are v)) ∙ sym (v .step-3-h′))
+        ∙ v .step-4;
+  }
+
+-- the header of a proof is good
+header-passed : (proof : List ℕ) → goodHeader proof ≡ true
+    → GoodHeader proof (record { M = headerM proof; tau = headerTau proof; n = headerN proof; hstar = headerHstar proof })
+unfolding goodHeader
+header-passed proof t =
+    let a : Bool = leb 38 (length proof) in
+    let b : Bool = areCounts (headerM proof) (headerTau proof) in
+    let d : Bool = isPartyCount (headerN proof) in
+    let e : Bool = eqb (headerZero proof) 0 in
+    let u : b && (d && e) ≡ true = and-true-right a (b && (d && e)) t in
+    let v : d && e ≡ true = and-true-right b (d && e) u in
+    let f : Fit (headerM proof) (headerTau proof) = counts-fit (headerM proof) (headerTau proof) (and-true-left b (d && e) u) in
+    record {
+      size = leb-true 38 (length proof) (and-true-left a (b && (d && e)) t);
+      M-least = f .least;
+      M-most = f .most;
+      tau-least = f .some;
+      tau-most = f .below;
+      parties = and-true-left d e v;
+      zero = eqb-true (headerZero proof) 0 (and-true-right d e v);
+    }
+
+-- so it is for check
+header-accepted : (proof : List ℕ)
+    → GoodHeader proof (record { M = headerM proof; tau = headerTau proof; n = headerN proof; hstar = headerHstar proof }) → goodHeader proof ≡ true
+unfolding goodHeader areCounts
+header-accepted proof g =
+    and-true _ _ (le-leb 38 (length proof) (g .size))
+    (and-true _ _
+    (and-true _ _ (le-leb 2 (headerM proof) (g .M-least))
+    (and-true _ _ (le-leb (headerM proof) 512 (g .M-most))
+    (and-true _ _ (le-leb 1 (headerTau proof) (g .tau-least)) (lt-ltb (headerTau proof) (headerM proof) (g .tau-most)))))
+    (and-true _ _ (g .parties) (eq-eqb (headerZero proof) 0 (g .zero))))
+
+-- the tests of a proof with the header h
+abbrev TestsWith : Circuit → List ℕ → List ℕ → List ℕ → Header → Type 0
+TestsWith c y message proof h = ProofTests c y proof (h .hstar) (h .M) (h .n) (challenged (h .M) (h .tau) (h .n) (h .hstar) message)
+
+-- a good header
+module _ (message proof : List ℕ) (good : GoodHeader proof (decodeHeader proof)) where
+  abbrev pub parties : ℕ
+  parties = decodeHeader proof .n
+
+  pub height : heightOf parties ≡ 0 → ⊥
+  height = has-height parties (good .parties)
+
+  -- every hidden party is one of them
+  pub all-below : (j : ℕ) → Below parties (challengeIn message proof j)
+  all-below =
+      challenged-below (decodeHeader proof .M) (decodeHeader proof .tau) parties (decodeHeader proof .hstar) message (omega (arith, good .tau-most))
+      (omega (arith, sizes parties height .some))
+
+-- the length that h* implies is the one that check computes
+pub implied-is : (c : Circuit) (message proof : List ℕ)
+    → impliedLength c message proof ≡ proofBytes c (decodeHeader proof .M) (decodeHeader proof .n) (challengeIn message proof)
+unfolding impliedLength
+implied-is c message proof = all-bytes c (decodeHeader proof .n) (challengeIn message proof) (decodeHeader proof .M)
+
+-- what passes the tests meets the published check
+tests-accept : (s y message proof : List ℕ) → CheckTests s y message proof → Accepts s y message proof
+unfolding decode
+tests-accept s y message proof t =
+    let c : Circuit = t .circuit in
+    let good : GoodHeader proof (decodeHeader proof) = subst (GoodHeader proof) (sym (header-is proof)) (header-passed proof (t .header)) in
+    let tests : TestsWith c y message proof (decodeHeader proof) = subst (TestsWith c y message proof) (sym (header-is proof)) (t .proof-tests) in
+    record {
+      circuit = c;
+      read = t .read;
+      y-size = t .y-size;
+      message-size = t .short;
+      y-unused = t .y-unused;
+      header = good;
+      size = tests .size ∙ sym (implied-is c message proof);
+      unused = λ j p x l e.
+          unused-chosen c (decodeHeader proof .n) j (height message proof good) (challengeIn message proof j) _ (tests .unused j l) p x
+          (sym (decoded-parts c (decodeHeader proof .n) (challengeIn message proof) proof j) ∙ e);
+      verified = verified c y proof (decodeHeader proof .hstar) (decodeHeader proof .M) (decodeHeader proof .n) (challengeIn message proof)
+          (height message proof good) (all-below message proof good) (tests .size) tests;
+    }
+
+-- and the other way round
+accept-tests : (s y message proof : List ℕ) → Accepts s y message proof → CheckTests s y message proof
+unfolding decode
+accept-tests s y message proof h =
+    let c : Circuit = h .circuit in
+    let tests : TestsWith c y message proof (decodeHeader proof) =
+    tested c y proof (decodeHeader proof .hstar) (decodeHeader proof .M) (decodeHeader proof .n) (challengeIn message proof)
+    (height message proof (h .header)) (all-below message proof (h .header)) (h .size ∙ implied-is c message proof) (h .unused) (h .verified) in
+    record {
+      circuit = c;
+      read = h .read;
+      y-size = h .y-size;
+      short = h .message-size;
+      y-unused = h .y-unused;
+      header = header-accepted proof (subst (GoodHeader proof) (header-is proof) (h .header));
+      proof-tests = subst (TestsWith c y message proof) (header-is proof) tests;
+    }
 
 -- check is the published check
 pub check-is-published : CheckIsPublished
-check-is-published = record { sound = op-sound; complete = op-complete }
+check-is-published = record {
+  sound = λ s y message proof e. tests-accept s y message proof (passed s y message proof e);
+  complete = λ s y message proof h. accepted s y message proof (accept-tests s y message proof h);
+}
+
+-- a circuit that is read is read as one
+pub same-circuit : (s : List ℕ) (c d : Circuit) → readCircuit s ≡ legal c → readCircuit s ≡ legal d → c ≡ d
+same-circuit s c d e f = cc
 
 -- the length of every accepted proof is the one its challenge implies
 pub accepted-length : AcceptedLength
-unfolding checkOp checkRead legal-accepts
 accepted-length s y message proof c r e =
-    let l : checkRead (legal c) y message proof ≡ success [] = ap (λ (x : Reading). checkRead x y message proof) (sym r) ∙ e in
-    legal-accepts y message proof c s r l .published .size
+    let h = check-is-published .sound s y message proof e in
+    h .size ∙ ap (λ (z : Circuit). impliedLength z message proof) (same-circuit s (h .circuit) c (h .read) r)

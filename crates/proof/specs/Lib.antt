@@ -3,4 +3,3 @@ pub mod File
 pub mod Prove
 pub mod Check
 pub mod Asks
-pub mod Theorems

@@ -41,14 +41,14 @@ node-below j v (suc h) c x l u =
     (node-below j v h c (x / 2) (omega arith) (omega arith))
 
 -- the rows of two lists, one after the other
-row-first : (A B : List ℕ) (i : ℕ) → i * 16 + 16 ≤ length A → rowOf (A ++ B) 16 i ≡ rowOf A 16 i
+pub row-first : (A B : List ℕ) (i : ℕ) → i * 16 + 16 ≤ length A → rowOf (A ++ B) 16 i ≡ rowOf A 16 i
 row-first A B i w =
     let a : i * 16 ≤ length A = omega arith in
     let d : 16 ≤ length (drop (i * 16) A) = rw length-drop (omega arith) in
     row-inside (A ++ B) 16 i (rw length-append (omega arith))
     ∙ rw (drop-append-le (i * 16) A B, take-append-le 16 (drop (i * 16) A) B) (sym (row-inside A 16 i w))
 
-row-second : (A B : List ℕ) (m i : ℕ) → length A ≡ 16 * m → m ≤ i → (i - m) * 16 + 16 ≤ length B → rowOf (A ++ B) 16 i ≡ rowOf B 16 (i - m)
+pub row-second : (A B : List ℕ) (m i : ℕ) → length A ≡ 16 * m → m ≤ i → (i - m) * 16 + 16 ≤ length B → rowOf (A ++ B) 16 i ≡ rowOf B 16 (i - m)
 row-second A B m i l a w =
     let e : i * 16 ≡ length A + (i - m) * 16 = omega arith in
     row-inside (A ++ B) 16 i (rw length-append (omega arith))

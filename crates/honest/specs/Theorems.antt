@@ -1,0 +1,93 @@
+-- The theorems on proofs: the statements.
+-- Assumes nothing.
+use mathlib.Core.Path.{_≡_}
+use mathlib.Core.Bool.{true}
+use mathlib.Core.List.{List, [], _∷_}
+use Prim.Native.Nat.{ℕ, _≤_, _<_}
+use lib.ListN.{length, getD, take}
+use Rattle.bits.specs.Bits.{oct, unusedZero}
+use Rattle.parties.specs.Parties.{isPartyCount}
+use Rattle.circuit.specs.Circuit.{Circuit}
+use Rattle.circuit.specs.File.{readCircuit, legal}
+use Rattle.circuit.specs.Operations.{success}
+use Rattle.proof.specs.Protocol.{challenged}
+use Rattle.proof.specs.Prove.{proveOp}
+use Rattle.proof.specs.Check.{checkOp}
+use Rattle.honest.specs.Response.{Chosen, chosen, Response, answered, Header, HeaderFits, encode, decodeHeader, challengeIn, decode, Lengths, impliedLength, UnusedZero}
+use Rattle.honest.specs.Verification.{msgs, Verified}
+
+-- bytes
+abbrev pub AllBytes : List ℕ → Type 0
+AllBytes s = (k : ℕ) → getD s k 0 < 256
+
+-- Theorem, every honest proof passes: where prove writes k bytes into a buffer, check accepts those bytes under the same circuit, y and
+-- message
+abbrev pub Complete : Type 0
+Complete =
+    (s witness y message root buffer left : List ℕ) (M tau n k : ℕ) → AllBytes witness
+    → proveOp s witness y message root M tau n buffer ≡ record { answer = success (k ∷ []); left = left ∷ [] }
+    → checkOp s y message (take k left) ≡ success []
+
+-- the header of a proof file: "11 a header under 38 bytes, out of limits or with its zero byte not 0"; "M is 2..512, τ 1..M−1, n 2, 4, 8
+-- or 16"
+pub record GoodHeader (proof : List ℕ) (header : Header) : Type 0 where
+  pub size : 38 ≤ length proof
+  pub M-least : 2 ≤ header .M
+  pub M-most : header .M ≤ 512
+  pub tau-least : 1 ≤ header .tau
+  pub tau-most : header .tau < header .M
+  pub parties : isPartyCount (header .n) ≡ true
+  pub zero : getD proof 5 0 ≡ 0
+
+-- what the published check asks: the rules of document 01 for circuit, y, message and proof file, and the "Verification" of Figure 2 for
+-- the response in the file, with the challenge of the header's h*
+pub record Accepts (s y message proof : List ℕ) : Type 0 where
+  -- "Check: 1 to 5"
+  pub circuit : Circuit
+  pub read : readCircuit s ≡ legal circuit
+  -- "6 for y and message; 7 for y"
+  pub y-size : length y ≡ oct (length (circuit .outputs))
+  pub message-size : length message ≤ 4096
+  pub y-unused : unusedZero (length (circuit .outputs)) y ≡ true
+  -- "11 a header .."
+  pub header : GoodHeader proof (decodeHeader proof)
+  -- "12 a length other than h* implies"
+  pub size : length proof ≡ impliedLength circuit message proof
+  -- "7 unused bits in the proof"
+  pub unused : (j p : ℕ) (x : Chosen) → j < decodeHeader proof .M → decode circuit message proof j ≡ chosen p x → UnusedZero circuit x
+  -- "10 a replay with another output; 13 the recomputed h* differs"
+  pub verified : Verified circuit y (decodeHeader proof .hstar) (decodeHeader proof .M) (decodeHeader proof .n) (challengeIn message proof)
+      (decode circuit message proof)
+
+-- Theorem, check is the published check: a proof is accepted exactly where that holds
+pub record CheckIsPublished : Type 0 where
+  pub sound : (s y message proof : List ℕ) → checkOp s y message proof ≡ success [] → Accepts s y message proof
+  pub complete : (s y message proof : List ℕ) → Accepts s y message proof → checkOp s y message proof ≡ success []
+
+-- Theorem: every accepted file is the encoding of its header and its response, so that no byte of it is free; the list holds bytes, as a
+-- file does
+abbrev pub AcceptedEncoding : Type 0
+AcceptedEncoding =
+    (s y message proof : List ℕ) (c : Circuit) → AllBytes proof → readCircuit s ≡ legal c → checkOp s y message proof ≡ success []
+    → proof ≡ encode (decodeHeader proof) (decode c message proof)
+
+-- Theorem: what is encoded is decoded again, where the header's numbers fit their bytes, and the response is to its challenge and has the
+-- lengths that are asked for
+pub record EncodingDecodes : Type 0 where
+  pub header : (h : Header) (sent : Response) → HeaderFits h → decodeHeader (encode h sent) ≡ h
+  pub response : (c : Circuit) (message : List ℕ) (h : Header) (sent : Response) → HeaderFits h
+      → ((j : ℕ) → j < h .M → answered (sent j) ≡ challenged (h .M) (h .tau) (h .n) (h .hstar) message j)
+      → ((j : ℕ) → j < h .M → Lengths c (h .n) (sent j)) → (j : ℕ) → j < h .M → decode c message (encode h sent) j ≡ sent j
+
+-- Theorem: in every accepted file, the messages of party p that go into h'_j are those sent
+abbrev pub MessagesAsSent : Type 0
+MessagesAsSent =
+    (s y message proof : List ℕ) (c : Circuit) → AllBytes proof → readCircuit s ≡ legal c → checkOp s y message proof ≡ success []
+    → (j p : ℕ) (x : Chosen) → j < decodeHeader proof .M → decode c message proof j ≡ chosen p x
+    → msgs c (decodeHeader proof .n) j p x p ≡ x .msgs-p
+
+-- Theorem: the length of every accepted proof is the one its challenge implies
+abbrev pub AcceptedLength : Type 0
+AcceptedLength =
+    (s y message proof : List ℕ) (c : Circuit) → readCircuit s ≡ legal c → checkOp s y message proof ≡ success []
+    → length proof ≡ impliedLength c message proof
