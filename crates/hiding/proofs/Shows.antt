@@ -1,7 +1,7 @@
 -- Hiding over the operation show: tapes with another row of party p are tapes, so the calls succeed and fill what the showings are.
 -- Assumes nothing.
 use mathlib.Core.Path.{_≡_, refl, sym, ap, _∙_}
-use mathlib.Core.Bool.{true, _&&_}
+use mathlib.Core.Bool.{true}
 use mathlib.Core.List.{List}
 use mathlib.Core.Logic.{_≢_, inl, inr, ⊎-elim}
 use Prim.Native.Nat.{ℕ, zero, suc, _+_, _-_, _*_, _≤_, _<_}
@@ -14,10 +14,10 @@ use Rattle.bits.proofs.Rows.{row-getD, row-fits}
 use Rattle.bits.proofs.Tests.{and-true-left, and-true-right}
 use Rattle.parties.specs.Parties.{isPartyCount}
 use Rattle.circuit.specs.Circuit.{Circuit}
-use Rattle.circuit.specs.File.{Reading, legal, readCircuit}
+use Rattle.circuit.specs.File.{legal, readCircuit}
 use Rattle.mpc.specs.Tapes.{rowBytes, tapeRow, usedBits, unusedRows, withRow}
 use Rattle.mpc.specs.Showing.{Showing, showing}
-use Rattle.mpc.specs.Operations.{Outcome, onLegal, done, partsOf, holdsShowing, showLegal, showOp}
+use Rattle.mpc.specs.Operations.{Outcome, done, partsOf, holdsShowing, showLegal, showOp}
 use Rattle.hiding.specs.Hiding.{Row, Tapes, Witness, Partner, PartnerShown, HidingShown}
 use Rattle.hiding.proofs.Rows.{byte-other, length-withRow, row-here, row-other}
 use Rattle.hiding.proofs.Theorem.{hiding}

@@ -1,14 +1,14 @@
 -- Laws of the run, for any number of parties: the statements.
 -- Assumes nothing.
 use mathlib.Core.Path.{_≡_}
-use mathlib.Core.Bool.{Bool, true, false, not, _&&_}
+use mathlib.Core.Bool.{Bool, false, not, _&&_}
 use mathlib.Core.List.{List, [], _∷_}
 use Prim.Native.Nat.{ℕ, _≤_, _<_}
 use lib.ListN.{length, getD, take}
 use Rattle.bits.specs.Bits.{bitAt}
 use Rattle.bits.specs.Xor.{_⊕_, xors}
 use Rattle.circuit.specs.Circuit.{Gate, xor, and, inv, Circuit, put, evalGates, evaluate}
-use Rattle.mpc.specs.Run.{Column, next, plus, says, Hearing, asSaid, outputs, Transcript, run, corrected}
+use Rattle.mpc.specs.Run.{Column, next, plus, says, asSaid, outputs, corrected}
 use Rattle.mpc.specs.Tapes.{inputMasks, outputMasks, productShares, withRow}
 use Rattle.mpc.specs.Showing.{correctionBits, maskedInput, honestRun, rowsOf, hidden, showing, replayOf}
 use Rattle.hiding.specs.Hiding.{Tapes, Row, Witness}

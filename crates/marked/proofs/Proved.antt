@@ -1,27 +1,24 @@
 -- m10 as the answer of prove, for every witness, message and root: by the rows of the table, whichever instance is chosen.
 -- Assumes nothing.
 use mathlib.Core.Path.{_≡_, refl, sym, ap, _∙_}
-use mathlib.Core.Bool.{true}
-use mathlib.Core.List.{List, [], _∷_, List·Memᴰ, List·Memᴰ·head, List·Memᴰ·tail}
-use Prim.Native.Nat.{ℕ, zero, suc, _<_}
+use mathlib.Core.List.{List, [], _∷_, List·Memᴰ·head, List·Memᴰ·tail}
+use Prim.Native.Nat.{ℕ, _<_}
 use native.Mathlib.Omega.{arith}
-use lib.ListN.{length, getD, replicate, getD-replicate}
-use Rattle.bits.specs.Bits.{oct}
+use lib.ListN.{getD, replicate, getD-replicate}
 use Rattle.bits.specs.Bytes.{leAt}
 use Rattle.bits.proofs.Tabulate.{getD-tabulate}
 use Rattle.parties.specs.Parties.{heightOf, isPartyCount}
-use Rattle.circuit.specs.Circuit.{Circuit, ands}
+use Rattle.circuit.specs.Circuit.{ands}
 use Rattle.circuit.specs.File.{legal, withinLimits, rightLength, goodRecord, goodRecords, walks, goodChain, chainFrom, gateAt, gatesInOrder, readsWritten, goodOutputs, goodWires, circuitOf, readCircuit}
 use Rattle.circuit.specs.Operations.{success}
-use Rattle.mpc.specs.Tapes.{andsOf}
-use Rattle.seeds.specs.Challenge.{streamOf, instances, hiddenParties, Ascending, none, more, Sound}
+use Rattle.seeds.specs.Challenge.{streamOf, instances, hiddenParties, Ascending, more, Sound}
 use Rattle.seeds.specs.Operations.{areCounts}
 use Rattle.seeds.proofs.Challenges.{challenge-sound}
 use Rattle.proof.specs.Protocol.{firstMessage, asked, challenged}
 use Rattle.proof.specs.File.{proofBytes, proofRoom}
 use Rattle.proof.specs.Prove.{proveOp}
 use Rattle.honest.proofs.Writes.{Passes, prove-answers}
-use Rattle.marked.specs.Marked.{Case, Right, circuitK, proofSizes, m10First, m10Last, cases, ForK, hiddenParty, ProveAnswers, M10}
+use Rattle.marked.specs.Marked.{Right, circuitK, proofSizes, m10First, m10Last, ProveInputs, hiddenParty, M10}
 use Rattle.marked.proofs.Table.{marked-cases}
 
 -- K is legal; its numbers, and the room for its proof
@@ -66,7 +63,7 @@ size-by-party (i ∷ []) (q ∷ q′ ∷ ps) p k s e f = absurd (omega (arith, s
 size-by-party (i ∷ i′ ∷ is) (q ∷ ps) p k s e f = absurd (omega (arith, s .count))
 
 -- what is lent passes the tests of prove
-passes : (witness y message root buffer : List ℕ) → ForK witness y message root buffer → Passes (circuitOf circuitK) witness y message root buffer 4 1 2
+passes : (witness y message root buffer : List ℕ) → ProveInputs witness y message root buffer → Passes (circuitOf circuitK) witness y message root buffer 4 1 2
 unfolding areCounts isPartyCount heightOf
 passes witness y message root buffer h =
     record {
@@ -81,7 +78,7 @@ passes witness y message root buffer h =
     }
 
 -- prove answers the length that its hidden party decides
-answers : (witness y message root buffer : List ℕ) (p k : ℕ) → ForK witness y message root buffer → proofSizes p ≡ replicate 4 k
+answers : (witness y message root buffer : List ℕ) (p k : ℕ) → ProveInputs witness y message root buffer → proofSizes p ≡ replicate 4 k
     → hiddenParty witness message root ≡ p → proveOp circuitK witness y message root 4 1 2 buffer .answer ≡ success (k ∷ [])
 unfolding hiddenParty challenged
 answers witness y message root buffer p k h f e =

@@ -131,7 +131,7 @@ cases = m1 ∷ m2 ∷ m3 ∷ m4 ∷ m5 ∷ m6 ∷ m7 ∷ m8 ∷ m8Shown ∷ m9 �
 
 -- what prove is lent for a proof of K with M = 4, τ = 1 and n = 2: a witness of two bits that gives y, a message, a root, and a buffer
 -- that holds 233 bytes or more, the room that prove asks for
-pub record ForK (witness y message root buffer : List ℕ) : Type 0 where
+pub record ProveInputs (witness y message root buffer : List ℕ) : Type 0 where
   pub witnessSize : length witness ≡ 1
   pub unused : unusedZero 2 witness ≡ true
   pub gives : pack (evaluate (circuitOf circuitK) (bitAt witness)) ≡ y
@@ -151,4 +151,4 @@ pub record ProveAnswers (witness y message root buffer : List ℕ) : Type 0 wher
 
 -- for every witness, message, root and buffer
 abbrev pub M10 : Type 0
-M10 = (witness y message root buffer : List ℕ) → ForK witness y message root buffer → ProveAnswers witness y message root buffer
+M10 = (witness y message root buffer : List ℕ) → ProveInputs witness y message root buffer → ProveAnswers witness y message root buffer

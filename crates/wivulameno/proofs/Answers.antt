@@ -8,7 +8,6 @@ use Rattle.refusal.specs.declared.Refusal.{Refusal}
 use Rattle.refusal.specs.Refusal.{numberOf}
 use Rattle.refusal.proofs.Laws.{numberOf-injective, numberOf-range}
 use Rattle.circuit.specs.Answers.{readPaper, evaluatePaper}
-use Rattle.circuit.specs.declared.Sizes.{Sizes}
 use Rattle.circuit.specs.declared.ReadAnswer.the-variants as readAnswer
 use Rattle.circuit.specs.declared.EvaluateAnswer.the-variants as evaluateAnswer
 use Rattle.mpc.specs.Answers as mpc
