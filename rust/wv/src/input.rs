@@ -8,10 +8,12 @@ use std::ffi::OsStr;
 use std::fs::File;
 use std::io::{self, Read};
 use std::path::Path;
+use wivulameno::limits::{MAX_CIRCUIT, MAX_PROOF};
 
-/// More than any input has, and less than fills a memory: a circuit has up to
-/// 33,288 bytes, a proof up to 621,462.
+/// More than the longest proof, which is the longest input, and less than fills
+/// a memory.
 const LIMIT: u64 = 1 << 24;
+const _: () = assert!(MAX_PROOF < LIMIT as usize && MAX_CIRCUIT < MAX_PROOF);
 
 /// What was read, and where.
 pub struct Input {

@@ -365,7 +365,8 @@ fn a_new_page_under_the_log() {
         .says("slots 2\nready 0\ndraws 1\nlog 1\npage present\nempty: stock more\n");
     let old = folder.wv("shelf status old --log log");
     old.unwanted("old is from before a new page was begun under log");
-    let lines = "slots 3\nready 2\ndraws 1\nlog 1\npage replaced: a new page was begun\n";
+    let lines =
+        "slots 3\nready 2\ndraws 1\nlog 1\npage replaced: from before a new page was begun\n";
     assert_eq!(old.text(), lines);
     folder
         .wv("shelf stock old --log log --fresh 1")

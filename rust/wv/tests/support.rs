@@ -7,6 +7,7 @@ use common::{ended, words, Ended, Folder};
 use std::fs;
 use std::thread;
 use std::time::{Duration, Instant};
+use wivulameno::store::Trouble;
 use wivulameno::Shelf;
 
 const STATUS: &str = "shelf status page --log log";
@@ -117,7 +118,8 @@ fn a_log_that_was_set_back() {
     folder.wv(STOCK).refused(15, &set_back);
     folder.write("page", &old);
     folder.wv(PROVE).refused(15, &set_back);
-    let lines = "slots 3\nready 3\ndraws 0\nlog 0\npage unusable: the log was set back\n";
+    let lines =
+        "slots 3\nready 3\ndraws 0\nlog 0\npage unusable: the log says that it was set back\n";
     stands(&folder, lines, |ended| ended.refused(15, &set_back));
     fs::remove_file(folder.path("page")).unwrap();
     folder
@@ -133,7 +135,7 @@ fn another_shelfs_log() {
         folder.wv(&line).says("");
     }
     let told = "page and log belong to different shelves";
-    let lines = "slots 20\nready 0\ndraws 0\nlog 0\npage foreign: the log is another shelf's\n";
+    let lines = "slots 20\nready 0\ndraws 0\nlog 0\npage foreign: page and log belong to different shelves\n";
     stands(&folder, lines, |ended| ended.unwanted(told));
     folder.wv(PROVE).unwanted(told);
     folder.wv(STOCK).unwanted(told);
@@ -147,7 +149,8 @@ fn a_page_changed_by_other_hands() {
     page[12 + 2] ^= 1;
     folder.write("page", &page);
     let told = "page is damaged or was changed by other hands: put a good page back";
-    let lines = "slots 3\nready 3\ndraws 0\nlog 0\npage unknown: the log has not seen it\n";
+    let lines =
+        "slots 3\nready 3\ndraws 0\nlog 0\npage unknown: the log has never seen this page\n";
     stands(&folder, lines, |ended| ended.unwanted(told));
     folder.wv(PROVE).unwanted(told);
     folder.write("page", &page[1..]);
@@ -273,11 +276,22 @@ fn circuits_for_programs() {
     );
 }
 
+/// The shelf, held by this process. A test beside this one can have a child that
+/// has not let go of an earlier one yet.
+fn held(folder: &Folder) -> Shelf {
+    loop {
+        match Shelf::open(folder.path("page"), folder.path("log")) {
+            Err(Trouble::Busy) => thread::sleep(Duration::from_millis(1)),
+            opened => return opened.expect("a shelf"),
+        }
+    }
+}
+
 /// Exit status 3, and nothing is changed.
 #[test]
 fn a_shelf_that_is_open_elsewhere() {
     let folder = Folder::with_shelf("busy");
-    let shelf = Shelf::open(folder.path("page"), folder.path("log")).expect("a shelf");
+    let shelf = held(&folder);
     let before = folder.files();
     folder.wv(PROVE).busy();
     folder.wv(STOCK).busy();
@@ -306,7 +320,7 @@ fn proved_line(folder: &Folder) -> String {
 fn waiting_for_a_shelf() {
     let folder = Folder::with_shelf("waiting");
     for line in [PROVE, STOCK] {
-        let shelf = Shelf::open(folder.path("page"), folder.path("log")).expect("a shelf");
+        let shelf = held(&folder);
         let start = Instant::now();
         let holder = thread::spawn(move || {
             thread::sleep(Duration::from_millis(300));
@@ -353,7 +367,7 @@ mod only_reads {
     #[test]
     fn beside_a_host() {
         let folder = Folder::with_shelf("status_beside");
-        let shelf = Shelf::open(folder.path("page"), folder.path("log")).expect("a shelf");
+        let shelf = held(&folder);
         let before = marks(&folder);
         thread::sleep(Duration::from_millis(20));
         folder

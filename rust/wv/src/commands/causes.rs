@@ -1,10 +1,8 @@
 //! Which argument a refusal is about.
 
 use crate::names::counted;
+use wivulameno::limits::{MAX_INSTANCES, MAX_MESSAGE};
 use wivulameno::proof::Counts;
-
-/// The longest message.
-pub const MESSAGE: usize = 4096;
 
 /// Bits that were packed into bytes, one of them for each input or output of a
 /// circuit.
@@ -12,13 +10,13 @@ pub struct Packed<'a> {
     /// What it is called in a message.
     pub name: String,
     pub bytes: &'a [u8],
-    pub bits: usize,
+    pub bits: u32,
 }
 
 impl Packed<'_> {
     /// What is wrong with its length.
     pub fn length(&self) -> Option<String> {
-        let asked = self.bits.div_ceil(8);
+        let asked = self.bits.div_ceil(8) as usize;
         let found = counted(self.bytes.len() as u64, "byte");
         let text = format!("{} has {found}, the circuit asks for {asked}", self.name);
         (self.bytes.len() != asked).then_some(text)
@@ -37,14 +35,14 @@ impl Packed<'_> {
 /// What is wrong with a message's length.
 pub fn message(name: &str, message: &[u8]) -> Option<String> {
     let len = message.len();
-    (len > MESSAGE).then(|| format!("{name} has {len} bytes, at most {MESSAGE}"))
+    (len > MAX_MESSAGE).then(|| format!("{name} has {len} bytes, at most {MAX_MESSAGE}"))
 }
 
 /// What is wrong with the numbers of a proof.
 pub fn counts(counts: Counts) -> Option<String> {
     let Counts { m, tau, n } = counts;
-    if !(2..=512).contains(&m) {
-        return Some(format!("--instances {m}: 2 to 512"));
+    if !(2..=MAX_INSTANCES).contains(&m) {
+        return Some(format!("--instances {m}: 2 to {MAX_INSTANCES}"));
     }
     if !(1..m).contains(&tau) {
         return Some(format!("--chosen {tau}: 1 to {}", m - 1));

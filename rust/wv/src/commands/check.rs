@@ -58,7 +58,7 @@ fn check(args: &Args, report: &mut Report) -> Result<(), Failure> {
     };
     let counts = claim.holds()?;
     let Counts { m, tau, n } = counts;
-    let bits = soundness(counts);
+    let bits = counts.soundness_bits().expect("legal counts");
     let shown = shown_bits(bits);
     for (key, number) in [("m", m), ("tau", tau), ("n", n)] {
         report.set(key, number);
@@ -99,7 +99,7 @@ impl Claim {
         drop(progress);
         let failure = |refusal| Failure::Refused(refusal, self.cause(refusal));
         answer.map_err(failure)?;
-        Ok(counts_of(&self.proof.bytes))
+        Ok(Counts::of_proof(&self.proof.bytes).expect("an accepted proof has a header"))
     }
 
     /// What is likely to be the reason.
@@ -131,23 +131,7 @@ impl Claim {
     }
 }
 
-/// The soundness of legal counts, in bits.
-pub fn soundness(counts: Counts) -> f64 {
-    let Counts { m, tau, n } = counts;
-    crate::soundness::bits(m, tau, n)
-}
-
 /// Bits with one digit after the point, rounded down.
 pub fn shown_bits(bits: f64) -> String {
     format!("{:.1}", (bits * 10.0).floor() / 10.0)
-}
-
-/// The numbers in the header of an accepted proof.
-fn counts_of(proof: &[u8]) -> Counts {
-    let number = |place: usize| u16::from_le_bytes([proof[place], proof[place + 1]]).into();
-    Counts {
-        m: number(0),
-        tau: number(2),
-        n: proof[4].into(),
-    }
 }

@@ -8,7 +8,8 @@ use crate::input::{to_hex, Input};
 use crate::output::{Taken, Target};
 use crate::report::Report;
 use std::ffi::OsStr;
-use wivulameno::{circuit, Refusal};
+use wivulameno::circuit::{self, Sizes};
+use wivulameno::Refusal;
 
 pub const CIRCUIT: Command = Command {
     name: "circuit",
@@ -30,25 +31,26 @@ circuit is refused with 1 to 5.
 
 fn sizes(args: &Args, report: &mut Report) -> Result<(), Failure> {
     let circuit = Circuit::read(args, args.place(0))?;
-    let [inputs, outputs, gates, ands] = circuit.sizes;
-    report.number("inputs", "inputs", inputs);
-    report.number("outputs", "outputs", outputs);
-    report.number("gates", "gates", gates);
-    report.number("AND gates", "ands", ands);
+    let sizes = circuit.sizes;
+    report.number("inputs", "inputs", sizes.inputs);
+    report.number("outputs", "outputs", sizes.outputs);
+    report.number("gates", "gates", sizes.gates);
+    report.number("AND gates", "ands", sizes.ands);
     Ok(())
 }
 
 /// A circuit that the library reads.
 pub struct Circuit {
     input: Input,
-    sizes: [u32; 4],
+    /// How large it is.
+    pub sizes: Sizes,
 }
 
 impl Circuit {
     /// Refused with 1 to 5.
     pub fn read(args: &Args, value: &OsStr) -> Result<Circuit, Failure> {
         let input = args.input(value)?;
-        let sizes = circuit::read(&input.bytes);
+        let sizes = circuit::sizes(&input.bytes);
         let cause = || input.name_or("the typed circuit").to_string();
         let sizes = sizes.map_err(|refusal| Failure::Refused(refusal, cause()))?;
         Ok(Circuit { input, sizes })
@@ -64,7 +66,7 @@ impl Circuit {
         Packed {
             name: input.titled("the witness"),
             bytes: &input.bytes,
-            bits: self.sizes[0] as usize,
+            bits: self.sizes.inputs,
         }
     }
 
@@ -73,13 +75,13 @@ impl Circuit {
         Packed {
             name,
             bytes,
-            bits: self.sizes[1] as usize,
+            bits: self.sizes.outputs,
         }
     }
 
     /// What the circuit gives for a witness.
     pub fn outputs(&self, witness: &Input) -> Result<Vec<u8>, Failure> {
-        let mut y = vec![0; self.sizes[1].div_ceil(8) as usize];
+        let mut y = vec![0; self.sizes.y_len()];
         let cause = |refusal| {
             let witness = self.witness(witness);
             let cause = match refusal {

@@ -40,7 +40,7 @@ impl ShelfFiles {
             None => Ok(files),
             Some((what, _)) => {
                 let name = shown(&files.log);
-                let text = format!("--log {name} is {what}: the log needs a file of its own");
+                let text = format!("--log {name} is {what}: page and log must be two files");
                 Err(Failure::Usage(text))
             }
         }

@@ -1,7 +1,7 @@
 //! Proofs, made with a root from a shelf.
 
 use super::causes;
-use super::check::{shown_bits, soundness, BITS};
+use super::check::{shown_bits, BITS};
 use super::circuit::Circuit;
 use super::files::ShelfFiles;
 use super::Command;
@@ -12,11 +12,8 @@ use crate::input::{to_hex, Input};
 use crate::output::{Taken, Target};
 use crate::progress::Progress;
 use crate::report::Report;
-use wivulameno::proof::{self, Counts, Statement};
+use wivulameno::proof::{self, longest_proof, Counts, Statement};
 use wivulameno::Refusal;
-
-/// As long as any proof can be.
-const LONGEST: usize = 1 << 20;
 
 pub const PROVE: Command = Command {
     name: "prove",
@@ -155,6 +152,12 @@ impl Wish {
         proof::prove(self.statement(), &self.witness.bytes, root, counts, proof)
     }
 
+    /// Room for a proof; none for counts that are out of the limits.
+    fn room(&self, counts: Counts) -> Vec<u8> {
+        let len = longest_proof(self.circuit.sizes, counts);
+        vec![0; len.unwrap_or(0)]
+    }
+
     /// Is this refused with any root? Asks the library twice, with a root of
     /// zeros and nothing kept: once with no room for a proof, which is refused
     /// with 6 when all that is tested before is good, and once with the least
@@ -167,8 +170,7 @@ impl Wish {
             answer => return answer.map(|_| ()).map_err(failure),
         }
         let least = Counts { m: 2, tau: 1, n: 2 };
-        let mut dropped = vec![0; LONGEST];
-        let answer = self.proved(&root, least, &mut dropped);
+        let answer = self.proved(&root, least, &mut self.room(least));
         answer.map(|_| ()).map_err(failure)
     }
 
@@ -197,8 +199,8 @@ impl Wish {
     /// Says so if a buyer will not be content with these counts.
     fn warn(&self) {
         let Counts { m, tau, n } = self.counts;
-        let bits = soundness(self.counts);
-        if bits < BITS {
+        let bits = self.counts.soundness_bits();
+        if let Some(bits) = bits.filter(|bits| *bits < BITS) {
             let bits = shown_bits(bits);
             tell(&format!(
                 "warning: M {m}, tau {tau}, n {n} have {bits} bits of soundness: a buyer's \
@@ -210,7 +212,7 @@ impl Wish {
     fn proof(&self, root: &[u8; 16]) -> Result<Vec<u8>, Failure> {
         let Counts { m, tau, n } = self.counts;
         let _progress = Progress::start(&format!("proving, M {m}, tau {tau}, n {n}"));
-        let mut proof = vec![0; LONGEST];
+        let mut proof = self.room(self.counts);
         let len = self.proved(root, self.counts, &mut proof);
         let failure = |refusal| Failure::Refused(refusal, self.cause(refusal));
         proof.truncate(len.map_err(failure)?);

@@ -7,6 +7,7 @@ use crate::failure::Failure;
 use crate::fresh;
 use crate::names::counted;
 use crate::report::Report;
+use wivulameno::limits::{MAX_SLOTS, ROOT_LEN};
 use wivulameno::store::{Standing, Status, Trouble};
 use wivulameno::Refusal;
 
@@ -37,11 +38,13 @@ fn new(args: &Args, _: &mut Report) -> Result<(), Failure> {
     let files = ShelfFiles::of(args, args.place(0))?;
     args.needed("slots")?;
     let slots = args.number("slots")?.expect("it is there");
-    if !(1..=255).contains(&slots) {
-        let text = format!("--slots {slots}: a shelf has 1 to 255 slots");
-        return Err(Failure::Usage(text));
+    match u16::try_from(slots) {
+        Ok(slots @ 1..=MAX_SLOTS) => files.begin(slots, args.flag("lost")),
+        _ => {
+            let text = format!("--slots {slots}: a shelf has 1 to {MAX_SLOTS} slots");
+            Err(Failure::Usage(text))
+        }
     }
-    files.begin(slots as u16, args.flag("lost"))
 }
 
 pub const STOCK: Command = Command {
@@ -75,10 +78,10 @@ fn stock(args: &Args, report: &mut Report) -> Result<(), Failure> {
     let files = ShelfFiles::of(args, args.place(0))?;
     match (args.number("fresh")?, args.secret("root")?) {
         (Some(count), None) => stock_all(&files, count, fresh::root, report),
-        (None, Some(root)) if root.bytes.len() != 16 => {
+        (None, Some(root)) if root.bytes.len() != ROOT_LEN => {
             let name = root.titled("--root");
             let found = counted(root.bytes.len() as u64, "byte");
-            let cause = format!("{name} has {found}, a root has 16");
+            let cause = format!("{name} has {found}, a root has {ROOT_LEN}");
             Err(Failure::Refused(Refusal::Length, cause))
         }
         (None, Some(root)) => stock_all(&files, 1, || Ok(root.bytes.clone()), report),
@@ -190,10 +193,22 @@ fn standing(standing: Standing) -> (&'static str, String) {
             let number = counted(draws, "draw");
             ("ahead", format!("ahead by {number}: the log was set back"))
         }
-        Standing::SetBack => ("set_back", "unusable: the log was set back".into()),
-        Standing::Replaced => ("replaced", "replaced: a new page was begun".into()),
-        Standing::Foreign => ("foreign", "foreign: the log is another shelf's".into()),
-        Standing::Unknown => ("unknown", "unknown: the log has not seen it".into()),
+        Standing::SetBack => (
+            "set_back",
+            "unusable: the log says that it was set back".into(),
+        ),
+        Standing::Replaced => (
+            "replaced",
+            "replaced: from before a new page was begun".into(),
+        ),
+        Standing::Foreign => (
+            "foreign",
+            "foreign: page and log belong to different shelves".into(),
+        ),
+        Standing::Unknown => (
+            "unknown",
+            "unknown: the log has never seen this page".into(),
+        ),
         other => ("other", other.to_string()),
     }
 }

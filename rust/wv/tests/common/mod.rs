@@ -40,7 +40,7 @@ impl Folder {
     /// An empty folder.
     pub fn new(name: &str) -> Folder {
         let folder = Path::new(env!("CARGO_TARGET_TMPDIR")).join(name);
-        let _ = fs::remove_dir_all(&folder);
+        remove(&folder);
         fs::create_dir_all(&folder).expect("a folder");
         Folder(folder)
     }
@@ -140,8 +140,24 @@ impl Folder {
 
 impl Drop for Folder {
     fn drop(&mut self) {
-        let _ = fs::remove_dir_all(&self.0);
+        remove(&self.0);
     }
+}
+
+/// Removes a folder, also if a test has left it or a folder in it shut.
+fn remove(folder: &Path) {
+    #[cfg(unix)]
+    {
+        use std::os::unix::fs::PermissionsExt;
+        let open = |path: &Path| fs::set_permissions(path, fs::Permissions::from_mode(0o755));
+        let _ = open(folder);
+        for entry in fs::read_dir(folder).into_iter().flatten().flatten() {
+            if entry.file_type().is_ok_and(|found| found.is_dir()) {
+                let _ = open(&entry.path());
+            }
+        }
+    }
+    let _ = fs::remove_dir_all(folder);
 }
 
 /// Runs a command to its end.
