@@ -21,7 +21,7 @@ use Rattle.circuit.specs.declared.ReadAnswer.the-variants as readAnswer
 use Rattle.circuit.proofs.Answered.{fell, held}
 use Rattle.mpc.specs.Operations.{holds}
 use Rattle.mpc.specs.Lent.{Known}
-use Rattle.mpc.proofs.Opened.{opened-refused, opened-legal, circuit-outputs}
+use Rattle.mpc.proofs.Opened.{sized, opened-refused, opened-legal, circuit-outputs}
 use Rattle.instance.specs.Worked.{Tree}
 use Rattle.proof.specs.Protocol.{challenged}
 use Rattle.proof.specs.File.{headerM, headerTau, headerN, headerHstar, goodHeader}
@@ -30,7 +30,7 @@ use Rattle.checking.specs.Steps.{Headed}
 use Rattle.checking.proofs.Headers.{headed-parties}
 
 -- a legal file; b2 is the test of the lengths of y and the message
-module _ (s : List ℕ) (i o g a : ℕ) (k : Known s i o g a) (y message proof : List ℕ) (b1 b2 : Bool) (e1 : b1 ≡ eqb (length y) (oct o))
+module _ (s : List ℕ) (i o g a : ℕ) (k : Known s (sized i o g a)) (y message proof : List ℕ) (b1 b2 : Bool) (e1 : b1 ≡ eqb (length y) (oct o))
     (e2 : b2 ≡ b1 && leb (length message) 4096) where
   -- in the circuit's number of outputs
   lengths-right : b2 ≡ holds (length (circuitOf s .outputs)) y && leb (length message) 4096

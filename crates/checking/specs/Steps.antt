@@ -7,6 +7,7 @@ use Prim.Native.Nat.{ℕ, _≤_}
 use lib.ListN.{length}
 use Rattle.circuit.specs.Circuit.{Circuit}
 use Rattle.circuit.specs.File.{circuitOf}
+use Rattle.seeds.specs.Operations.{maxInstances, maxMessage}
 use Rattle.instance.specs.Instance.{Asked}
 use Rattle.instance.specs.Opened.{stretchCommitments, stretchOnline, stretchUnused, stretchOutput}
 use Rattle.proof.specs.Protocol.{hstarOf}
@@ -29,7 +30,7 @@ recomputed c M n ask proof =
 
 -- the bytes of a challenge to M instances, and a proof of the length that it implies
 pub record Sized (s : List ℕ) (M n : ℕ) (choices proof : List ℕ) : Type 0 where
-  pub few : M ≤ 512
+  pub few : M ≤ maxInstances
   pub asking : Asking n choices
   pub size : length proof ≡ proofBytes (circuitOf s) M n (asksIn n choices)
 
@@ -39,4 +40,4 @@ pub record Headed (M tau n : ℕ) (message proof : List ℕ) : Type 0 where
   pub is-M : M ≡ headerM proof
   pub is-tau : tau ≡ headerTau proof
   pub is-n : n ≡ headerN proof
-  pub short : length message ≤ 4096
+  pub short : length message ≤ maxMessage

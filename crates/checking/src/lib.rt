@@ -15,11 +15,14 @@ mod unused_bits;
 mod verifying;
 
 use circuit::ReadAnswer;
+use circuit::Sizes;
 use circuit::reading::read;
 use mpc::tests::both;
 use mpc::tests::holds;
+use proof::HEADER_BYTES;
 use proof::asking::proof_bytes;
 use refusal::Refusal;
+use seeds::MAX_MESSAGE;
 use seeds::challenge;
 use seeds::counts;
 use unused_bits::all_unused;
@@ -35,7 +38,7 @@ pub enum Answer {
 fn good_header(proof: &[u8]) -> bool
     ensures { λ r. ⌜ r ≡ goodHeader (now (proof .entry)) ⌝ }
 {
-    if proof.len() < 38 {
+    if proof.len() < HEADER_BYTES {
         return false;
     }
     let m = bits::read_u16(proof, 0) as u32;
@@ -47,10 +50,7 @@ fn good_header(proof: &[u8]) -> bool
 // Checks a proof with a good header: the challenge is drawn from the header's h*.
 fn check_in(
     s: &[u8],
-    inputs: usize,
-    outputs: usize,
-    gates: usize,
-    ands: usize,
+    z: Sizes,
     m: u32,
     tau: u32,
     n: u32,
@@ -62,35 +62,21 @@ fn check_in(
     tapes: &mut [u8],
     memory: &mut [u8],
 ) -> Answer
-    requires { ⌜ Lent (now s) inputs outputs gates ands n h (now tapes) (now memory) × (Headed m tau n (now message) (now proof) × (length (now choices) ≡ 3 * tau)) ⌝ }
+    requires { ⌜ Lent (now s) z n h (now tapes) (now memory) × (Headed m tau n (now message) (now proof) × (length (now choices) ≡ 3 * tau)) ⌝ }
     ensures { λ r. ⌜ paper r ≡ checkProof (circuitOf (now (s .entry))) (now (y .entry)) (now (proof .entry)) m n (challenged m tau n (headerHstar (now (proof .entry))) (now (message .entry))) ⌝ }
 {
-    let _ = challenge(m, tau, n, &proof[6..38], message, choices);
-    if proof.len() != proof_bytes(s, inputs, outputs, gates, ands, m, n, h, choices) {
+    let _ = challenge(m, tau, n, &proof[6..HEADER_BYTES], message, choices);
+    if proof.len() != proof_bytes(s, z, m, n, h, choices) {
         return Answer::Refused(Refusal::ProofLength);
     }
-    if !all_unused(s, inputs, outputs, gates, ands, m, n, h, choices, proof) {
+    if !all_unused(s, z, m, n, h, choices, proof) {
         return Answer::Refused(Refusal::UnusedBits);
     }
-    let v = recompute(
-        s,
-        inputs,
-        outputs,
-        gates,
-        ands,
-        m,
-        n,
-        h,
-        choices,
-        y,
-        proof,
-        tapes,
-        memory,
-    );
+    let v = recompute(s, z, m, n, h, choices, y, proof, tapes, memory);
     if !v.agrees {
         return Answer::Refused(Refusal::Output);
     }
-    if !bits::same(&v.hstar, &proof[6..38]) {
+    if !bits::same(&v.hstar, &proof[6..HEADER_BYTES]) {
         return Answer::Refused(Refusal::Digest);
     }
     Answer::Accepted
@@ -99,10 +85,7 @@ fn check_in(
 // The same with a work memory of its own.
 fn check_with(
     s: &[u8],
-    inputs: usize,
-    outputs: usize,
-    gates: usize,
-    ands: usize,
+    z: Sizes,
     m: u32,
     tau: u32,
     n: u32,
@@ -111,9 +94,12 @@ fn check_with(
     message: &[u8],
     proof: &[u8],
 ) -> Answer
-    requires { ⌜ Known (now s) inputs outputs gates ands × (Tree n h × Headed m tau n (now message) (now proof)) ⌝ }
+    requires { ⌜ Known (now s) z × (Tree n h × Headed m tau n (now message) (now proof)) ⌝ }
     ensures { λ r. ⌜ paper r ≡ checkProof (circuitOf (now (s .entry))) (now (y .entry)) (now (proof .entry)) m n (challenged m tau n (headerHstar (now (proof .entry))) (now (message .entry))) ⌝ }
 {
+    let inputs = z.inputs;
+    let gates = z.gates;
+    let ands = z.ands;
     let mut choices = [0u8; 1533];
     let mut tapes = [0u8; 17408];
     let mut memory = [0u8; 299008];
@@ -122,10 +108,7 @@ fn check_with(
     let w = 64 * (inputs + gates) + 4096;
     check_in(
         s,
-        inputs,
-        outputs,
-        gates,
-        ands,
+        z,
         m,
         tau,
         n,
@@ -140,23 +123,14 @@ fn check_with(
 }
 
 // Tests y, the message and the header, and checks a proof of a legal circuit.
-fn check_lent(
-    s: &[u8],
-    inputs: usize,
-    outputs: usize,
-    gates: usize,
-    ands: usize,
-    y: &[u8],
-    message: &[u8],
-    proof: &[u8],
-) -> Answer
-    requires { ⌜ Known (now s) inputs outputs gates ands ⌝ }
+fn check_lent(s: &[u8], z: Sizes, y: &[u8], message: &[u8], proof: &[u8]) -> Answer
+    requires { ⌜ Known (now s) z ⌝ }
     ensures { λ r. ⌜ paper r ≡ checkLegal (now (y .entry)) (now (message .entry)) (now (proof .entry)) (circuitOf (now (s .entry))) ⌝ }
 {
-    if !both(holds(y, outputs), message.len() <= 4096) {
+    if !both(holds(y, z.outputs), message.len() <= MAX_MESSAGE) {
         return Answer::Refused(Refusal::BufferLength);
     }
-    if !bits::unused_zero(y, outputs) {
+    if !bits::unused_zero(y, z.outputs) {
         return Answer::Refused(Refusal::UnusedBits);
     }
     if !good_header(proof) {
@@ -166,20 +140,7 @@ fn check_lent(
     let tau = bits::read_u16(proof, 2) as u32;
     let n = proof[4] as u32;
     let h = parties::height(n);
-    check_with(
-        s,
-        inputs,
-        outputs,
-        gates,
-        ands,
-        m,
-        tau,
-        n,
-        h,
-        y,
-        message,
-        proof,
-    )
+    check_with(s, z, m, tau, n, h, y, message, proof)
 }
 
 // Checks a proof that the circuit gives y on some witness, under the message.
@@ -189,15 +150,6 @@ pub fn check(s: &[u8], y: &[u8], message: &[u8], proof: &[u8]) -> Answer
     let answer = read(s);
     match answer {
         ReadAnswer::Refused(k) => Answer::Refused(k),
-        ReadAnswer::Legal(z) => check_lent(
-            s,
-            z.inputs,
-            z.outputs,
-            z.gates,
-            z.ands,
-            y,
-            message,
-            proof,
-        ),
+        ReadAnswer::Legal(z) => check_lent(s, z, y, message, proof),
     }
 }

@@ -9,55 +9,44 @@ ghost use Rattle.instance.specs.Opened.{stretchUnused};
 ghost use Rattle.instance.specs.Worked.{Tree};
 ghost use Rattle.proof.specs.Asks.{askOf, asksIn};
 ghost use Rattle.checking.specs.Steps.{allUnused, Sized};
+use circuit::Sizes;
 use instance::checking::unused;
 use mpc::tests::both;
+use proof::HEADER_BYTES;
 use proof::asking::asked;
 use proof::asking::stretch_bytes;
 
 // Whether the unused bits of the stretch of an instance, of which p is asked, are zero.
-pub(crate) fn stretch_unused(
-    s: &[u8],
-    inputs: usize,
-    outputs: usize,
-    gates: usize,
-    ands: usize,
-    n: u32,
-    h: u32,
-    p: u32,
-    part: &[u8],
-) -> bool
-    requires { ⌜ Known (now s) inputs outputs gates ands × (Tree n h × ((p ≤ n) × (length (now part) ≡ stretchBytes (circuitOf (now s)) n (askOf n p)))) ⌝ }
+pub(crate) fn stretch_unused(s: &[u8], z: Sizes, n: u32, h: u32, p: u32, part: &[u8]) -> bool
+    requires { ⌜ Known (now s) z × (Tree n h × ((p ≤ n) × (length (now part) ≡ stretchBytes (circuitOf (now s)) n (askOf n p)))) ⌝ }
     ensures { λ r. ⌜ r ≡ stretchUnused (circuitOf (now (s .entry))) n (now (part .entry)) (askOf n p) ⌝ }
 {
     if p == n {
         return true;
     }
-    unused(s, inputs, outputs, gates, ands, n, h, p, part)
+    unused(s, z, n, h, p, part)
 }
 
 // Whether the unused bits of all stretches are zero.
 pub(crate) fn all_unused(
     s: &[u8],
-    inputs: usize,
-    outputs: usize,
-    gates: usize,
-    ands: usize,
+    z: Sizes,
     m: u32,
     n: u32,
     h: u32,
     choices: &[u8],
     proof: &[u8],
 ) -> bool
-    requires { ⌜ Known (now s) inputs outputs gates ands × (Tree n h × Sized (now s) m n (now choices) (now proof)) ⌝ }
+    requires { ⌜ Known (now s) z × (Tree n h × Sized (now s) m n (now choices) (now proof)) ⌝ }
     ensures { λ r. ⌜ r ≡ allUnused (circuitOf (now (s .entry))) m n (asksIn n (now (choices .entry))) (now (proof .entry)) ⌝ }
 {
     let mut good = true;
-    let mut at = 38;
+    let mut at = HEADER_BYTES;
     let mut j = 0;
     while j < m {
         let p = asked(choices, n, j);
-        let end = at + stretch_bytes(s, inputs, outputs, gates, ands, n, h, p);
-        let fine = stretch_unused(s, inputs, outputs, gates, ands, n, h, p, &proof[at..end]);
+        let end = at + stretch_bytes(s, z, n, h, p);
+        let fine = stretch_unused(s, z, n, h, p, &proof[at..end]);
         good = both(good, fine);
         at = end;
         j += 1;

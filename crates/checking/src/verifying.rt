@@ -10,11 +10,14 @@ ghost use Rattle.instance.specs.Worked.{Lent};
 ghost use Rattle.proof.specs.Asks.{askOf, asksIn};
 ghost use Rattle.checking.specs.Steps.{allUnused, allOutputs, recomputed, Sized};
 use bits::copy;
+use circuit::Sizes;
+use instance::Instance;
 use instance::Replayed;
 use instance::checking::reopen;
 use instance::checking::replay;
 use keccak::SHA3_256_RATE;
 use mpc::tests::both;
+use proof::HEADER_BYTES;
 use proof::asking::asked;
 use proof::asking::stretch_bytes;
 use seeds::digest::finish;
@@ -31,36 +34,20 @@ pub struct Verdict {
 // Checks instance j from its stretch: its digests, and whether its replay gives y.
 pub(crate) fn check_instance(
     s: &[u8],
-    inputs: usize,
-    outputs: usize,
-    gates: usize,
-    ands: usize,
-    j: u32,
-    n: u32,
-    h: u32,
+    z: Sizes,
+    inst: Instance,
     p: u32,
     y: &[u8],
     part: &[u8],
     tapes: &mut [u8],
     memory: &mut [u8],
 ) -> Replayed
-    requires { ⌜ Lent (now s) inputs outputs gates ands n h (now tapes) (now memory) × ((p ≤ n) × ((length (now part) ≡ stretchBytes (circuitOf (now s)) n (askOf n p)) × (stretchUnused (circuitOf (now s)) n (now part) (askOf n p) ≡ true))) ⌝ }
-    ensures { λ r. ⌜ (r .agrees ≡ stretchOutput (circuitOf (now (s .entry))) n j (now (y .entry)) (now (part .entry)) (askOf n p)) × ((r .commitments ≡ stretchCommitments (circuitOf (now (s .entry))) n j (now (part .entry)) (askOf n p)) × (r .online ≡ stretchOnline (circuitOf (now (s .entry))) n j (now (part .entry)) (askOf n p))) ⌝ }
+    requires { ⌜ Lent (now s) z (inst .parties) (inst .height) (now tapes) (now memory) × ((p ≤ inst .parties) × ((length (now part) ≡ stretchBytes (circuitOf (now s)) (inst .parties) (askOf (inst .parties) p)) × (stretchUnused (circuitOf (now s)) (inst .parties) (now part) (askOf (inst .parties) p) ≡ true))) ⌝ }
+    ensures { λ r. ⌜ (r .agrees ≡ stretchOutput (circuitOf (now (s .entry))) (inst .parties) (inst .number) (now (y .entry)) (now (part .entry)) (askOf (inst .parties) p)) × ((r .commitments ≡ stretchCommitments (circuitOf (now (s .entry))) (inst .parties) (inst .number) (now (part .entry)) (askOf (inst .parties) p)) × (r .online ≡ stretchOnline (circuitOf (now (s .entry))) (inst .parties) (inst .number) (now (part .entry)) (askOf (inst .parties) p))) ⌝ }
 {
+    let n = inst.parties;
     if p == n {
-        let commitments = reopen(
-            s,
-            inputs,
-            outputs,
-            gates,
-            ands,
-            j,
-            n,
-            h,
-            &part[..16],
-            tapes,
-            memory,
-        );
+        let commitments = reopen(s, z, inst, &part[..16], tapes, memory);
         let mut online = [0u8; 32];
         copy(&part[16..], &mut online);
         return Replayed {
@@ -69,30 +56,13 @@ pub(crate) fn check_instance(
             online,
         };
     }
-    replay(
-        s,
-        inputs,
-        outputs,
-        gates,
-        ands,
-        j,
-        n,
-        h,
-        p,
-        y,
-        part,
-        tapes,
-        memory,
-    )
+    replay(s, z, inst, p, y, part, tapes, memory)
 }
 
 // Checks every instance from its stretch, and recomputes h* from their digests.
 pub(crate) fn recompute(
     s: &[u8],
-    inputs: usize,
-    outputs: usize,
-    gates: usize,
-    ands: usize,
+    z: Sizes,
     m: u32,
     n: u32,
     h: u32,
@@ -102,32 +72,23 @@ pub(crate) fn recompute(
     tapes: &mut [u8],
     memory: &mut [u8],
 ) -> Verdict
-    requires { ⌜ Lent (now s) inputs outputs gates ands n h (now tapes) (now memory) × (Sized (now s) m n (now choices) (now proof) × (allUnused (circuitOf (now s)) m n (asksIn n (now choices)) (now proof) ≡ true)) ⌝ }
+    requires { ⌜ Lent (now s) z n h (now tapes) (now memory) × (Sized (now s) m n (now choices) (now proof) × (allUnused (circuitOf (now s)) m n (asksIn n (now choices)) (now proof) ≡ true)) ⌝ }
     ensures { λ r. ⌜ (r .agrees ≡ allOutputs (circuitOf (now (s .entry))) m n (asksIn n (now (choices .entry))) (now (y .entry)) (now (proof .entry))) × (r .hstar ≡ recomputed (circuitOf (now (s .entry))) m n (asksIn n (now (choices .entry))) (now (proof .entry))) ⌝ }
 {
     let mut agrees = true;
     let mut all = start_all_commitments();
     let mut online = start_all_online();
-    let mut at = 38;
+    let mut at = HEADER_BYTES;
     let mut j = 0;
     while j < m {
         let p = asked(choices, n, j);
-        let end = at + stretch_bytes(s, inputs, outputs, gates, ands, n, h, p);
-        let r = check_instance(
-            s,
-            inputs,
-            outputs,
-            gates,
-            ands,
-            j,
-            n,
-            h,
-            p,
-            y,
-            &proof[at..end],
-            tapes,
-            memory,
-        );
+        let end = at + stretch_bytes(s, z, n, h, p);
+        let inst = Instance {
+            number: j,
+            parties: n,
+            height: h,
+        };
+        let r = check_instance(s, z, inst, p, y, &proof[at..end], tapes, memory);
         agrees = both(agrees, r.agrees);
         all = all.absorb(SHA3_256_RATE, &r.commitments);
         online = online.absorb(SHA3_256_RATE, &r.online);

@@ -8,6 +8,11 @@ use lib.ListN.{length}
 use Rattle.circuit.specs.File.{goodOutputs}
 use Rattle.circuit.specs.Records.{Laid, Chained}
 use Rattle.circuit.specs.Values.{wired}
+use Rattle.circuit.specs.declared.Sizes.{Sizes}
+
+-- the wires of a circuit: I + G
+abbrev pub wireCount : Sizes → ℕ
+wireCount z = z .inputs + z .gates
 
 -- the memory for W wires: "64(I + G) + 4,096 bytes or more"; n parties
 pub record Room (W n : ℕ) (m : List ℕ) : Type 0 where
@@ -24,18 +29,16 @@ pub record Fit (W n a b c t : ℕ) (m : List ℕ) : Type 0 where
   pub output : c < W
   pub order : t < W
 
--- the chain of g gates from h of the file s, with t AND gates before it
-pub record Ready (W n : ℕ) (s : List ℕ) (i o g h : ℕ) (m : List ℕ) : Type 0 where
-  pub memory : Room W n m
-  pub wires : W ≡ i + g
-  pub chained : Chained s i o g h
-  pub reads : wired s W g h
+-- the chain of the file s from h on, with the work memory for n parties
+pub record Ready (s : List ℕ) (z : Sizes) (h n : ℕ) (m : List ℕ) : Type 0 where
+  pub memory : Room (wireCount z) n m
+  pub chained : Chained s (z .inputs) (z .outputs) (z .gates) h
+  pub reads : wired s (wireCount z) (z .gates) h
 
--- the output wires of the file s, with A AND gates
-pub record Ended (W n A : ℕ) (s : List ℕ) (i o g : ℕ) (m y : List ℕ) : Type 0 where
-  pub memory : Room W n m
-  pub wires : W ≡ i + g
-  pub laid : Laid s i o g
-  pub ands : A ≤ W
-  pub outputs : goodOutputs s o ≡ true
+-- the output wires of the file s, with the work memory for n parties
+pub record Ended (s : List ℕ) (z : Sizes) (n : ℕ) (m y : List ℕ) : Type 0 where
+  pub memory : Room (wireCount z) n m
+  pub laid : Laid s (z .inputs) (z .outputs) (z .gates)
+  pub ands : z .ands ≤ wireCount z
+  pub outputs : goodOutputs s (z .outputs) ≡ true
   pub room : 4096 ≤ length y

@@ -1,13 +1,14 @@
 // The gates of a circuit in chain order, and then its output wires.
 ghost use mathlib.Core.Path.{_≡_};
-ghost use Prim.Native.Nat.{_+_, _≤_};
+ghost use Prim.Native.Nat.{_≤_};
 ghost use Rattle.circuit.specs.Circuit.{ands};
 ghost use Rattle.circuit.specs.Records.{Chained, gatesFrom, andOne};
 ghost use Rattle.engine.specs.Steps.{walked, spoken, outputValues};
-ghost use Rattle.engine.specs.Fits.{Ready, Ended};
+ghost use Rattle.engine.specs.Fits.{wireCount, Ready, Ended};
 use crate::gates::gate;
 use crate::gates::output;
 use circuit::Gate;
+use circuit::Sizes;
 use circuit::records::record;
 
 // 1 for an AND gate, 0 for another.
@@ -22,17 +23,11 @@ fn and_one(g: Gate) -> usize
 }
 
 // The AND gates among the first `cut` gates.
-pub fn ands_passed(
-    s: &[u8],
-    inputs: usize,
-    outputs: usize,
-    gates: usize,
-    head: usize,
-    cut: usize,
-) -> usize
-    requires { ⌜ Chained (now s) inputs outputs gates head × (cut ≤ gates) ⌝ }
+pub fn ands_passed(s: &[u8], z: Sizes, head: usize, cut: usize) -> usize
+    requires { ⌜ Chained (now s) (z .inputs) (z .outputs) (z .gates) head × (cut ≤ z .gates) ⌝ }
     ensures { λ r. ⌜ r ≡ ands (gatesFrom (now (s .entry)) cut head) ⌝ }
 {
+    let outputs = z.outputs;
     let mut count = 0;
     let mut left = cut;
     let mut slot = head;
@@ -49,20 +44,20 @@ pub fn ands_passed(
 // Runs the gates in chain order: n parties, p hidden (n for none), the corrections made or as they stand.
 pub fn walk(
     s: &[u8],
-    inputs: usize,
-    outputs: usize,
-    gates: usize,
+    z: Sizes,
     head: usize,
     n: usize,
     p: usize,
     correcting: bool,
     memory: &mut [u8],
 )
-    requires { ⌜ Ready (inputs + gates) n (now s) inputs outputs gates head (now memory) ⌝ }
-    ensures { λ _. ⌜ now (memory .exit) ≡ walked (inputs + gates) n p correcting (now (s .entry)) gates head 0 (now (memory .entry)) ⌝ }
+    requires { ⌜ Ready (now s) z head n (now memory) ⌝ }
+    ensures { λ _. ⌜ now (memory .exit) ≡ walked (wireCount z) n p correcting (now (s .entry)) (z .gates) head 0 (now (memory .entry)) ⌝ }
 {
-    let wires = inputs + gates;
-    let mut left = gates;
+    let inputs = z.inputs;
+    let outputs = z.outputs;
+    let wires = inputs + z.gates;
+    let mut left = z.gates;
     let mut slot = head;
     let mut t = 0;
     while 0 < left {
@@ -76,22 +71,14 @@ pub fn walk(
 }
 
 // Broadcasts the output masks, after the broadcasts of the AND gates, and gives the outputs' values at every 16th byte.
-pub fn speak(
-    s: &[u8],
-    inputs: usize,
-    outputs: usize,
-    gates: usize,
-    ands: usize,
-    n: usize,
-    p: usize,
-    memory: &mut [u8],
-    values: &mut [u8],
-)
-    requires { ⌜ Ended (inputs + gates) n ands (now s) inputs outputs gates (now memory) (now values) ⌝ }
-    ensures { λ _. ⌜ now (memory .exit) ≡ spoken (inputs + gates) n p ands (now (s .entry)) outputs (now (memory .entry)) ⌝ }
-    ensures { λ _. ⌜ now (values .exit) ≡ outputValues (inputs + gates) n p ands (now (s .entry)) outputs (now (memory .entry)) (now (values .entry)) ⌝ }
+pub fn speak(s: &[u8], z: Sizes, n: usize, p: usize, memory: &mut [u8], values: &mut [u8])
+    requires { ⌜ Ended (now s) z n (now memory) (now values) ⌝ }
+    ensures { λ _. ⌜ now (memory .exit) ≡ spoken (wireCount z) n p (z .ands) (now (s .entry)) (z .outputs) (now (memory .entry)) ⌝ }
+    ensures { λ _. ⌜ now (values .exit) ≡ outputValues (wireCount z) n p (z .ands) (now (s .entry)) (z .outputs) (now (memory .entry)) (now (values .entry)) ⌝ }
 {
-    let wires = inputs + gates;
+    let outputs = z.outputs;
+    let ands = z.ands;
+    let wires = z.inputs + z.gates;
     let mut j = 0;
     while j < outputs {
         let w = bits::read_u16(s, 8 + 2 * j) as usize;

@@ -19,7 +19,7 @@ use Rattle.parties.proofs.Counts.{sizes, count-no, height-small}
 use Rattle.circuit.specs.File.{circuitOf}
 use Rattle.mpc.specs.Tapes.{andsOf, withRow}
 use Rattle.mpc.specs.Lent.{Known, Parties}
-use Rattle.mpc.proofs.Opened.{circuit-inputs, circuit-outputs, circuit-ands, circuit-row}
+use Rattle.mpc.proofs.Opened.{sized, circuit-inputs, circuit-outputs, circuit-ands, circuit-row}
 use Rattle.seeds.specs.Tree.{openedBelow}
 use Rattle.instance.specs.Instance.{hiding, seedsOf, tapesOf}
 use Rattle.instance.specs.Stretch.{correctionBytes, stretchBytes, siblingsPart, correctionsPart, commitmentPart, maskedPart, rowPart}
@@ -60,7 +60,7 @@ sent-few true x y e = omega (arith, e)
 sent-few false x y e = omega (arith, e)
 
 -- the stretch of a chosen instance, of a legal file's circuit
-module _ (s : List ℕ) (i o g a : ℕ) (k : Known s i o g a) (n h p : ℕ) (tree : Tree n h) (part : List ℕ)
+module _ (s : List ℕ) (i o g a : ℕ) (k : Known s (sized i o g a)) (n h p : ℕ) (tree : Tree n h) (part : List ℕ)
     (size : length part ≡ stretchBytes (circuitOf s) n (hiding p)) (x : ℕ) (sent : x ≡ cond (eqb (suc p) n) 0 (oct a)) where
   -- the corrections in it
   pub sent-bytes : correctionBytes (circuitOf s) n p ≡ x
@@ -178,7 +178,7 @@ unfolding openedSeeds siblingsPart
 seeds-opened n h j p tree part x q = q ∙ ap (λ (y : ℕ). seedsOf n j (openedBelow j y 1 p (take (16 * y) part))) (tree .height)
 
 -- what is shown of it
-module _ (s : List ℕ) (i o g a : ℕ) (k : Known s i o g a) (n h j p : ℕ) (tree : Tree n h) (part : List ℕ)
+module _ (s : List ℕ) (i o g a : ℕ) (k : Known s (sized i o g a)) (n h j p : ℕ) (tree : Tree n h) (part : List ℕ)
     (size : length part ≡ stretchBytes (circuitOf s) n (hiding p)) where
   -- the tapes, with row p hidden
   pub tapes-shown : (len : ℕ) (seeds tapes z : List ℕ) → len ≡ oct (i + 2 * a) → p * len + len ≤ length tapes → seeds ≡ openedSeeds n j p part

@@ -17,7 +17,7 @@ use Rattle.parties.specs.Parties.{heightOf}
 use Rattle.circuit.specs.File.{circuitOf}
 use Rattle.engine.specs.Memory.{packed}
 use Rattle.mpc.specs.Lent.{Known, Parties}
-use Rattle.mpc.proofs.Opened.{circuit-inputs, circuit-outputs, circuit-ands, ands-low}
+use Rattle.mpc.proofs.Opened.{sized, circuit-inputs, circuit-outputs, circuit-ands, ands-low}
 use Rattle.seeds.specs.Derive.{commitmentOf}
 use Rattle.seeds.specs.Tree.{siblingsBelow}
 use Rattle.instance.specs.Instance.{hiding, masterSeeds, masterTapes, masterCorrections, masterRun, masterMasked, sentCorrections, stretchOf}
@@ -81,7 +81,7 @@ unfolding commitmentOf
 length-commitment j n p rows corrections = length-sha3-256 _
 
 -- an instance with p hidden; v bytes of corrections are sent
-module _ (s : List ℕ) (i o g a n h p v : ℕ) (k : Known s i o g a) (tree : Tree n h) (few : p < n) (sent : v ≡ cond (eqb (suc p) n) 0 (oct a)) where
+module _ (s : List ℕ) (i o g a n h p v : ℕ) (k : Known s (sized i o g a)) (tree : Tree n h) (few : p < n) (sent : v ≡ cond (eqb (suc p) n) 0 (oct a)) where
   -- its stretch has as many bytes as its five parts
   pub stretch-size : stretchBytes (circuitOf s) n (hiding p) ≡ 16 * h + v + 32 + oct i + oct (a + o)
   unfolding stretchBytes correctionBytes

@@ -27,6 +27,7 @@ use Rattle.instance.specs.Stretch.{stretchBytes, correctionsPart, commit
 use Rattle.instance.specs.Opened.{openedSeeds, openedCommitments, openedShowing, openedRun, stretchCommitments, stretchOnline, stretchOutput}
 use Rattle.instance.specs.Worked.{broughtIn, replayedGates, replayed, replayedValues, Tree}
 use Rattle.instance.proofs.Checks.{sent-bytes, commitment-is, masked-are, row-is}
+use Rattle.mpc.proofs.Opened.{sized}
 
 -- the first k of n bytes
 pub prefix-length : (k n : ℕ) → k ≤ n → length (take k (replicate {A = ℕ} n 0)) ≡ k
@@ -44,7 +45,7 @@ pub prefix-taken : (k m : ℕ) (z w : List ℕ) → length z ≡ m → k ≤ m �
 prefix-taken k m z w l h = sym (length-take-le k (z ++ w) (prefix-inside k m z w l h))
 
 -- the replay of a legal file's circuit in a work memory of z bytes
-module _ (s : List ℕ) (i o g a : ℕ) (k : Known s i o g a) (n p : ℕ) (parties : Parties n) (l : p < n) (tapes corr masked row : List ℕ)
+module _ (s : List ℕ) (i o g a : ℕ) (k : Known s (sized i o g a)) (n p : ℕ) (parties : Parties n) (l : p < n) (tapes corr masked row : List ℕ)
     (unused : unusedZero i masked ≡ true) (z : ℕ) (room : 64 * (i + g) + 4096 ≤ z) where
   -- what is shown
   abbrev shown : Showing
@@ -95,7 +96,7 @@ abbrev committed : (n j p : ℕ) → List ℕ → List ℕ → List ℕ → List
 committed n j p theirs seeds corr = flatten (tabulate n (λ i. cond (eqb i p) theirs (commitmentOf j n i seeds corr)))
 
 -- a chosen instance, as it is replayed from its stretch
-module _ (s : List ℕ) (i o g a : ℕ) (k : Known s i o g a) (n h j p : ℕ) (tree : Tree n h) (part : List ℕ)
+module _ (s : List ℕ) (i o g a : ℕ) (k : Known s (sized i o g a)) (n h j p : ℕ) (tree : Tree n h) (part : List ℕ)
     (size : length part ≡ stretchBytes (circuitOf s) n (hiding p)) (x : ℕ) (sent : x ≡ cond (eqb (suc p) n) 0 (oct a))
     (corr : List ℕ) (as-shown : corr ≡ openedShowing (circuitOf s) n j p part .corrections) (full : length corr ≡ oct a) where
   -- the corrections that are sent

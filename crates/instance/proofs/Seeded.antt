@@ -19,7 +19,7 @@ use Rattle.parties.proofs.Counts.{Sizes, sizes, count-no}
 use Rattle.circuit.specs.File.{circuitOf}
 use Rattle.mpc.specs.Tapes.{rowBytes, usedBits}
 use Rattle.mpc.specs.Lent.{Known}
-use Rattle.mpc.proofs.Opened.{circuit-inputs, circuit-ands, circuit-row}
+use Rattle.mpc.proofs.Opened.{sized, circuit-inputs, circuit-ands, circuit-row}
 use Rattle.seeds.specs.Tree.{leavesBelow}
 use Rattle.seeds.specs.Derive.{seedRow}
 use Rattle.seeds.specs.Derive as derive
@@ -72,7 +72,7 @@ seed-fits n i seeds row h l e =
     length-take-le 16 row (omega (arith, ap length e, row-length seeds 32 i (omega (arith, l, h))))
 
 -- tapes of a legal file's circuit
-module _ (s : List ℕ) (i o g a : ℕ) (known : Known s i o g a) where
+module _ (s : List ℕ) (i o g a : ℕ) (known : Known s (sized i o g a)) where
   -- party k's tape
   abbrev pub tapeAt : ℕ → ℕ → List ℕ → ℕ → List ℕ
   tapeAt n j seeds k = derive.tapeRow j k (seedOf seeds k) (usedBits (circuitOf s) n k) (rowBytes (circuitOf s))

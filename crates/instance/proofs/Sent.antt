@@ -24,7 +24,7 @@ use Rattle.mpc.specs.Showing as shown
 use Rattle.mpc.specs.Showing.{correctionBits, runWith, runOn, honestRun, rowBits, rowsOf, firstBits}
 use Rattle.mpc.specs.Lent.{Known, Parties}
 use Rattle.mpc.proofs.Agreement.{show-corrections-agree, show-row-agrees, show-rows-agree}
-use Rattle.mpc.proofs.Opened.{circuit-outputs, circuit-ands, ands-low, room}
+use Rattle.mpc.proofs.Opened.{sized, circuit-outputs, circuit-ands, ands-low, room}
 use Rattle.mpc.proofs.Asks.{ands-few}
 use Rattle.seeds.specs.Derive.{commitmentOf}
 use Rattle.instance.specs.Instance.{tapesOf, commitmentsDigest, onlineDigest, commitmentsOf, masterSeeds, masterTapes, masterCorrections, masterCommitments, masterRun, masterMasked, masterOnline}
@@ -68,7 +68,7 @@ unfolding honestRun runOn runWith
 length-honest c n p w tapes = length-row n (c .outputs) (c .gates) _ _ _ _ _ p
 
 -- the work memory of Z bytes after the run
-module _ (s : List ℕ) (i o g a n Z : ℕ) (w tapes : List ℕ) (k : Known s i o g a) (parties : Parties n) (room : 64 * (i + g) + 4096 ≤ Z)
+module _ (s : List ℕ) (i o g a n Z : ℕ) (w tapes : List ℕ) (k : Known s (sized i o g a)) (parties : Parties n) (room : 64 * (i + g) + 4096 ≤ Z)
     (unused : unusedZero i w ≡ true) where
   -- in the numbers that the code carries
   abbrev made : ℕ → ℕ → ℕ → ℕ → List ℕ
@@ -120,7 +120,7 @@ module _ (s : List ℕ) (i o g a n Z : ℕ) (w tapes : List ℕ) (k : Known s i 
       )
 
 -- what the digests are made of: the fronts S, C and M of the arrays are what the instance leaves
-module _ (s : List ℕ) (i o g a n Z j : ℕ) (w master : List ℕ) (k : Known s i o g a) (parties : Parties n) (room : 64 * (i + g) + 4096 ≤ Z)
+module _ (s : List ℕ) (i o g a n Z j : ℕ) (w master : List ℕ) (k : Known s (sized i o g a)) (parties : Parties n) (room : 64 * (i + g) + 4096 ≤ Z)
     (unused : unusedZero i w ≡ true) where
   pub digests-made : (theirs S C M m x y : List ℕ) → S ≡ masterSeeds n j master → C ≡ masterCorrections (circuitOf s) n j master
       → M ≡ masterMasked (circuitOf s) n j w master → m ≡ worked s n w (masterTapes (circuitOf s) n j master) Z
@@ -145,10 +145,10 @@ module _ (s : List ℕ) (i o g a n Z j : ℕ) (w master : List ℕ) (k : Known s
 pub few-seeds : (n h : ℕ) → Tree n h → 32 * n ≤ 512
 few-seeds n h t = omega (arith, tree-sizes n h t .few)
 
-pub few-corrections : (s : List ℕ) (i o g a r : ℕ) → Known s i o g a → r ≡ oct a → r ≤ 512
+pub few-corrections : (s : List ℕ) (i o g a r : ℕ) → Known s (sized i o g a) → r ≡ oct a → r ≤ 512
 few-corrections s i o g a r k e = omega (arith, e, ands-few s i o g a k)
 
-pub few-masked : (s : List ℕ) (i o g a r : ℕ) → Known s i o g a → r ≡ oct i → r ≤ 64
+pub few-masked : (s : List ℕ) (i o g a r : ℕ) → Known s (sized i o g a) → r ≡ oct i → r ≤ 64
 few-masked s i o g a r k e = omega (arith, e, k .legal .laid .few-inputs)
 
 -- the front of an array of N zero bytes
@@ -175,7 +175,7 @@ module _ (N k : ℕ) (z : List ℕ) (l : k ≤ N) (e : length z ≡ length (take
     front-some = length-take-le v (z ++ drop k (replicate {A = ℕ} N 0)) front-less
 
 -- what the digest of the rows asks
-pub online-asks : (s : List ℕ) (i o g a n : ℕ) (m : List ℕ) → Known s i o g a → Parties n → 64 * (i + g) + 4096 ≤ length m
+pub online-asks : (s : List ℕ) (i o g a n : ℕ) (m : List ℕ) → Known s (sized i o g a) → Parties n → 64 * (i + g) + 4096 ≤ length m
     → Room (i + g) n m × (a + o ≤ i + g + 256)
 online-asks s i o g a n m k parties l =
     (room s i o g a k n m parties l, omega (arith, ands-low s i o g a k, k .legal .laid .few-outputs))

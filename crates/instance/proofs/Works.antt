@@ -31,9 +31,10 @@ use Rattle.seeds.proofs.Hashes.{bytes-append, bytes-one}
 use Rattle.seeds.proofs.Digests.{taken-more, online-more, given-taken}
 use Rattle.instance.specs.Instance.{onlineDigest}
 use Rattle.instance.specs.Worked.{broughtIn, worked, replayedGates, replayed, replayedValues}
+use Rattle.mpc.proofs.Opened.{sized}
 
 -- the work memory: as lent, cleared, and with the tapes
-module _ (s : List ℕ) (i o g a h n len : ℕ) (tapes m m0 m1 : List ℕ) (k : Known s i o g a) (head : h ≡ headOf s) (fit : len ≡ oct (i + 2 * a))
+module _ (s : List ℕ) (i o g a h n len : ℕ) (tapes m m0 m1 : List ℕ) (k : Known s (sized i o g a)) (head : h ≡ headOf s) (fit : len ≡ oct (i + 2 * a))
     (e0 : m0 ≡ replicate (length m) 0) (e1 : m1 ≡ loadedTapes (i + g) i a len tapes n m0) where
   -- the tapes in a clear memory
   loads : m1 ≡ loadedTapes (i + g) i a (oct (i + 2 * a)) tapes n (replicate (length m) 0)

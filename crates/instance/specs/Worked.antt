@@ -9,9 +9,11 @@ use Rattle.bits.specs.Bits.{oct}
 use Rattle.parties.specs.Parties.{heightOf, isPartyCount}
 use Rattle.circuit.specs.Circuit.{ands}
 use Rattle.circuit.specs.File.{inputsOf, outputsOf, gatesOf, headOf, gatesInOrder, circuitOf}
+use Rattle.circuit.specs.declared.Sizes.{Sizes}
+use Rattle.engine.specs.Fits.{wireCount}
 use Rattle.engine.specs.Memory.{unpacked, loadedTapes, maskedInputs}
 use Rattle.engine.specs.Steps.{walked, spoken, outputValues}
-use Rattle.mpc.specs.Lent.{Known}
+use Rattle.mpc.specs.Lent.{Known, TapesFit}
 
 -- the sizes of a legal file, and of a row of its tapes
 abbrev pub wiresOf : List ℕ → ℕ
@@ -54,8 +56,8 @@ pub record Tree (n h : ℕ) : Type 0 where
   pub height : h ≡ heightOf n
 
 -- an instance of a legal circuit with n parties: buffers for its tapes and its work
-pub record Lent (s : List ℕ) (i o g a n h : ℕ) (tapes memory : List ℕ) : Type 0 where
-  pub known : Known s i o g a
+pub record Lent (s : List ℕ) (z : Sizes) (n h : ℕ) (tapes memory : List ℕ) : Type 0 where
+  pub known : Known s z
   pub tree : Tree n h
-  pub tapes-fit : length tapes ≡ n * oct (i + 2 * a)
-  pub room : 64 * (i + g) + 4096 ≤ length memory
+  pub tapes-fit : TapesFit z n tapes
+  pub room : 64 * wireCount z + 4096 ≤ length memory

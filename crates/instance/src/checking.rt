@@ -8,11 +8,13 @@ ghost use Rattle.bits.specs.Bits.{oct, pack, unusedZero};
 ghost use Rattle.bits.specs.Bytes.{sameBytes};
 ghost use Rattle.circuit.specs.File.{circuitOf};
 ghost use Rattle.mpc.specs.Showing.{rowsOf, replayOf};
-ghost use Rattle.mpc.specs.Lent.{Known, Parties, ShowingFits};
+ghost use Rattle.engine.specs.Fits.{wireCount};
+ghost use Rattle.mpc.specs.Lent.{Known, Parties, ShowingFits, TapesFit};
 ghost use Rattle.instance.specs.Instance.{onlineDigest, masterCommitments, hiding};
 ghost use Rattle.instance.specs.Stretch.{stretchBytes};
 ghost use Rattle.instance.specs.Opened.{openedSeeds, openedShowing, stretchCommitments, stretchOnline, stretchUnused, stretchOutput};
 ghost use Rattle.instance.specs.Worked.{Tree, Lent};
+use crate::Instance;
 use crate::Replayed;
 use crate::committing::commit;
 use crate::seeding::master_seeds;
@@ -22,6 +24,7 @@ use crate::working::online;
 use crate::working::rework;
 use bits::clear;
 use bits::copy;
+use circuit::Sizes;
 use mpc::preparing::prepare_in;
 use mpc::tests::both;
 use replaying::outputs_are;
@@ -29,40 +32,26 @@ use replaying::outputs_are;
 // h_j of an instance that is not chosen, from its master.
 pub fn reopen(
     s: &[u8],
-    inputs: usize,
-    outputs: usize,
-    gates: usize,
-    ands: usize,
-    j: u32,
-    n: u32,
-    h: u32,
+    z: Sizes,
+    inst: Instance,
     master: &[u8],
     tapes: &mut [u8],
     memory: &mut [u8],
 ) -> [u8; 32]
-    requires { ⌜ Lent (now s) inputs outputs gates ands n h (now tapes) (now memory) × (length (now master) ≡ 16) ⌝ }
-    ensures { λ r. ⌜ r ≡ masterCommitments (circuitOf (now (s .entry))) n j (now (master .entry)) ⌝ }
+    requires { ⌜ Lent (now s) z (inst .parties) (inst .height) (now tapes) (now memory) × (length (now master) ≡ 16) ⌝ }
+    ensures { λ r. ⌜ r ≡ masterCommitments (circuitOf (now (s .entry))) (inst .parties) (inst .number) (now (master .entry)) ⌝ }
 {
+    let n = inst.parties;
     let k = n as usize;
     let size = 32 * k;
-    let a = bits::oct(ands);
+    let a = bits::oct(z.ands);
     let mut seeds = [0u8; 512];
     let mut corrections = [0u8; 512];
-    master_seeds(j, n, h, master, &mut seeds[..size]);
-    tape_rows(s, inputs, outputs, gates, ands, j, n, &seeds[..size], tapes);
+    master_seeds(inst, master, &mut seeds[..size]);
+    tape_rows(s, z, inst, &seeds[..size], tapes);
     clear(memory);
-    prepare_in(
-        s,
-        inputs,
-        outputs,
-        gates,
-        ands,
-        k,
-        tapes,
-        &mut corrections[..a],
-        memory,
-    );
-    commit(j, n, n, &master[..0], &seeds[..size], &corrections[..a])
+    prepare_in(s, z, k, tapes, &mut corrections[..a], memory);
+    commit(inst, n, &master[..0], &seeds[..size], &corrections[..a])
 }
 
 // The bytes of corrections in the stretch of a chosen instance that hides party p.
@@ -74,62 +63,49 @@ pub fn sent_bytes(ands: usize, n: u32, p: u32) -> usize
 }
 
 // Whether the unused bits of a chosen instance's stretch are zero.
-pub fn unused(
-    s: &[u8],
-    inputs: usize,
-    outputs: usize,
-    gates: usize,
-    ands: usize,
-    n: u32,
-    h: u32,
-    p: u32,
-    part: &[u8],
-) -> bool
-    requires { ⌜ Known (now s) inputs outputs gates ands × (Tree n h × ((p < n) × (length (now part) ≡ stretchBytes (circuitOf (now s)) n (hiding p)))) ⌝ }
+pub fn unused(s: &[u8], z: Sizes, n: u32, h: u32, p: u32, part: &[u8]) -> bool
+    requires { ⌜ Known (now s) z × (Tree n h × ((p < n) × (length (now part) ≡ stretchBytes (circuitOf (now s)) n (hiding p)))) ⌝ }
     ensures { λ r. ⌜ r ≡ stretchUnused (circuitOf (now (s .entry))) n (now (part .entry)) (hiding p) ⌝ }
 {
     let first = 16 * (h as usize);
-    let second = first + sent_bytes(ands, n, p);
+    let second = first + sent_bytes(z.ands, n, p);
     let third = second + 32;
-    let fourth = third + bits::oct(inputs);
-    let c = bits::unused_zero(&part[first..second], ands);
-    let m = bits::unused_zero(&part[third..fourth], inputs);
-    let r = bits::unused_zero(&part[fourth..], ands + outputs);
+    let fourth = third + bits::oct(z.inputs);
+    let c = bits::unused_zero(&part[first..second], z.ands);
+    let m = bits::unused_zero(&part[third..fourth], z.inputs);
+    let r = bits::unused_zero(&part[fourth..], z.ands + z.outputs);
     both(c, both(m, r))
 }
 
 // The tapes and seeds of the opened parties, and the corrections that are sent: zeros where they are the hidden party's.
 fn reopen_parties(
     s: &[u8],
-    inputs: usize,
-    outputs: usize,
-    gates: usize,
-    ands: usize,
-    j: u32,
-    n: u32,
-    h: u32,
+    z: Sizes,
+    inst: Instance,
     p: u32,
     part: &[u8],
     seeds: &mut [u8],
     corrections: &mut [u8],
     tapes: &mut [u8],
 )
-    requires { ⌜ Known (now s) inputs outputs gates ands × (Tree n h × ((p < n) × ((length (now part) ≡ stretchBytes (circuitOf (now s)) n (hiding p)) × ((length (now seeds) ≡ 32 * n) × ((length (now corrections) ≡ oct ands) × (length (now tapes) ≡ n * oct (inputs + 2 * ands))))))) ⌝ }
-    ensures { λ _. ⌜ now (seeds .exit) ≡ openedSeeds n j p (now (part .entry)) ⌝ }
-    ensures { λ _. ⌜ now (corrections .exit) ≡ openedShowing (circuitOf (now (s .entry))) n j p (now (part .entry)) .corrections ⌝ }
-    ensures { λ _. ⌜ now (tapes .exit) ≡ openedShowing (circuitOf (now (s .entry))) n j p (now (part .entry)) .tapes ⌝ }
+    requires { ⌜ Known (now s) z × (Tree (inst .parties) (inst .height) × ((p < inst .parties) × ((length (now part) ≡ stretchBytes (circuitOf (now s)) (inst .parties) (hiding p)) × ((length (now seeds) ≡ 32 * inst .parties) × ((length (now corrections) ≡ oct (z .ands)) × TapesFit z (inst .parties) (now tapes)))))) ⌝ }
+    ensures { λ _. ⌜ now (seeds .exit) ≡ openedSeeds (inst .parties) (inst .number) p (now (part .entry)) ⌝ }
+    ensures { λ _. ⌜ now (corrections .exit) ≡ openedShowing (circuitOf (now (s .entry))) (inst .parties) (inst .number) p (now (part .entry)) .corrections ⌝ }
+    ensures { λ _. ⌜ now (tapes .exit) ≡ openedShowing (circuitOf (now (s .entry))) (inst .parties) (inst .number) p (now (part .entry)) .tapes ⌝ }
 {
+    let n = inst.parties;
+    let h = inst.height;
     let first = 16 * (h as usize);
-    opened_seeds(j, n, h, p, &part[..first], seeds);
-    tape_rows(s, inputs, outputs, gates, ands, j, n, seeds, tapes);
-    let len = bits::oct(inputs + 2 * ands);
+    opened_seeds(inst, p, &part[..first], seeds);
+    tape_rows(s, z, inst, seeds, tapes);
+    let len = bits::oct(z.inputs + 2 * z.ands);
     let at = (p as usize) * len;
     let end = at + len;
     clear(&mut tapes[at..end]);
     if p + 1 == n {
         clear(corrections);
     } else {
-        let second = first + bits::oct(ands);
+        let second = first + bits::oct(z.ands);
         copy(&part[first..second], corrections);
     }
 }
@@ -137,10 +113,7 @@ fn reopen_parties(
 // Replays a run with party p hidden: the digest over its broadcasts, and whether its output is y, beside h_j as given.
 fn rerun(
     s: &[u8],
-    inputs: usize,
-    outputs: usize,
-    gates: usize,
-    ands: usize,
+    z: Sizes,
     j: u32,
     n: usize,
     p: usize,
@@ -152,16 +125,13 @@ fn rerun(
     commitments: [u8; 32],
     memory: &mut [u8],
 ) -> Replayed
-    requires { ⌜ Known (now s) inputs outputs gates ands × (Parties n × ((p < n) × (ShowingFits inputs outputs ands n (now tapes) (now corrections) (now masked) (now row) × ((unusedZero inputs (now masked) ≡ true) × (64 * (inputs + gates) + 4096 ≤ length (now memory)))))) ⌝ }
+    requires { ⌜ Known (now s) z × (Parties n × ((p < n) × (ShowingFits z n (now tapes) (now corrections) (now masked) (now row) × ((unusedZero (z .inputs) (now masked) ≡ true) × (64 * wireCount z + 4096 ≤ length (now memory)))))) ⌝ }
     ensures { λ r. ⌜ (r .agrees ≡ sameBytes (pack (replayOf (circuitOf (now (s .entry))) n p (record { tapes = now (tapes .entry); corrections = now (corrections .entry); maskedInputs = now (masked .entry); row = now (row .entry) }) .output)) (now (y .entry))) × ((r .commitments ≡ commitments) × (r .online ≡ onlineDigest j (now (masked .entry)) (rowsOf n (replayOf (circuitOf (now (s .entry))) n p (record { tapes = now (tapes .entry); corrections = now (corrections .entry); maskedInputs = now (masked .entry); row = now (row .entry) }))))) ⌝ }
 {
     let mut values = [0u8; 4096];
     rework(
         s,
-        inputs,
-        outputs,
-        gates,
-        ands,
+        z,
         n,
         p,
         tapes,
@@ -171,8 +141,8 @@ fn rerun(
         &mut values,
         memory,
     );
-    let agrees = outputs_are(&values, outputs, y);
-    let online = online(j, masked, memory, inputs + gates, n, ands + outputs);
+    let agrees = outputs_are(&values, z.outputs, y);
+    let online = online(j, masked, memory, z.inputs + z.gates, n, z.ands + z.outputs);
     Replayed {
         agrees,
         commitments,
@@ -183,41 +153,34 @@ fn rerun(
 // Replays a chosen instance from its stretch.
 pub fn replay(
     s: &[u8],
-    inputs: usize,
-    outputs: usize,
-    gates: usize,
-    ands: usize,
-    j: u32,
-    n: u32,
-    h: u32,
+    z: Sizes,
+    inst: Instance,
     p: u32,
     y: &[u8],
     part: &[u8],
     tapes: &mut [u8],
     memory: &mut [u8],
 ) -> Replayed
-    requires { ⌜ Lent (now s) inputs outputs gates ands n h (now tapes) (now memory) × ((p < n) × ((length (now part) ≡ stretchBytes (circuitOf (now s)) n (hiding p)) × (stretchUnused (circuitOf (now s)) n (now part) (hiding p) ≡ true))) ⌝ }
-    ensures { λ r. ⌜ (r .agrees ≡ stretchOutput (circuitOf (now (s .entry))) n j (now (y .entry)) (now (part .entry)) (hiding p)) × ((r .commitments ≡ stretchCommitments (circuitOf (now (s .entry))) n j (now (part .entry)) (hiding p)) × (r .online ≡ stretchOnline (circuitOf (now (s .entry))) n j (now (part .entry)) (hiding p))) ⌝ }
+    requires { ⌜ Lent (now s) z (inst .parties) (inst .height) (now tapes) (now memory) × ((p < inst .parties) × ((length (now part) ≡ stretchBytes (circuitOf (now s)) (inst .parties) (hiding p)) × (stretchUnused (circuitOf (now s)) (inst .parties) (now part) (hiding p) ≡ true))) ⌝ }
+    ensures { λ r. ⌜ (r .agrees ≡ stretchOutput (circuitOf (now (s .entry))) (inst .parties) (inst .number) (now (y .entry)) (now (part .entry)) (hiding p)) × ((r .commitments ≡ stretchCommitments (circuitOf (now (s .entry))) (inst .parties) (inst .number) (now (part .entry)) (hiding p)) × (r .online ≡ stretchOnline (circuitOf (now (s .entry))) (inst .parties) (inst .number) (now (part .entry)) (hiding p))) ⌝ }
 {
+    let j = inst.number;
+    let n = inst.parties;
+    let h = inst.height;
     let k = n as usize;
     let size = 32 * k;
-    let a = bits::oct(ands);
-    let sent = sent_bytes(ands, n, p);
+    let a = bits::oct(z.ands);
+    let sent = sent_bytes(z.ands, n, p);
     let first = 16 * (h as usize);
     let second = first + sent;
     let third = second + 32;
-    let fourth = third + bits::oct(inputs);
+    let fourth = third + bits::oct(z.inputs);
     let mut seeds = [0u8; 512];
     let mut corrections = [0u8; 512];
     reopen_parties(
         s,
-        inputs,
-        outputs,
-        gates,
-        ands,
-        j,
-        n,
-        h,
+        z,
+        inst,
         p,
         part,
         &mut seeds[..size],
@@ -225,8 +188,7 @@ pub fn replay(
         tapes,
     );
     let commitments = commit(
-        j,
-        n,
+        inst,
         p,
         &part[second..third],
         &seeds[..size],
@@ -234,10 +196,7 @@ pub fn replay(
     );
     rerun(
         s,
-        inputs,
-        outputs,
-        gates,
-        ands,
+        z,
         j,
         k,
         p as usize,

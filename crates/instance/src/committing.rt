@@ -8,16 +8,19 @@ ghost use lib.ListN.{length};
 ghost use Rattle.bits.specs.Bits.{tabulate};
 ghost use Rattle.seeds.specs.Derive.{commitmentOf};
 ghost use Rattle.instance.specs.Instance.{commitmentsDigest};
+use crate::Instance;
 use keccak::SHA3_256_RATE;
 use seeds::digest::finish;
 use seeds::digest::start_commitments;
 use seeds::party::commitment;
 
 // h_j over the commitments of n parties; `theirs` stands for party p's (n for none).
-pub fn commit(j: u32, n: u32, p: u32, theirs: &[u8], seeds: &[u8], corrections: &[u8]) -> [u8; 32]
-    requires { ⌜ (n ≤ 16) × (length (now seeds) ≡ 32 * n) ⌝ }
-    ensures { λ r. ⌜ r ≡ commitmentsDigest j (flatten (tabulate n (λ i. cond (eqb i p) (now (theirs .entry)) (commitmentOf j n i (now (seeds .entry)) (now (corrections .entry)))))) ⌝ }
+pub fn commit(inst: Instance, p: u32, theirs: &[u8], seeds: &[u8], corrections: &[u8]) -> [u8; 32]
+    requires { ⌜ (inst .parties ≤ 16) × (length (now seeds) ≡ 32 * inst .parties) ⌝ }
+    ensures { λ r. ⌜ r ≡ commitmentsDigest (inst .number) (flatten (tabulate (inst .parties) (λ i. cond (eqb i p) (now (theirs .entry)) (commitmentOf (inst .number) (inst .parties) i (now (seeds .entry)) (now (corrections .entry)))))) ⌝ }
 {
+    let j = inst.number;
+    let n = inst.parties;
     let mut s = start_commitments(j);
     let mut i = 0;
     while i < n {

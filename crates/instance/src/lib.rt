@@ -5,6 +5,13 @@ pub mod seeding;
 pub mod sending;
 pub mod working;
 
+// An instance: its number j, its parties n, and the height of their tree.
+pub struct Instance {
+    pub number: u32,
+    pub parties: u32,
+    pub height: u32,
+}
+
 // The two digests of an instance: h_j and h'_j.
 pub struct Digests {
     pub commitments: [u8; 32],

@@ -10,26 +10,23 @@ ghost use Rattle.instance.specs.Instance.{masterSeeds, masterTapes, mast
 ghost use Rattle.instance.specs.Stretch.{stretchBytes};
 ghost use Rattle.instance.specs.Worked.{worked, Lent};
 use crate::Digests;
+use crate::Instance;
 use crate::committing::commit;
 use crate::seeding::master_seeds;
 use crate::seeding::tape_rows;
 use crate::working::online;
 use crate::working::work;
 use bits::copy;
+use circuit::Sizes;
 use engine::memory::pack;
 use seeds::party::commitment;
 use seeds::tree::siblings_below;
 
 // Runs instance j on the witness from its master: its seeds, corrections and masked inputs, and its work memory.
-pub fn instance(
+pub fn from_master(
     s: &[u8],
-    inputs: usize,
-    outputs: usize,
-    gates: usize,
-    ands: usize,
-    j: u32,
-    n: u32,
-    h: u32,
+    z: Sizes,
+    inst: Instance,
     witness: &[u8],
     master: &[u8],
     seeds: &mut [u8],
@@ -38,63 +35,45 @@ pub fn instance(
     tapes: &mut [u8],
     memory: &mut [u8],
 )
-    requires { ⌜ Lent (now s) inputs outputs gates ands n h (now tapes) (now memory) × (WitnessFits inputs (now witness) × ((length (now master) ≡ 16) × ((length (now seeds) ≡ 32 * n) × ((length (now corrections) ≡ oct ands) × (length (now masked) ≡ oct inputs))))) ⌝ }
-    ensures { λ _. ⌜ now (seeds .exit) ≡ masterSeeds n j (now (master .entry)) ⌝ }
-    ensures { λ _. ⌜ now (corrections .exit) ≡ masterCorrections (circuitOf (now (s .entry))) n j (now (master .entry)) ⌝ }
-    ensures { λ _. ⌜ now (masked .exit) ≡ masterMasked (circuitOf (now (s .entry))) n j (now (witness .entry)) (now (master .entry)) ⌝ }
-    ensures { λ _. ⌜ now (memory .exit) ≡ worked (now (s .entry)) n (now (witness .entry)) (masterTapes (circuitOf (now (s .entry))) n j (now (master .entry))) (length (now (memory .entry))) ⌝ }
+    requires { ⌜ Lent (now s) z (inst .parties) (inst .height) (now tapes) (now memory) × (WitnessFits z (now witness) × ((length (now master) ≡ 16) × ((length (now seeds) ≡ 32 * inst .parties) × ((length (now corrections) ≡ oct (z .ands)) × (length (now masked) ≡ oct (z .inputs)))))) ⌝ }
+    ensures { λ _. ⌜ now (seeds .exit) ≡ masterSeeds (inst .parties) (inst .number) (now (master .entry)) ⌝ }
+    ensures { λ _. ⌜ now (corrections .exit) ≡ masterCorrections (circuitOf (now (s .entry))) (inst .parties) (inst .number) (now (master .entry)) ⌝ }
+    ensures { λ _. ⌜ now (masked .exit) ≡ masterMasked (circuitOf (now (s .entry))) (inst .parties) (inst .number) (now (witness .entry)) (now (master .entry)) ⌝ }
+    ensures { λ _. ⌜ now (memory .exit) ≡ worked (now (s .entry)) (inst .parties) (now (witness .entry)) (masterTapes (circuitOf (now (s .entry))) (inst .parties) (inst .number) (now (master .entry))) (length (now (memory .entry))) ⌝ }
 {
-    master_seeds(j, n, h, master, seeds);
-    tape_rows(s, inputs, outputs, gates, ands, j, n, seeds, tapes);
-    work(
-        s,
-        inputs,
-        outputs,
-        gates,
-        ands,
-        n as usize,
-        witness,
-        tapes,
-        masked,
-        memory,
-    );
-    pack(memory, 16 * (inputs + gates) + 1, ands, corrections);
+    let n = inst.parties;
+    master_seeds(inst, master, seeds);
+    tape_rows(s, z, inst, seeds, tapes);
+    work(s, z, n as usize, witness, tapes, masked, memory);
+    pack(memory, 16 * (z.inputs + z.gates) + 1, z.ands, corrections);
 }
 
 // The digests of instance j, from its master and the witness.
 pub fn digests(
     s: &[u8],
-    inputs: usize,
-    outputs: usize,
-    gates: usize,
-    ands: usize,
-    j: u32,
-    n: u32,
-    h: u32,
+    z: Sizes,
+    inst: Instance,
     witness: &[u8],
     master: &[u8],
     tapes: &mut [u8],
     memory: &mut [u8],
 ) -> Digests
-    requires { ⌜ Lent (now s) inputs outputs gates ands n h (now tapes) (now memory) × (WitnessFits inputs (now witness) × (length (now master) ≡ 16)) ⌝ }
-    ensures { λ r. ⌜ (r .commitments ≡ masterCommitments (circuitOf (now (s .entry))) n j (now (master .entry))) × (r .online ≡ masterOnline (circuitOf (now (s .entry))) n j (now (witness .entry)) (now (master .entry))) ⌝ }
+    requires { ⌜ Lent (now s) z (inst .parties) (inst .height) (now tapes) (now memory) × (WitnessFits z (now witness) × (length (now master) ≡ 16)) ⌝ }
+    ensures { λ r. ⌜ (r .commitments ≡ masterCommitments (circuitOf (now (s .entry))) (inst .parties) (inst .number) (now (master .entry))) × (r .online ≡ masterOnline (circuitOf (now (s .entry))) (inst .parties) (inst .number) (now (witness .entry)) (now (master .entry))) ⌝ }
 {
+    let j = inst.number;
+    let n = inst.parties;
     let k = n as usize;
     let size = 32 * k;
-    let a = bits::oct(ands);
-    let m = bits::oct(inputs);
+    let a = bits::oct(z.ands);
+    let m = bits::oct(z.inputs);
     let mut seeds = [0u8; 512];
     let mut corrections = [0u8; 512];
     let mut masked = [0u8; 64];
-    instance(
+    from_master(
         s,
-        inputs,
-        outputs,
-        gates,
-        ands,
-        j,
-        n,
-        h,
+        z,
+        inst,
         witness,
         master,
         &mut seeds[..size],
@@ -104,8 +83,15 @@ pub fn digests(
         memory,
     );
     // no party's commitment is given: what stands for it is not read
-    let commitments = commit(j, n, n, master, &seeds[..size], &corrections[..a]);
-    let online = online(j, &masked[..m], memory, inputs + gates, k, ands + outputs);
+    let commitments = commit(inst, n, master, &seeds[..size], &corrections[..a]);
+    let online = online(
+        j,
+        &masked[..m],
+        memory,
+        z.inputs + z.gates,
+        k,
+        z.ands + z.outputs,
+    );
     Digests {
         commitments,
         online,
@@ -126,13 +112,8 @@ pub(crate) fn put(from: &[u8], at: usize, part: &mut [u8]) -> usize
 // The stretch of a chosen instance: siblings, corrections unless p = n − 1, com_p, masked inputs, broadcast row p.
 pub fn send(
     s: &[u8],
-    inputs: usize,
-    outputs: usize,
-    gates: usize,
-    ands: usize,
-    j: u32,
-    n: u32,
-    h: u32,
+    z: Sizes,
+    inst: Instance,
     p: u32,
     witness: &[u8],
     master: &[u8],
@@ -140,24 +121,22 @@ pub fn send(
     tapes: &mut [u8],
     memory: &mut [u8],
 )
-    requires { ⌜ Lent (now s) inputs outputs gates ands n h (now tapes) (now memory) × (WitnessFits inputs (now witness) × ((length (now master) ≡ 16) × ((p < n) × (length (now part) ≡ stretchBytes (circuitOf (now s)) n (hiding p))))) ⌝ }
-    ensures { λ _. ⌜ now (part .exit) ≡ stretchOf (circuitOf (now (s .entry))) n j (now (witness .entry)) (now (master .entry)) (hiding p) ⌝ }
+    requires { ⌜ Lent (now s) z (inst .parties) (inst .height) (now tapes) (now memory) × (WitnessFits z (now witness) × ((length (now master) ≡ 16) × ((p < inst .parties) × (length (now part) ≡ stretchBytes (circuitOf (now s)) (inst .parties) (hiding p))))) ⌝ }
+    ensures { λ _. ⌜ now (part .exit) ≡ stretchOf (circuitOf (now (s .entry))) (inst .parties) (inst .number) (now (witness .entry)) (now (master .entry)) (hiding p) ⌝ }
 {
+    let j = inst.number;
+    let n = inst.parties;
+    let h = inst.height;
     let size = 32 * (n as usize);
-    let a = bits::oct(ands);
-    let m = bits::oct(inputs);
+    let a = bits::oct(z.ands);
+    let m = bits::oct(z.inputs);
     let mut seeds = [0u8; 512];
     let mut corrections = [0u8; 512];
     let mut masked = [0u8; 64];
-    instance(
+    from_master(
         s,
-        inputs,
-        outputs,
-        gates,
-        ands,
-        j,
-        n,
-        h,
+        z,
+        inst,
         witness,
         master,
         &mut seeds[..size],
@@ -175,8 +154,8 @@ pub fn send(
     let fourth = put(&masked[..m], third, part);
     pack(
         memory,
-        48 * (inputs + gates) + (p as usize),
-        ands + outputs,
+        48 * (z.inputs + z.gates) + (p as usize),
+        z.ands + z.outputs,
         &mut part[fourth..],
     );
 }

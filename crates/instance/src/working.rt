@@ -6,12 +6,13 @@ ghost use lib.ListN.{length, replicate};
 ghost use Rattle.bits.specs.Bits.{oct, unusedZero};
 ghost use Rattle.circuit.specs.File.{circuitOf};
 ghost use Rattle.engine.specs.Memory.{packedRows};
-ghost use Rattle.engine.specs.Fits.{Room};
+ghost use Rattle.engine.specs.Fits.{wireCount, Room};
 ghost use Rattle.mpc.specs.Showing.{maskedInputs};
 ghost use Rattle.mpc.specs.Lent.{Known, Parties, WitnessFits, TapesFit, ShowingFits};
 ghost use Rattle.instance.specs.Instance.{onlineDigest};
 ghost use Rattle.instance.specs.Worked.{worked, replayed as «replayed-memory», replayedValues};
 use bits::clear;
+use circuit::Sizes;
 use engine::chain::speak;
 use engine::chain::walk;
 use engine::memory::load_tapes;
@@ -25,39 +26,33 @@ use seeds::digest::start_online;
 // Runs the circuit on the witness, its corrections made, and packs the masked inputs.
 pub fn work(
     s: &[u8],
-    inputs: usize,
-    outputs: usize,
-    gates: usize,
-    ands: usize,
+    z: Sizes,
     n: usize,
     witness: &[u8],
     tapes: &[u8],
     masked: &mut [u8],
     memory: &mut [u8],
 )
-    requires { ⌜ Known (now s) inputs outputs gates ands × (Parties n × (WitnessFits inputs (now witness) × (TapesFit inputs ands n (now tapes) × ((length (now masked) ≡ oct inputs) × (64 * (inputs + gates) + 4096 ≤ length (now memory)))))) ⌝ }
+    requires { ⌜ Known (now s) z × (Parties n × (WitnessFits z (now witness) × (TapesFit z n (now tapes) × ((length (now masked) ≡ oct (z .inputs)) × (64 * wireCount z + 4096 ≤ length (now memory)))))) ⌝ }
     ensures { λ _. ⌜ now (masked .exit) ≡ maskedInputs (circuitOf (now (s .entry))) n (now (witness .entry)) (now (tapes .entry)) ⌝ }
     ensures { λ _. ⌜ now (memory .exit) ≡ worked (now (s .entry)) n (now (witness .entry)) (now (tapes .entry)) (length (now (memory .entry))) ⌝ }
 {
     let head = bits::read_u16(s, 6) as usize;
-    let wires = inputs + gates;
-    let len = bits::oct(inputs + 2 * ands);
+    let wires = z.inputs + z.gates;
+    let len = bits::oct(z.inputs + 2 * z.ands);
     clear(memory);
-    load_tapes(tapes, len, n, wires, inputs, ands, memory);
-    mask_inputs(witness, inputs, n, wires, memory);
-    pack(memory, 16 * wires, inputs, masked);
-    walk(s, inputs, outputs, gates, head, n, n, true, memory);
+    load_tapes(tapes, len, n, wires, z.inputs, z.ands, memory);
+    mask_inputs(witness, z.inputs, n, wires, memory);
+    pack(memory, 16 * wires, z.inputs, masked);
+    walk(s, z, head, n, n, true, memory);
     let mut values = [0u8; 4096];
-    speak(s, inputs, outputs, gates, ands, n, n, memory, &mut values);
+    speak(s, z, n, n, memory, &mut values);
 }
 
 // Replays a run with party p hidden; `values` is lent clear and takes the outputs' values.
 pub fn rework(
     s: &[u8],
-    inputs: usize,
-    outputs: usize,
-    gates: usize,
-    ands: usize,
+    z: Sizes,
     n: usize,
     p: usize,
     tapes: &[u8],
@@ -67,20 +62,20 @@ pub fn rework(
     values: &mut [u8],
     memory: &mut [u8],
 )
-    requires { ⌜ Known (now s) inputs outputs gates ands × (Parties n × ((p < n) × (ShowingFits inputs outputs ands n (now tapes) (now corrections) (now masked) (now row) × ((now values ≡ replicate 4096 0) × (64 * (inputs + gates) + 4096 ≤ length (now memory)))))) ⌝ }
+    requires { ⌜ Known (now s) z × (Parties n × ((p < n) × (ShowingFits z n (now tapes) (now corrections) (now masked) (now row) × ((now values ≡ replicate 4096 0) × (64 * wireCount z + 4096 ≤ length (now memory)))))) ⌝ }
     ensures { λ _. ⌜ now (values .exit) ≡ replayedValues (now (s .entry)) n p (now (tapes .entry)) (now (corrections .entry)) (now (masked .entry)) (now (row .entry)) (length (now (memory .entry))) ⌝ }
     ensures { λ _. ⌜ now (memory .exit) ≡ «replayed-memory» (now (s .entry)) n p (now (tapes .entry)) (now (corrections .entry)) (now (masked .entry)) (now (row .entry)) (length (now (memory .entry))) ⌝ }
 {
     let head = bits::read_u16(s, 6) as usize;
-    let wires = inputs + gates;
-    let len = bits::oct(inputs + 2 * ands);
+    let wires = z.inputs + z.gates;
+    let len = bits::oct(z.inputs + 2 * z.ands);
     clear(memory);
-    load_tapes(tapes, len, n, wires, inputs, ands, memory);
-    unpack(corrections, 0, ands, memory, 48 * wires + (n - 1));
-    unpack(row, 0, ands + outputs, memory, 48 * wires + p);
-    unpack(masked, 0, inputs, memory, 16 * wires);
-    walk(s, inputs, outputs, gates, head, n, p, false, memory);
-    speak(s, inputs, outputs, gates, ands, n, p, memory, values);
+    load_tapes(tapes, len, n, wires, z.inputs, z.ands, memory);
+    unpack(corrections, 0, z.ands, memory, 48 * wires + (n - 1));
+    unpack(row, 0, z.ands + z.outputs, memory, 48 * wires + p);
+    unpack(masked, 0, z.inputs, memory, 16 * wires);
+    walk(s, z, head, n, p, false, memory);
+    speak(s, z, n, p, memory, values);
 }
 
 // h'_j over the masked inputs and the broadcast rows in the memory.

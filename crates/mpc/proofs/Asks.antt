@@ -10,7 +10,7 @@ use lib.ListN.{length, replicate, length-replicate}
 use Rattle.bits.specs.Bits.{oct}
 use Rattle.engine.specs.Fits.{Room}
 use Rattle.mpc.specs.Lent.{Known, Parties}
-use Rattle.mpc.proofs.Opened.{ands-low, room}
+use Rattle.mpc.proofs.Opened.{sized, ands-low, room}
 
 -- a small number fits
 pub small : (x : ℕ) → x ≤ 4294967296 → Fits w64 x
@@ -24,7 +24,7 @@ clear-room z = omega (arith, length-replicate {A = ℕ} z 0)
 pub kept-room : (x y z : ℕ) → x ≡ y → z ≤ y → z ≤ x
 kept-room x y z e l = omega (arith, e, l)
 
-module _ (s : List ℕ) (i o g a : ℕ) (k : Known s i o g a) where
+module _ (s : List ℕ) (i o g a : ℕ) (k : Known s (sized i o g a)) where
   -- the AND gates
   pub ands-few : a ≤ 4096
   ands-few = omega (arith, ands-low s i o g a k, k .legal .laid .few-gates)

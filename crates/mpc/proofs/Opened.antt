@@ -26,9 +26,13 @@ use Rattle.circuit.specs.declared.ReadAnswer.the-variants as readAnswer
 use Rattle.circuit.proofs.Answered.{gates-count, read-legal, read-success, refusal-refused}
 use Rattle.circuit.proofs.Outcomes.{legal-passed, legal-sizes}
 use Rattle.circuit.proofs.Run.{wired-reads, goodChain-walks, gates-order}
-use Rattle.engine.specs.Fits.{Room, Ready, Ended}
+use Rattle.engine.specs.Fits.{wireCount, Room, Ready, Ended}
 use Rattle.mpc.specs.Tapes.{andsOf, rowBytes}
 use Rattle.mpc.specs.Lent.{Known, Parties, Begun}
+
+-- the numbers that the code carries, in one
+abbrev pub sized : ℕ → ℕ → ℕ → ℕ → Sizes
+sized i o g a = record { inputs = i; outputs = o; gates = g; ands = a }
 
 -- a refused file
 pub opened-refused : (s : List ℕ) (k : Refusal) (r : ReadAnswer) → r ≡ readAnswer.Refused k → readPaper r ≡ readOp s → readCircuit s ≡ refused (numberOf k)
@@ -39,7 +43,7 @@ opened-refused s k r p e =
 -- a file that reads as legal
 module _ (s : List ℕ) (z : Sizes) (r : ReadAnswer) (p : r ≡ readAnswer.Legal z) (e : readPaper r ≡ readOp s) where
   -- its numbers are the circuit's
-  pub opened : Known s (z .inputs) (z .outputs) (z .gates) (z .ands)
+  pub opened : Known s z
   opened =
       let q : success (z .inputs ∷ z .outputs ∷ z .gates ∷ z .ands ∷ []) ≡ success (inputsOf s ∷ outputsOf s ∷ gatesOf s ∷ ands (gatesInOrder s) ∷ [])
       = sym (ap readPaper p) ∙ e ∙ read-success s (legal-passed s z r p e) in
@@ -54,10 +58,10 @@ module _ (s : List ℕ) (z : Sizes) (r : ReadAnswer) (p : r ≡ readAnswer.Legal
 pub counted : (n h : ℕ) → h ≡ heightOf n → (h ≡ 0 → ⊥) → Parties n
 counted n h e more = let z = sizes n (λ q. more (e ∙ q)) in record { some = omega (arith, z .some); few = z .few }
 
--- a clear work memory of z bytes
-pub begun : (w n z : ℕ) (m : List ℕ) → Parties n → m ≡ replicate z 0 → 64 * w + 4096 ≤ z → Begun w n m
-begun w n z m p e l =
-    let q : length m ≡ z = ap length e ∙ length-replicate {A = ℕ} z 0 in
+-- a clear work memory of b bytes
+pub begun : (z : Sizes) (n b : ℕ) (m : List ℕ) → Parties n → m ≡ replicate b 0 → 64 * wireCount z + 4096 ≤ b → Begun z n m
+begun z n b m p e l =
+    let q : length m ≡ b = ap length e ∙ length-replicate {A = ℕ} b 0 in
     record { parties = p; room = omega (arith, q, l); clear = e ∙ ap (λ (j : ℕ). replicate j 0) (sym q) }
 
 -- AND gates are gates
@@ -69,7 +73,7 @@ ands-le (and a b c ∷ gs) = omega (arith, ands-le gs)
 ands-le (inv a c ∷ gs) = omega (arith, ands-le gs)
 
 -- a legal file's circuit, by I, O, G and A
-module _ (s : List ℕ) (i o g a : ℕ) (k : Known s i o g a) where
+module _ (s : List ℕ) (i o g a : ℕ) (k : Known s (sized i o g a)) where
   pub circuit-inputs : circuitOf s .inputs ≡ i
   unfolding circuitOf
   circuit-inputs = sym (k .legal .laid .inputs)
@@ -107,7 +111,7 @@ module _ (s : List ℕ) (i o g a : ℕ) (k : Known s i o g a) where
     room = record { wires = omega (arith, k .legal .laid .few-inputs, k .legal .laid .few-gates); some = parties .some; few = parties .few; room = large }
 
     -- for the walk
-    pub ready : (h : ℕ) → h ≡ headOf s → Ready (i + g) n s i o g h m
+    pub ready : (h : ℕ) → h ≡ headOf s → Ready s (sized i o g a) h n m
     ready h p =
         let c : walks s g h ≡ true = ap₂ (walks s) (k .legal .laid .gates) p ∙ goodChain-walks s (k .legal .chain) in
         let r : readsWritten (λ w. ltb w (inputsOf s)) (gatesFrom s g h) ≡ true
@@ -115,17 +119,15 @@ module _ (s : List ℕ) (i o g a : ℕ) (k : Known s i o g a) where
         let f : inputsOf s + gatesOf s ≤ i + g = omega (arith, k .legal .laid .inputs, k .legal .laid .gates) in
         record {
           memory = room;
-          wires = refl;
           chained = record { laid = k .legal .laid; chain = c };
           reads = wired-reads s (i + g) g h (λ w. ltb w (inputsOf s)) (λ w q. omega (arith, ltb-true w (inputsOf s) q, f)) f c r;
         }
 
     -- for the outputs
-    pub ended : (y : List ℕ) → 4096 ≤ length y → Ended (i + g) n a s i o g m y
+    pub ended : (y : List ℕ) → 4096 ≤ length y → Ended s (sized i o g a) n m y
     ended y p =
         record {
           memory = room;
-          wires = refl;
           laid = k .legal .laid;
           ands = omega (arith, ands-low);
           outputs = ap (goodOutputs s) (k .legal .laid .outputs) ∙ wires-parts .1;

@@ -27,10 +27,10 @@ use Rattle.mpc.specs.Answers.{outcome}
 use Rattle.mpc.specs.Lent.{Known, Begun}
 use Rattle.mpc.specs.declared.Answer.the-variants.{Done, Refused}
 use Rattle.mpc.proofs.Agreement.{prepare-agrees}
-use Rattle.mpc.proofs.Opened.{opened-refused, opened-legal, circuit-inputs, circuit-ands}
+use Rattle.mpc.proofs.Opened.{sized, opened-refused, opened-legal, circuit-inputs, circuit-ands}
 
 -- the corrections as they are packed out of the work memory
-pub prepare-made : (s : List ℕ) (i o g a h n len : ℕ) (tapes m0 m1 m2 out x : List ℕ) → Known s i o g a → h ≡ headOf s → Begun (i + g) n m0
+pub prepare-made : (s : List ℕ) (i o g a h n len : ℕ) (tapes m0 m1 m2 out x : List ℕ) → Known s (sized i o g a) → h ≡ headOf s → Begun (sized i o g a) n m0
     → len ≡ oct (i + 2 * a) → m1 ≡ loadedTapes (i + g) i a len tapes n m0 → m2 ≡ walked (i + g) n n true s g h 0 m1
     → length out ≡ oct a → x ≡ packed m2 (16 * (i + g) + 1) a (length out) → x ≡ pack (correctionBits (circuitOf s) n tapes)
 prepare-made s i o g a h n len tapes m0 m1 m2 out x k p b l e f t q =
@@ -41,7 +41,7 @@ prepare-made s i o g a h n len tapes m0 m1 m2 out x k p b l e f t q =
     ∙ prepare-agrees s i o g a h n (length m0) (k .legal) p (k .ands) (b .parties .some) (b .parties .few) (b .room) tapes
 
 -- the answers on a legal file
-module _ (s : List ℕ) (i o g a : ℕ) (k : Known s i o g a) (n h : ℕ) (tapes out : List ℕ) (count : h ≡ heightOf n) where
+module _ (s : List ℕ) (i o g a : ℕ) (k : Known s (sized i o g a)) (n h : ℕ) (tapes out : List ℕ) (count : h ≡ heightOf n) where
   -- the lengths in the numbers that the code carries
   lengths : eqb (length tapes) (n * oct (i + 2 * a)) && eqb (length out) (oct a) ≡ holdsRows n (tapeBits (circuitOf s)) tapes && holds (andsOf (circuitOf s)) out
   lengths =

@@ -30,10 +30,10 @@ use Rattle.mpc.specs.Answers.{outcome}
 use Rattle.mpc.specs.Lent.{Known, Begun, WitnessFits, RunLent}
 use Rattle.mpc.specs.declared.Answer.the-variants.{Done, Refused}
 use Rattle.mpc.proofs.Agreement.{run-masked-agrees, run-rows-agree, run-output-agrees}
-use Rattle.mpc.proofs.Opened.{opened-refused, opened-legal, circuit-inputs, circuit-outputs, circuit-ands}
+use Rattle.mpc.proofs.Opened.{sized, opened-refused, opened-legal, circuit-inputs, circuit-outputs, circuit-ands}
 
 -- the work memory: as lent, with the tapes, with the corrections, with the masked inputs, after the walk
-module _ (s : List ℕ) (i o g a h n len : ℕ) (w tapes corr m0 m1 m2 m3 m4 : List ℕ) (k : Known s i o g a) (head : h ≡ headOf s) (b : Begun (i + g) n m0)
+module _ (s : List ℕ) (i o g a h n len : ℕ) (w tapes corr m0 m1 m2 m3 m4 : List ℕ) (k : Known s (sized i o g a)) (head : h ≡ headOf s) (b : Begun (sized i o g a) n m0)
     (fit : len ≡ oct (i + 2 * a)) (e1 : m1 ≡ loadedTapes (i + g) i a len tapes n m0) (e2 : m2 ≡ unpacked corr 0 a (48 * (i + g) + (n - 1)) m1)
     (e3 : m3 ≡ maskedInputs (i + g) n i w m2) where
   -- the tapes
@@ -106,7 +106,7 @@ six b1 b2 b3 b4 b5 b6 z =
     )
 
 -- the answers on a legal file
-module _ (s : List ℕ) (i o g a : ℕ) (k : Known s i o g a) (n h : ℕ) (w tapes corr masked rows y : List ℕ) (count : h ≡ heightOf n) where
+module _ (s : List ℕ) (i o g a : ℕ) (k : Known s (sized i o g a)) (n h : ℕ) (w tapes corr masked rows y : List ℕ) (count : h ≡ heightOf n) where
   -- what is lent
   abbrev lent : List (List ℕ)
   lent = masked ∷ rows ∷ y ∷ []
@@ -136,7 +136,7 @@ module _ (s : List ℕ) (i o g a : ℕ) (k : Known s i o g a) (n h : ℕ) (w tap
     run-length t = rw (count-yes n (λ z. more (count ∙ z)), fell _ r (e ∙ lengths-right) t)
 
     -- what is lent is as stated
-    pub run-lent-fits : not r ≡ false → (length w ≡ oct i) × RunLent i o a n tapes corr masked rows y
+    pub run-lent-fits : not r ≡ false → (length w ≡ oct i) × RunLent (sized i o g a) n tapes corr masked rows y
     run-lent-fits t =
         let z =
         six (eqb (length w) (oct i)) (eqb (length tapes) (n * oct (i + 2 * a))) (eqb (length corr) (oct a)) (eqb (length masked) (oct i))
@@ -173,7 +173,7 @@ module _ (s : List ℕ) (i o g a : ℕ) (k : Known s i o g a) (n h : ℕ) (w tap
           ap (outcome Done) z ∙ rw (count-yes n (λ z. more (count ∙ z)), held _ r (e ∙ lengths-right) t, held _ b5 unused-right u)
 
       -- the witness is as stated
-      pub run-witness : not b5 ≡ false → WitnessFits i w
+      pub run-witness : not b5 ≡ false → WitnessFits (sized i o g a) w
       run-witness u =
           record {
             size = run-lent-fits t .0;

@@ -13,7 +13,7 @@ use Rattle.bits.proofs.Tests.{and-true-left, and-true-right}
 use Rattle.circuit.specs.File.{circuitOf}
 use Rattle.mpc.specs.Tapes.{andsOf, usedBits, unusedRows}
 use Rattle.mpc.specs.Lent.{Known}
-use Rattle.mpc.proofs.Opened.{circuit-inputs, circuit-ands, circuit-row}
+use Rattle.mpc.proofs.Opened.{sized, circuit-inputs, circuit-ands, circuit-row}
 
 -- two lengths that are both as stated
 pub both-lengths : (x y u v : ℕ) (b d r : Bool) → b ≡ eqb x y → d ≡ eqb u v → r ≡ b && d → not r ≡ false → (x ≡ y) × (u ≡ v)
@@ -21,7 +21,7 @@ both-lengths x y u v b d r e f q t =
     let z : b && d ≡ true = sym q ∙ not-false r t in
     (eqb-true x y (sym e ∙ and-true-left b d z), eqb-true u v (sym f ∙ and-true-right b d z))
 
-module _ (s : List ℕ) (i o g a n : ℕ) (tapes : List ℕ) (k : Known s i o g a) where
+module _ (s : List ℕ) (i o g a n : ℕ) (tapes : List ℕ) (k : Known s (sized i o g a)) where
   -- no row is looked at
   pub unused-none : true ≡ unusedRows (circuitOf s) n tapes 0
   unfolding unusedRows

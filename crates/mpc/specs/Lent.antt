@@ -9,43 +9,45 @@ use Rattle.bits.specs.Bits.{oct, unusedZero}
 use Rattle.circuit.specs.Circuit.{ands}
 use Rattle.circuit.specs.File.{gatesInOrder}
 use Rattle.circuit.specs.Values.{Legal}
+use Rattle.circuit.specs.declared.Sizes.{Sizes}
+use Rattle.engine.specs.Fits.{wireCount}
 
 -- a legal file with its I, O, G and A
-pub record Known (s : List ℕ) (i o g a : ℕ) : Type 0 where
-  pub legal : Legal s i o g
-  pub ands : a ≡ ands (gatesInOrder s)
+pub record Known (s : List ℕ) (z : Sizes) : Type 0 where
+  pub legal : Legal s (z .inputs) (z .outputs) (z .gates)
+  pub ands : z .ands ≡ ands (gatesInOrder s)
 
 -- a number of parties
 pub record Parties (n : ℕ) : Type 0 where
   pub some : 1 ≤ n
   pub few : n ≤ 16
 
--- n parties, with a work memory for w wires that is clear
-pub record Begun (w n : ℕ) (m : List ℕ) : Type 0 where
+-- n parties, with a work memory for the circuit's wires that is clear
+pub record Begun (z : Sizes) (n : ℕ) (m : List ℕ) : Type 0 where
   pub parties : Parties n
-  pub room : 64 * w + 4096 ≤ length m
+  pub room : 64 * wireCount z + 4096 ≤ length m
   pub clear : m ≡ replicate (length m) 0
 
 -- the tapes of n parties
-abbrev pub TapesFit : ℕ → ℕ → ℕ → List ℕ → Type 0
-TapesFit i a n tapes = length tapes ≡ n * oct (i + 2 * a)
+abbrev pub TapesFit : Sizes → ℕ → List ℕ → Type 0
+TapesFit z n tapes = length tapes ≡ n * oct (z .inputs + 2 * z .ands)
 
--- a witness of i bits
-pub record WitnessFits (i : ℕ) (w : List ℕ) : Type 0 where
-  pub size : length w ≡ oct i
-  pub unused : unusedZero i w ≡ true
+-- a witness of I bits
+pub record WitnessFits (z : Sizes) (w : List ℕ) : Type 0 where
+  pub size : length w ≡ oct (z .inputs)
+  pub unused : unusedZero (z .inputs) w ≡ true
 
 -- what run is lent
-pub record RunLent (i o a n : ℕ) (tapes corrections masked rows y : List ℕ) : Type 0 where
-  pub tapes-fit : TapesFit i a n tapes
-  pub corrections-fit : length corrections ≡ oct a
-  pub masked-fit : length masked ≡ oct i
-  pub rows-fit : length rows ≡ n * oct (a + o)
-  pub y-fits : length y ≡ oct o
+pub record RunLent (z : Sizes) (n : ℕ) (tapes corrections masked rows y : List ℕ) : Type 0 where
+  pub tapes-fit : TapesFit z n tapes
+  pub corrections-fit : length corrections ≡ oct (z .ands)
+  pub masked-fit : length masked ≡ oct (z .inputs)
+  pub rows-fit : length rows ≡ n * oct (z .ands + z .outputs)
+  pub y-fits : length y ≡ oct (z .outputs)
 
 -- the lengths of a showing's parts
-pub record ShowingFits (i o a n : ℕ) (tapes corrections masked row : List ℕ) : Type 0 where
-  pub tapes-fit : TapesFit i a n tapes
-  pub corrections-fit : length corrections ≡ oct a
-  pub masked-fit : length masked ≡ oct i
-  pub row-fits : length row ≡ oct (a + o)
+pub record ShowingFits (z : Sizes) (n : ℕ) (tapes corrections masked row : List ℕ) : Type 0 where
+  pub tapes-fit : TapesFit z n tapes
+  pub corrections-fit : length corrections ≡ oct (z .ands)
+  pub masked-fit : length masked ≡ oct (z .inputs)
+  pub row-fits : length row ≡ oct (z .ands + z .outputs)

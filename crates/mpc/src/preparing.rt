@@ -15,6 +15,7 @@ use crate::tests::holds;
 use crate::tests::holds_rows;
 use crate::tests::unused_rows;
 use circuit::ReadAnswer;
+use circuit::Sizes;
 use circuit::reading::read;
 use engine::chain::walk;
 use engine::memory::load_tapes;
@@ -24,66 +25,35 @@ use refusal::Refusal;
 // Makes the corrections in a work memory.
 pub fn prepare_in(
     s: &[u8],
-    inputs: usize,
-    outputs: usize,
-    gates: usize,
-    ands: usize,
+    z: Sizes,
     n: usize,
     tapes: &[u8],
     corrections: &mut [u8],
     memory: &mut [u8],
 )
-    requires { ⌜ Known (now s) inputs outputs gates ands × (Begun (inputs + gates) n (now memory) × (TapesFit inputs ands n (now tapes) × (length (now corrections) ≡ oct ands))) ⌝ }
+    requires { ⌜ Known (now s) z × (Begun z n (now memory) × (TapesFit z n (now tapes) × (length (now corrections) ≡ oct (z .ands)))) ⌝ }
     ensures { λ _. ⌜ now (corrections .exit) ≡ pack (correctionBits (circuitOf (now (s .entry))) n (now (tapes .entry))) ⌝ }
 {
     let head = bits::read_u16(s, 6) as usize;
-    let wires = inputs + gates;
-    let len = bits::oct(inputs + 2 * ands);
-    load_tapes(tapes, len, n, wires, inputs, ands, memory);
-    walk(s, inputs, outputs, gates, head, n, n, true, memory);
-    pack(memory, 16 * wires + 1, ands, corrections);
+    let wires = z.inputs + z.gates;
+    let len = bits::oct(z.inputs + 2 * z.ands);
+    load_tapes(tapes, len, n, wires, z.inputs, z.ands, memory);
+    walk(s, z, head, n, n, true, memory);
+    pack(memory, 16 * wires + 1, z.ands, corrections);
 }
 
 // The same with a work memory of its own.
-fn prepare_with(
-    s: &[u8],
-    inputs: usize,
-    outputs: usize,
-    gates: usize,
-    ands: usize,
-    n: usize,
-    tapes: &[u8],
-    corrections: &mut [u8],
-)
-    requires { ⌜ Known (now s) inputs outputs gates ands × (Parties n × (TapesFit inputs ands n (now tapes) × (length (now corrections) ≡ oct ands))) ⌝ }
+fn prepare_with(s: &[u8], z: Sizes, n: usize, tapes: &[u8], corrections: &mut [u8])
+    requires { ⌜ Known (now s) z × (Parties n × (TapesFit z n (now tapes) × (length (now corrections) ≡ oct (z .ands)))) ⌝ }
     ensures { λ _. ⌜ now (corrections .exit) ≡ pack (correctionBits (circuitOf (now (s .entry))) n (now (tapes .entry))) ⌝ }
 {
     let mut memory = [0u8; 299008];
-    prepare_in(
-        s,
-        inputs,
-        outputs,
-        gates,
-        ands,
-        n,
-        tapes,
-        corrections,
-        &mut memory,
-    );
+    prepare_in(s, z, n, tapes, corrections, &mut memory);
 }
 
 // Tests what is lent, and makes the corrections of a legal circuit.
-fn prepare_lent(
-    s: &[u8],
-    inputs: usize,
-    outputs: usize,
-    gates: usize,
-    ands: usize,
-    n: u32,
-    tapes: &[u8],
-    corrections: &mut [u8],
-) -> Answer
-    requires { ⌜ Known (now s) inputs outputs gates ands ⌝ }
+fn prepare_lent(s: &[u8], z: Sizes, n: u32, tapes: &[u8], corrections: &mut [u8]) -> Answer
+    requires { ⌜ Known (now s) z ⌝ }
     ensures { λ r. ⌜ outcome r (now (corrections .exit) ∷ []) ≡ prepareLegal n (now (tapes .entry)) (now (corrections .entry)) (circuitOf (now (s .entry))) ⌝ }
 {
     if parties::height(n) == 0 {
@@ -91,15 +61,15 @@ fn prepare_lent(
     }
     let k = n as usize;
     if !both(
-        holds_rows(tapes, k, inputs + 2 * ands),
-        holds(corrections, ands),
+        holds_rows(tapes, k, z.inputs + 2 * z.ands),
+        holds(corrections, z.ands),
     ) {
         return Answer::Refused(Refusal::BufferLength);
     }
-    if !unused_rows(s, inputs, outputs, gates, ands, k, tapes) {
+    if !unused_rows(s, z, k, tapes) {
         return Answer::Refused(Refusal::UnusedBits);
     }
-    prepare_with(s, inputs, outputs, gates, ands, k, tapes, corrections);
+    prepare_with(s, z, k, tapes, corrections);
     Answer::Done
 }
 
@@ -110,15 +80,6 @@ pub fn prepare(s: &[u8], n: u32, tapes: &[u8], corrections: &mut [u8]) -> Answer
     let answer = read(s);
     match answer {
         ReadAnswer::Refused(k) => Answer::Refused(k),
-        ReadAnswer::Legal(z) => prepare_lent(
-            s,
-            z.inputs,
-            z.outputs,
-            z.gates,
-            z.ands,
-            n,
-            tapes,
-            corrections,
-        ),
+        ReadAnswer::Legal(z) => prepare_lent(s, z, n, tapes, corrections),
     }
 }

@@ -16,6 +16,7 @@ use crate::tests::holds;
 use crate::tests::holds_rows;
 use crate::tests::unused_rows;
 use circuit::ReadAnswer;
+use circuit::Sizes;
 use circuit::reading::read;
 use engine::chain::speak;
 use engine::chain::walk;
@@ -29,10 +30,7 @@ use refusal::Refusal;
 // Runs the circuit in a work memory.
 fn run_in(
     s: &[u8],
-    inputs: usize,
-    outputs: usize,
-    gates: usize,
-    ands: usize,
+    z: Sizes,
     n: usize,
     witness: &[u8],
     tapes: &[u8],
@@ -42,31 +40,28 @@ fn run_in(
     y: &mut [u8],
     memory: &mut [u8],
 )
-    requires { ⌜ Known (now s) inputs outputs gates ands × (Begun (inputs + gates) n (now memory) × (WitnessFits inputs (now witness) × RunLent inputs outputs ands n (now tapes) (now corrections) (now masked) (now rows) (now y))) ⌝ }
+    requires { ⌜ Known (now s) z × (Begun z n (now memory) × (WitnessFits z (now witness) × RunLent z n (now tapes) (now corrections) (now masked) (now rows) (now y))) ⌝ }
     ensures { λ _. ⌜ now (masked .exit) ∷ now (rows .exit) ∷ now (y .exit) ∷ [] ≡ ran (circuitOf (now (s .entry))) n (now (witness .entry)) (now (tapes .entry)) (now (corrections .entry)) ⌝ }
 {
     let head = bits::read_u16(s, 6) as usize;
-    let wires = inputs + gates;
-    let len = bits::oct(inputs + 2 * ands);
-    load_tapes(tapes, len, n, wires, inputs, ands, memory);
-    unpack(corrections, 0, ands, memory, 48 * wires + (n - 1));
-    mask_inputs(witness, inputs, n, wires, memory);
-    pack(memory, 16 * wires, inputs, masked);
-    walk(s, inputs, outputs, gates, head, n, n, false, memory);
+    let wires = z.inputs + z.gates;
+    let len = bits::oct(z.inputs + 2 * z.ands);
+    load_tapes(tapes, len, n, wires, z.inputs, z.ands, memory);
+    unpack(corrections, 0, z.ands, memory, 48 * wires + (n - 1));
+    mask_inputs(witness, z.inputs, n, wires, memory);
+    pack(memory, 16 * wires, z.inputs, masked);
+    walk(s, z, head, n, n, false, memory);
     let mut values = [0u8; 4096];
-    speak(s, inputs, outputs, gates, ands, n, n, memory, &mut values);
-    let said = ands + outputs;
+    speak(s, z, n, n, memory, &mut values);
+    let said = z.ands + z.outputs;
     pack_rows(memory, wires, n, said, bits::oct(said), rows);
-    pack(&values, 0, outputs, y);
+    pack(&values, 0, z.outputs, y);
 }
 
 // The same with a work memory of its own.
 fn run_with(
     s: &[u8],
-    inputs: usize,
-    outputs: usize,
-    gates: usize,
-    ands: usize,
+    z: Sizes,
     n: usize,
     witness: &[u8],
     tapes: &[u8],
@@ -75,16 +70,13 @@ fn run_with(
     rows: &mut [u8],
     y: &mut [u8],
 )
-    requires { ⌜ Known (now s) inputs outputs gates ands × (Parties n × (WitnessFits inputs (now witness) × RunLent inputs outputs ands n (now tapes) (now corrections) (now masked) (now rows) (now y))) ⌝ }
+    requires { ⌜ Known (now s) z × (Parties n × (WitnessFits z (now witness) × RunLent z n (now tapes) (now corrections) (now masked) (now rows) (now y))) ⌝ }
     ensures { λ _. ⌜ now (masked .exit) ∷ now (rows .exit) ∷ now (y .exit) ∷ [] ≡ ran (circuitOf (now (s .entry))) n (now (witness .entry)) (now (tapes .entry)) (now (corrections .entry)) ⌝ }
 {
     let mut memory = [0u8; 299008];
     run_in(
         s,
-        inputs,
-        outputs,
-        gates,
-        ands,
+        z,
         n,
         witness,
         tapes,
@@ -98,9 +90,7 @@ fn run_with(
 
 // Whether the lengths of what run is lent are as stated.
 fn run_lengths(
-    inputs: usize,
-    outputs: usize,
-    ands: usize,
+    z: Sizes,
     n: usize,
     witness: &[u8],
     tapes: &[u8],
@@ -109,30 +99,27 @@ fn run_lengths(
     rows: &[u8],
     y: &[u8],
 ) -> bool
-    requires { ⌜ (n ≤ 16) × ((inputs ≤ 512) × ((outputs ≤ 256) × (ands ≤ 4096))) ⌝ }
-    ensures { λ r. ⌜ r ≡ eqb (length (now (witness .entry))) (oct inputs) && eqb (length (now (tapes .entry))) (n * oct (inputs + 2 * ands)) && eqb (length (now (corrections .entry))) (oct ands) && eqb (length (now (masked .entry))) (oct inputs) && eqb (length (now (rows .entry))) (n * oct (ands + outputs)) && eqb (length (now (y .entry))) (oct outputs) ⌝ }
+    requires { ⌜ (n ≤ 16) × ((z .inputs ≤ 512) × ((z .outputs ≤ 256) × (z .ands ≤ 4096))) ⌝ }
+    ensures { λ r. ⌜ r ≡ eqb (length (now (witness .entry))) (oct (z .inputs)) && eqb (length (now (tapes .entry))) (n * oct (z .inputs + 2 * z .ands)) && eqb (length (now (corrections .entry))) (oct (z .ands)) && eqb (length (now (masked .entry))) (oct (z .inputs)) && eqb (length (now (rows .entry))) (n * oct (z .ands + z .outputs)) && eqb (length (now (y .entry))) (oct (z .outputs)) ⌝ }
 {
     let lent = both(
         both(
-            holds(witness, inputs),
-            holds_rows(tapes, n, inputs + 2 * ands),
+            holds(witness, z.inputs),
+            holds_rows(tapes, n, z.inputs + 2 * z.ands),
         ),
-        holds(corrections, ands),
+        holds(corrections, z.ands),
     );
     let out = both(
-        both(lent, holds(masked, inputs)),
-        holds_rows(rows, n, ands + outputs),
+        both(lent, holds(masked, z.inputs)),
+        holds_rows(rows, n, z.ands + z.outputs),
     );
-    both(out, holds(y, outputs))
+    both(out, holds(y, z.outputs))
 }
 
 // Tests what is lent, and runs a legal circuit.
 fn run_lent(
     s: &[u8],
-    inputs: usize,
-    outputs: usize,
-    gates: usize,
-    ands: usize,
+    z: Sizes,
     n: u32,
     witness: &[u8],
     tapes: &[u8],
@@ -141,48 +128,24 @@ fn run_lent(
     rows: &mut [u8],
     y: &mut [u8],
 ) -> Answer
-    requires { ⌜ Known (now s) inputs outputs gates ands ⌝ }
+    requires { ⌜ Known (now s) z ⌝ }
     ensures { λ r. ⌜ outcome r (now (masked .exit) ∷ now (rows .exit) ∷ now (y .exit) ∷ []) ≡ runLegal n (now (witness .entry)) (now (tapes .entry)) (now (corrections .entry)) (now (masked .entry)) (now (rows .entry)) (now (y .entry)) (circuitOf (now (s .entry))) ⌝ }
 {
     if parties::height(n) == 0 {
         return Answer::Refused(Refusal::Parameter);
     }
     let k = n as usize;
-    if !run_lengths(
-        inputs,
-        outputs,
-        ands,
-        k,
-        witness,
-        tapes,
-        corrections,
-        masked,
-        rows,
-        y,
-    ) {
+    if !run_lengths(z, k, witness, tapes, corrections, masked, rows, y) {
         return Answer::Refused(Refusal::BufferLength);
     }
     let clean = both(
-        bits::unused_zero(witness, inputs),
-        unused_rows(s, inputs, outputs, gates, ands, k, tapes),
+        bits::unused_zero(witness, z.inputs),
+        unused_rows(s, z, k, tapes),
     );
-    if !both(clean, bits::unused_zero(corrections, ands)) {
+    if !both(clean, bits::unused_zero(corrections, z.ands)) {
         return Answer::Refused(Refusal::UnusedBits);
     }
-    run_with(
-        s,
-        inputs,
-        outputs,
-        gates,
-        ands,
-        k,
-        witness,
-        tapes,
-        corrections,
-        masked,
-        rows,
-        y,
-    );
+    run_with(s, z, k, witness, tapes, corrections, masked, rows, y);
     Answer::Done
 }
 
@@ -202,19 +165,6 @@ pub fn run(
     let answer = read(s);
     match answer {
         ReadAnswer::Refused(k) => Answer::Refused(k),
-        ReadAnswer::Legal(z) => run_lent(
-            s,
-            z.inputs,
-            z.outputs,
-            z.gates,
-            z.ands,
-            n,
-            witness,
-            tapes,
-            corrections,
-            masked,
-            rows,
-            y,
-        ),
+        ReadAnswer::Legal(z) => run_lent(s, z, n, witness, tapes, corrections, masked, rows, y),
     }
 }

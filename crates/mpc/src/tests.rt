@@ -8,6 +8,7 @@ ghost use Rattle.bits.specs.Bits.{oct};
 ghost use Rattle.circuit.specs.File.{circuitOf};
 ghost use Rattle.mpc.specs.Tapes.{unusedRows};
 ghost use Rattle.mpc.specs.Lent.{Known};
+use circuit::Sizes;
 
 // Both of two tests.
 pub fn both(a: bool, b: bool) -> bool
@@ -51,18 +52,12 @@ pub fn used_bits(inputs: usize, ands: usize, n: usize, i: usize) -> usize
 }
 
 // Whether the unused bits of all n rows of the tapes are zero.
-pub fn unused_rows(
-    s: &[u8],
-    inputs: usize,
-    outputs: usize,
-    gates: usize,
-    ands: usize,
-    n: usize,
-    tapes: &[u8],
-) -> bool
-    requires { ⌜ Known (now s) inputs outputs gates ands × (n ≤ 16) ⌝ }
+pub fn unused_rows(s: &[u8], z: Sizes, n: usize, tapes: &[u8]) -> bool
+    requires { ⌜ Known (now s) z × (n ≤ 16) ⌝ }
     ensures { λ r. ⌜ r ≡ unusedRows (circuitOf (now (s .entry))) n (now (tapes .entry)) n ⌝ }
 {
+    let inputs = z.inputs;
+    let ands = z.ands;
     let len = bits::oct(inputs + 2 * ands);
     let mut good = true;
     let mut i = 0;

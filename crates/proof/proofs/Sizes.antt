@@ -15,7 +15,7 @@ use Rattle.circuit.specs.File.{circuitOf}
 use Rattle.mpc.specs.Lent.{Known}
 use Rattle.mpc.specs.Tapes.{andsOf}
 use Rattle.mpc.proofs.Asks.{ands-few, broadcasts-few}
-use Rattle.mpc.proofs.Opened.{circuit-inputs, circuit-outputs, circuit-ands}
+use Rattle.mpc.proofs.Opened.{sized, circuit-inputs, circuit-outputs, circuit-ands}
 use Rattle.instance.specs.Instance.{Asked, opened, hiding}
 use Rattle.instance.specs.Stretch.{correctionBytes, stretchBytes}
 use Rattle.instance.specs.Worked.{Tree}
@@ -39,7 +39,7 @@ unfolding stretchBytes
 size-opened c n p e = sym (ap (stretchBytes c n) (ask-opened n p e))
 
 -- a legal circuit
-module _ (s : List ℕ) (i o g a : ℕ) (k : Known s i o g a) where
+module _ (s : List ℕ) (i o g a : ℕ) (k : Known s (sized i o g a)) where
   -- the stretch of a chosen instance, of which v bytes are corrections
   pub size-hiding : (n h p v x y : ℕ) → Tree n h → p ≤ n → (p ≡ n → ⊥) → v ≡ cond (eqb (suc p) n) 0 (oct a) → x ≡ oct i → y ≡ oct (a + o)
       → 16 * h + v + 32 + (x + y) ≡ stretchBytes (circuitOf s) n (askOf n p)

@@ -10,13 +10,13 @@ use mir.Val.{Fits}
 use lib.ListN.{take, replicate}
 use Rattle.bits.specs.Bits.{oct}
 use Rattle.mpc.specs.Lent.{Known}
-use Rattle.mpc.proofs.Opened.{ands-low}
+use Rattle.mpc.proofs.Opened.{sized, ands-low}
 use Rattle.mpc.proofs.Asks.{small}
 use Rattle.instance.specs.Worked.{Tree, Lent}
 use Rattle.instance.proofs.Sent.{tree-sizes, front-length}
 
 -- a legal file
-module _ (s : List ℕ) (i o g a : ℕ) (k : Known s i o g a) where
+module _ (s : List ℕ) (i o g a : ℕ) (k : Known s (sized i o g a)) where
   -- the bits of a tape are few
   row-few : i + 2 * a ≤ 8704
   row-few = omega (arith, ands-low s i o g a k, k .legal .laid .few-inputs, k .legal .laid .few-gates)
@@ -56,7 +56,7 @@ module _ (s : List ℕ) (i o g a : ℕ) (k : Known s i o g a) where
     tapes-fit = small (n * r) (omega (arith, tapes-few))
 
     -- what an instance is lent: the fronts of two arrays of zeros
-    pub fronts-lent : Lent s i o g a n h (take (n * r) (replicate {A = ℕ} 17408 0)) (take (64 * (i + g) + 4096) (replicate {A = ℕ} 299008 0))
+    pub fronts-lent : Lent s (sized i o g a) n h (take (n * r) (replicate {A = ℕ} 17408 0)) (take (64 * (i + g) + 4096) (replicate {A = ℕ} 299008 0))
     fronts-lent =
         record {
           known = k;

@@ -15,6 +15,9 @@ use Rattle.instance.specs.Instance.{Asked}
 use Rattle.instance.specs.Stretch.{stretchBytes}
 
 -- "M u16, τ u16, n u8, zero u8, h* (32): 38 bytes"
+abbrev pub headerBytes : ℕ
+headerBytes = 38
+
 unfoldable pub headerOf : ℕ → ℕ → ℕ → List ℕ → List ℕ
 headerOf M tau n hstar = leBytes 2 M ++ leBytes 2 tau ++ (n ∷ 0 ∷ []) ++ hstar
 
@@ -36,11 +39,11 @@ headerHstar proof = take 32 (drop 6 proof)
 -- refusal 11: "a header under 38 bytes, out of limits or with its zero byte not 0"
 unfoldable pub goodHeader : List ℕ → Bool
 goodHeader proof =
-    leb 38 (length proof) && (areCounts (headerM proof) (headerTau proof) && (isPartyCount (headerN proof) && eqb (headerZero proof) 0))
+    leb headerBytes (length proof) && (areCounts (headerM proof) (headerTau proof) && (isPartyCount (headerN proof) && eqb (headerZero proof) 0))
 
 -- where the stretch of instance j starts: after the header and the stretches before it
 unfoldable pub stretchStart : Circuit → ℕ → (ℕ → Asked) → ℕ → ℕ
-stretchStart c n ask zero = 38
+stretchStart c n ask zero = headerBytes
 stretchStart c n ask (suc j) = stretchStart c n ask j + stretchBytes c n (ask j)
 
 -- the length of a proof of M instances
@@ -54,4 +57,4 @@ stretchAt c n ask proof j = take (stretchBytes c n (ask j)) (drop (stretchStart 
 -- "the proof buffer must hold 38 + 48(M−τ) + τ(16·log2 n + oct(A) + 32 + oct(I) + oct(A+O)) or more"
 unfoldable pub proofRoom : Circuit → ℕ → ℕ → ℕ → ℕ
 proofRoom c M tau n =
-    38 + 48 * (M - tau) + tau * (16 * heightOf n + oct (andsOf c) + 32 + oct (c .inputs) + oct (andsOf c + length (c .outputs)))
+    headerBytes + 48 * (M - tau) + tau * (16 * heightOf n + oct (andsOf c) + 32 + oct (c .inputs) + oct (andsOf c + length (c .outputs)))

@@ -12,7 +12,7 @@ use Rattle.circuit.specs.Circuit.{Circuit, evaluate}
 use Rattle.circuit.specs.File.{readCircuit}
 use Rattle.circuit.specs.Operations.{success}
 use Rattle.mpc.specs.Operations.{Outcome, unless, onLegal, holds}
-use Rattle.seeds.specs.Operations.{areCounts}
+use Rattle.seeds.specs.Operations.{maxMessage, areCounts}
 use Rattle.proof.specs.Protocol.{firstMessage, challenged, responseOf}
 use Rattle.proof.specs.File.{headerOf, proofRoom}
 
@@ -36,7 +36,7 @@ proveLegal witness y message root M tau n buffer c =
     let lent : List (List ℕ) = buffer ∷ [] in
     unless (areCounts M tau && isPartyCount n) 8 lent
     (unless
-    (holds (c .inputs) witness && holds (length (c .outputs)) y && leb (length message) 4096 && eqb (length root) 16
+    (holds (c .inputs) witness && holds (length (c .outputs)) y && leb (length message) maxMessage && eqb (length root) 16
     && leb (proofRoom c M tau n) (length buffer))
     6 lent
     (unless (unusedZero (c .inputs) witness && unusedZero (length (c .outputs)) y) 7 lent

@@ -3,10 +3,13 @@ ghost use mathlib.Core.Path.{_≡_};
 ghost use Prim.Native.Nat.{_≤_};
 ghost use Rattle.circuit.specs.File.{circuitOf};
 ghost use Rattle.mpc.specs.Lent.{Known};
+ghost use Rattle.seeds.specs.Operations.{maxInstances};
 ghost use Rattle.instance.specs.Stretch.{stretchBytes};
 ghost use Rattle.instance.specs.Worked.{Tree};
 ghost use Rattle.proof.specs.File.{proofBytes};
 ghost use Rattle.proof.specs.Asks.{askOf, partyIn, asksIn, Asking};
+use crate::HEADER_BYTES;
+use circuit::Sizes;
 use instance::checking::sent_bytes;
 
 // The hidden party of instance j by the bytes of a challenge; n where it is not chosen.
@@ -26,46 +29,29 @@ pub fn asked(choices: &[u8], n: u32, j: u32) -> u32
 }
 
 // The bytes of the stretch of an instance of which p is asked.
-pub fn stretch_bytes(
-    s: &[u8],
-    inputs: usize,
-    outputs: usize,
-    gates: usize,
-    ands: usize,
-    n: u32,
-    h: u32,
-    p: u32,
-) -> usize
-    requires { ⌜ Known (now s) inputs outputs gates ands × (Tree n h × (p ≤ n)) ⌝ }
+pub fn stretch_bytes(s: &[u8], z: Sizes, n: u32, h: u32, p: u32) -> usize
+    requires { ⌜ Known (now s) z × (Tree n h × (p ≤ n)) ⌝ }
     ensures { λ r. ⌜ r ≡ stretchBytes (circuitOf (now (s .entry))) n (askOf n p) ⌝ }
 {
     if p == n {
         return 48;
     }
-    let row = bits::oct(inputs) + bits::oct(ands + outputs);
+    let outputs = z.outputs;
+    let ands = z.ands;
+    let row = bits::oct(z.inputs) + bits::oct(ands + outputs);
     16 * (h as usize) + sent_bytes(ands, n, p) + 32 + row
 }
 
 // The bytes of a proof of m instances.
-pub fn proof_bytes(
-    s: &[u8],
-    inputs: usize,
-    outputs: usize,
-    gates: usize,
-    ands: usize,
-    m: u32,
-    n: u32,
-    h: u32,
-    choices: &[u8],
-) -> usize
-    requires { ⌜ Known (now s) inputs outputs gates ands × (Tree n h × ((m ≤ 512) × Asking n (now choices))) ⌝ }
+pub fn proof_bytes(s: &[u8], z: Sizes, m: u32, n: u32, h: u32, choices: &[u8]) -> usize
+    requires { ⌜ Known (now s) z × (Tree n h × ((m ≤ maxInstances) × Asking n (now choices))) ⌝ }
     ensures { λ r. ⌜ r ≡ proofBytes (circuitOf (now (s .entry))) m n (asksIn n (now (choices .entry))) ⌝ }
 {
-    let mut at = 38;
+    let mut at = HEADER_BYTES;
     let mut j = 0;
     while j < m {
         let p = asked(choices, n, j);
-        at += stretch_bytes(s, inputs, outputs, gates, ands, n, h, p);
+        at += stretch_bytes(s, z, n, h, p);
         j += 1;
     }
     at

@@ -13,6 +13,7 @@ use Rattle.keccak.proofs.Lengths.{length-sha3-256}
 use Rattle.parties.specs.Parties.{heightOf}
 use Rattle.circuit.specs.Circuit.{Circuit}
 use Rattle.circuit.specs.File.{circuitOf}
+use Rattle.circuit.specs.declared.Sizes.{Sizes}
 use Rattle.seeds.specs.Challenge.{challengeOf}
 use Rattle.seeds.specs.Digest.{transcriptOf}
 use Rattle.seeds.specs.Operations.{outcome, challengeOp}
@@ -32,6 +33,7 @@ use Rattle.honest.proofs.Proved.{has-height}
 use Rattle.honest.proofs.Written.{length-proof}
 use Rattle.honest.proofs.Room.{proof-fits}
 use Rattle.proving.specs.Steps.{onlinesOf, Response, Tested}
+use Rattle.mpc.proofs.Opened.{sized}
 
 -- the buffer B; the h'_j, in on
 module _ (M : ℕ) (B on : List ℕ) (fit : 38 + 32 * M ≤ length B) (count : length on ≡ length (midOf 38 (38 + 32 * M - 38) B)) where
@@ -112,7 +114,7 @@ unfolding firstMessage hstarOf transcriptOf
 length-hstar c M n w root = length-sha3-256 _
 
 -- the tests are past
-module _ (s : List ℕ) (i M tau n h : ℕ) (w message root B : List ℕ) (t : Tested s i M tau n w message root B) (tree : Tree n h) where
+module _ (s : List ℕ) (sizes : Sizes) (M tau n h : ℕ) (w message root B : List ℕ) (t : Tested s sizes M tau n w message root B) (tree : Tree n h) where
   -- the circuit
   abbrev c : Circuit
   c = circuitOf s
@@ -234,7 +236,7 @@ module _ (s : List ℕ) (i M tau n h : ℕ) (w message root B : List ℕ) (t : T
           buffer-kept l = same-len-mid 38 (size - 38) ready z l ∙ length-ready
 
 -- buffers as long as those of an instance are lent as well
-pub lent-again : (s : List ℕ) (i o g a n h : ℕ) (tapes memory t m : List ℕ) → Lent s i o g a n h tapes memory → length t ≡ length tapes
-    → length m ≡ length memory → Lent s i o g a n h t m
+pub lent-again : (s : List ℕ) (i o g a n h : ℕ) (tapes memory t m : List ℕ) → Lent s (sized i o g a) n h tapes memory → length t ≡ length tapes
+    → length m ≡ length memory → Lent s (sized i o g a) n h t m
 lent-again s i o g a n h tapes memory t m l e f =
     record { known = l .known; tree = l .tree; tapes-fit = e ∙ l .tapes-fit; room = omega (arith, f, l .room) }

@@ -26,6 +26,7 @@ use Rattle.instance.specs.Worked.{Lent}
 use Rattle.instance.proofs.Seeded.{flatten-more}
 use Rattle.proof.specs.Protocol.{hstarOf, firstMessage}
 use Rattle.proof.proofs.Digests.{sha3-bytes}
+use Rattle.mpc.proofs.Opened.{sized}
 
 -- rows of bytes are bytes
 bytes-rows : (n : ℕ) (f : ℕ → List ℕ) → ((i : ℕ) → Bytes (f i)) → Bytes (flatten (tabulate n f))
@@ -48,8 +49,8 @@ unfolding allCommitmentsInput
 commitments-more M N = append-assoc (9 ∷ []) M N
 
 -- buffers of the same lengths serve as well
-pub lent-kept : (s : List ℕ) (i o g a n h : ℕ) (tapes memory t m : List ℕ) → Lent s i o g a n h tapes memory → length t ≡ length tapes
-    → length m ≡ length memory → Lent s i o g a n h t m
+pub lent-kept : (s : List ℕ) (i o g a n h : ℕ) (tapes memory t m : List ℕ) → Lent s (sized i o g a) n h tapes memory → length t ≡ length tapes
+    → length m ≡ length memory → Lent s (sized i o g a) n h t m
 lent-kept s i o g a n h tapes memory t m l p q = record { known = l .known; tree = l .tree; tapes-fit = p ∙ l .tapes-fit; room = rw q (l .room) }
 
 -- h'_j has 32 bytes

@@ -16,15 +16,15 @@ use Rattle.circuit.specs.Operations.{Outcome, success, evaluateLegal, evaluateR
 use Rattle.circuit.specs.Answers.{outcome}
 use Rattle.circuit.specs.declared.EvaluateAnswer.{EvaluateAnswer}
 use Rattle.mpc.specs.Lent.{Known, WitnessFits}
-use Rattle.mpc.proofs.Opened.{circuit-inputs, circuit-outputs}
+use Rattle.mpc.proofs.Opened.{sized, circuit-inputs, circuit-outputs}
 use Rattle.proof.specs.Prove.{witnesses}
 
 -- the output's bytes are few
-pub few-output : (s : List ℕ) (i o g a r : ℕ) → Known s i o g a → r ≡ oct o → r ≤ 32
+pub few-output : (s : List ℕ) (i o g a r : ℕ) → Known s (sized i o g a) → r ≡ oct o → r ≤ 32
 few-output s i o g a r k e = omega (arith, e, k .legal .laid .few-outputs)
 
 -- a legal file, a witness, and a buffer z for the output
-module _ (s : List ℕ) (i o g a : ℕ) (w z : List ℕ) (read : readCircuit s ≡ legal (circuitOf s)) (k : Known s i o g a) (fits : WitnessFits i w)
+module _ (s : List ℕ) (i o g a : ℕ) (w z : List ℕ) (read : readCircuit s ≡ legal (circuitOf s)) (k : Known s (sized i o g a)) (fits : WitnessFits (sized i o g a) w)
     (room : length z ≡ oct o) where
   -- evaluating fills it
   evaluates : evaluateOp s w z ≡ record { answer = success []; left = pack (evaluate (circuitOf s) (bitAt w)) }

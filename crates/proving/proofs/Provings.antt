@@ -22,7 +22,7 @@ use Rattle.circuit.specs.declared.ReadAnswer.the-variants as readAnswer
 use Rattle.circuit.proofs.Answered.{fell, held}
 use Rattle.mpc.specs.Operations.{onLegal}
 use Rattle.mpc.specs.Lent.{Known, WitnessFits}
-use Rattle.mpc.proofs.Opened.{opened-refused, opened-legal, circuit-inputs, circuit-outputs}
+use Rattle.mpc.proofs.Opened.{sized, opened-refused, opened-legal, circuit-inputs, circuit-outputs}
 use Rattle.seeds.specs.Operations.{areCounts}
 use Rattle.seeds.proofs.Instances.{counts-fit}
 use Rattle.instance.specs.Worked.{Tree}
@@ -41,7 +41,7 @@ five b1 b2 b3 b4 b5 z =
     (and-true-left b1 b2 z2, (and-true-right (b1 && b2) b3 z3, and-true-right (b1 && b2 && b3 && b4) b5 z))
 
 -- the answers on a legal file; the test of the counts is b2
-module _ (s : List ℕ) (i o g a : ℕ) (k : Known s i o g a) (w y message root buffer : List ℕ) (m tau n h : ℕ) (count : h ≡ heightOf n) (b1 b2 : Bool)
+module _ (s : List ℕ) (i o g a : ℕ) (k : Known s (sized i o g a)) (w y message root buffer : List ℕ) (m tau n h : ℕ) (count : h ≡ heightOf n) (b1 b2 : Bool)
     (f1 : b1 ≡ areCounts m tau) (f2 : b2 ≡ b1 && not (eqb h 0)) where
   -- in the words of the operation
   counts-right : b2 ≡ areCounts m tau && isPartyCount n
@@ -109,11 +109,11 @@ module _ (s : List ℕ) (i o g a : ℕ) (k : Known s i o g a) (w y message root 
         -- no unused bit is set
         module _ (t6 : not b6 ≡ false) where
           -- the witness is as stated
-          pub prove-witness : WitnessFits i w
+          pub prove-witness : WitnessFits (sized i o g a) w
           prove-witness = record { size = lent-holds .0; unused = sym f4 ∙ and-true-left b4 b5 (held _ b6 f6 t6) }
 
           -- what the steps ask
-          pub prove-tested : Tested s i m tau n w message root buffer
+          pub prove-tested : Tested s (sized i o g a) m tau n w message root buffer
           prove-tested = record { witness-fits = prove-witness; counts = counts-hold; short = lent-holds .1 .0; room = lent-holds .1 .1 }
 
           -- the test of the output is b7

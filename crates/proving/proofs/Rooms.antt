@@ -14,13 +14,13 @@ use Rattle.parties.proofs.Counts.{height-small}
 use Rattle.circuit.specs.File.{circuitOf}
 use Rattle.mpc.specs.Lent.{Known}
 use Rattle.mpc.specs.Tapes.{andsOf}
-use Rattle.mpc.proofs.Opened.{circuit-inputs, circuit-outputs, circuit-ands, ands-low}
+use Rattle.mpc.proofs.Opened.{sized, circuit-inputs, circuit-outputs, circuit-ands, ands-low}
 use Rattle.mpc.proofs.Asks.{small}
 use Rattle.instance.specs.Worked.{Tree}
 use Rattle.proof.specs.File.{proofRoom}
 
 -- a legal file
-module _ (s : List ℕ) (i o g a : ℕ) (k : Known s i o g a) where
+module _ (s : List ℕ) (i o g a : ℕ) (k : Known s (sized i o g a)) where
   -- m instances, of which tau are chosen; the bytes x, y and z of their parts
   module _ (m tau n h x y z : ℕ) (few : m ≤ 512) (low : tau ≤ m) (tree : Tree n h) (e : x ≡ oct i) (f : y ≡ oct (a + o)) (d : z ≡ oct a) where
     -- the bytes of a chosen stretch

@@ -8,11 +8,12 @@ use lib.ListN.{length, take}
 use Rattle.bits.specs.Bits.{tabulate}
 use Rattle.circuit.specs.Circuit.{Circuit}
 use Rattle.circuit.specs.File.{circuitOf}
+use Rattle.circuit.specs.declared.Sizes.{Sizes}
 use Rattle.mpc.specs.Lent.{WitnessFits}
 use Rattle.seeds.specs.Derive.{masterOf}
-use Rattle.seeds.specs.Operations.{areCounts}
+use Rattle.seeds.specs.Operations.{maxInstances, maxMessage, areCounts}
 use Rattle.instance.specs.Instance.{masterOnline}
-use Rattle.proof.specs.File.{proofBytes, proofRoom}
+use Rattle.proof.specs.File.{headerBytes, proofBytes, proofRoom}
 use Rattle.proof.specs.Asks.{asksIn, Asking}
 
 -- all h'_j, one after the other
@@ -21,14 +22,14 @@ onlinesOf c M n witness root = flatten (tabulate M (λ j. masterOnline c n j wit
 
 -- what the response is lent: the bytes that the challenge asks for, all h'_j at their start
 pub record Response (s : List ℕ) (M n : ℕ) (witness root choices part : List ℕ) : Type 0 where
-  pub few : M ≤ 512
+  pub few : M ≤ maxInstances
   pub asking : Asking n choices
-  pub size : 38 + length part ≡ proofBytes (circuitOf s) M n (asksIn n choices)
+  pub size : headerBytes + length part ≡ proofBytes (circuitOf s) M n (asksIn n choices)
   pub onlines : take (32 * M) part ≡ onlinesOf (circuitOf s) M n witness root
 
 -- what prove has when its tests are past
-pub record Tested (s : List ℕ) (i M tau n : ℕ) (witness message root buffer : List ℕ) : Type 0 where
-  pub witness-fits : WitnessFits i witness
+pub record Tested (s : List ℕ) (z : Sizes) (M tau n : ℕ) (witness message root buffer : List ℕ) : Type 0 where
+  pub witness-fits : WitnessFits z witness
   pub counts : areCounts M tau ≡ true
-  pub short : length message ≤ 4096
+  pub short : length message ≤ maxMessage
   pub room : proofRoom (circuitOf s) M tau n ≤ length buffer

@@ -7,6 +7,7 @@ ghost use lib.ListN.{length};
 ghost use Rattle.bits.specs.Bits.{oct};
 ghost use Rattle.circuit.specs.File.{readCircuit, legal, circuitOf};
 ghost use Rattle.mpc.specs.Lent.{Known, WitnessFits};
+ghost use Rattle.seeds.specs.Operations.{maxInstances, maxMessage};
 ghost use Rattle.instance.specs.Worked.{Tree};
 ghost use Rattle.proof.specs.File.{proofRoom};
 ghost use Rattle.proof.specs.Prove.{witnesses, proveLegal, proveOp};
@@ -16,11 +17,14 @@ mod responding;
 mod writing;
 
 use circuit::ReadAnswer;
+use circuit::Sizes;
 use circuit::evaluation::evaluate;
 use circuit::reading::read;
 use mpc::tests::both;
 use mpc::tests::holds;
+use proof::HEADER_BYTES;
 use refusal::Refusal;
+use seeds::MAX_MESSAGE;
 use seeds::counts;
 use writing::prove_with;
 
@@ -31,32 +35,21 @@ pub enum Answer {
 }
 
 // The bytes that the proof buffer must hold.
-fn room(
-    s: &[u8],
-    inputs: usize,
-    outputs: usize,
-    gates: usize,
-    ands: usize,
-    m: usize,
-    tau: usize,
-    n: u32,
-    h: u32,
-) -> usize
-    requires { ⌜ Known (now s) inputs outputs gates ands × ((m ≤ 512) × ((tau ≤ m) × Tree n h)) ⌝ }
+fn room(s: &[u8], z: Sizes, m: usize, tau: usize, n: u32, h: u32) -> usize
+    requires { ⌜ Known (now s) z × ((m ≤ maxInstances) × ((tau ≤ m) × Tree n h)) ⌝ }
     ensures { λ r. ⌜ r ≡ proofRoom (circuitOf (now (s .entry))) m tau n ⌝ }
 {
-    let row = bits::oct(inputs) + bits::oct(ands + outputs);
+    let outputs = z.outputs;
+    let ands = z.ands;
+    let row = bits::oct(z.inputs) + bits::oct(ands + outputs);
     let chosen = 16 * (h as usize) + bits::oct(ands) + 32 + row;
-    38 + 48 * (m - tau) + tau * chosen
+    HEADER_BYTES + 48 * (m - tau) + tau * chosen
 }
 
 // Whether the lengths of what prove is lent are as stated.
 fn lengths(
     s: &[u8],
-    inputs: usize,
-    outputs: usize,
-    gates: usize,
-    ands: usize,
+    z: Sizes,
     m: usize,
     tau: usize,
     n: u32,
@@ -67,31 +60,23 @@ fn lengths(
     root: &[u8],
     buffer: &[u8],
 ) -> bool
-    requires { ⌜ Known (now s) inputs outputs gates ands × ((m ≤ 512) × ((tau ≤ m) × Tree n h)) ⌝ }
-    ensures { λ r. ⌜ r ≡ eqb (length (now (witness .entry))) (oct inputs) && eqb (length (now (y .entry))) (oct outputs) && leb (length (now (message .entry))) 4096 && eqb (length (now (root .entry))) 16 && leb (proofRoom (circuitOf (now (s .entry))) m tau n) (length (now (buffer .entry))) ⌝ }
+    requires { ⌜ Known (now s) z × ((m ≤ maxInstances) × ((tau ≤ m) × Tree n h)) ⌝ }
+    ensures { λ r. ⌜ r ≡ eqb (length (now (witness .entry))) (oct (z .inputs)) && eqb (length (now (y .entry))) (oct (z .outputs)) && leb (length (now (message .entry))) maxMessage && eqb (length (now (root .entry))) 16 && leb (proofRoom (circuitOf (now (s .entry))) m tau n) (length (now (buffer .entry))) ⌝ }
 {
     let lent = both(
-        both(holds(witness, inputs), holds(y, outputs)),
-        message.len() <= 4096,
+        both(holds(witness, z.inputs), holds(y, z.outputs)),
+        message.len() <= MAX_MESSAGE,
     );
-    let space = room(s, inputs, outputs, gates, ands, m, tau, n, h) <= buffer.len();
+    let space = room(s, z, m, tau, n, h) <= buffer.len();
     both(both(lent, root.len() == 16), space)
 }
 
 // Whether the witness gives y.
-fn gives(
-    s: &[u8],
-    inputs: usize,
-    outputs: usize,
-    gates: usize,
-    ands: usize,
-    witness: &[u8],
-    y: &[u8],
-) -> bool
-    requires { ⌜ (readCircuit (now s) ≡ legal (circuitOf (now s))) × (Known (now s) inputs outputs gates ands × WitnessFits inputs (now witness)) ⌝ }
+fn gives(s: &[u8], z: Sizes, witness: &[u8], y: &[u8]) -> bool
+    requires { ⌜ (readCircuit (now s) ≡ legal (circuitOf (now s))) × (Known (now s) z × WitnessFits z (now witness)) ⌝ }
     ensures { λ r. ⌜ r ≡ witnesses (circuitOf (now (s .entry))) (now (witness .entry)) (now (y .entry)) ⌝ }
 {
-    let len = bits::oct(outputs);
+    let len = bits::oct(z.outputs);
     let mut out = [0u8; 32];
     let _ = evaluate(s, witness, &mut out[..len]);
     bits::same(&out[..len], y)
@@ -100,10 +85,7 @@ fn gives(
 // Tests what is lent, and proves a legal circuit.
 fn prove_lent(
     s: &[u8],
-    inputs: usize,
-    outputs: usize,
-    gates: usize,
-    ands: usize,
+    z: Sizes,
     witness: &[u8],
     y: &[u8],
     message: &[u8],
@@ -113,7 +95,7 @@ fn prove_lent(
     n: u32,
     buffer: &mut [u8],
 ) -> Answer
-    requires { ⌜ (readCircuit (now s) ≡ legal (circuitOf (now s))) × Known (now s) inputs outputs gates ands ⌝ }
+    requires { ⌜ (readCircuit (now s) ≡ legal (circuitOf (now s))) × Known (now s) z ⌝ }
     ensures { λ r. ⌜ outcome r (now (buffer .exit)) ≡ proveLegal (now (witness .entry)) (now (y .entry)) (now (message .entry)) (now (root .entry)) m tau n (now (buffer .entry)) (circuitOf (now (s .entry))) ⌝ }
 {
     let h = parties::height(n);
@@ -122,10 +104,7 @@ fn prove_lent(
     }
     if !lengths(
         s,
-        inputs,
-        outputs,
-        gates,
-        ands,
+        z,
         m as usize,
         tau as usize,
         n,
@@ -139,29 +118,15 @@ fn prove_lent(
         return Answer::Refused(Refusal::BufferLength);
     }
     if !both(
-        bits::unused_zero(witness, inputs),
-        bits::unused_zero(y, outputs),
+        bits::unused_zero(witness, z.inputs),
+        bits::unused_zero(y, z.outputs),
     ) {
         return Answer::Refused(Refusal::UnusedBits);
     }
-    if !gives(s, inputs, outputs, gates, ands, witness, y) {
+    if !gives(s, z, witness, y) {
         return Answer::Refused(Refusal::Output);
     }
-    Answer::Written(prove_with(
-        s,
-        inputs,
-        outputs,
-        gates,
-        ands,
-        m,
-        tau,
-        n,
-        h,
-        witness,
-        message,
-        root,
-        buffer,
-    ))
+    Answer::Written(prove_with(s, z, m, tau, n, h, witness, message, root, buffer))
 }
 
 // Proves that the circuit gives y on the witness: writes a proof into the buffer and answers its length, or refuses and leaves the
@@ -182,20 +147,6 @@ pub fn prove(
     let answer = read(s);
     match answer {
         ReadAnswer::Refused(k) => Answer::Refused(k),
-        ReadAnswer::Legal(z) => prove_lent(
-            s,
-            z.inputs,
-            z.outputs,
-            z.gates,
-            z.ands,
-            witness,
-            y,
-            message,
-            root,
-            m,
-            tau,
-            n,
-            buffer,
-        ),
+        ReadAnswer::Legal(z) => prove_lent(s, z, witness, y, message, root, m, tau, n, buffer),
     }
 }

@@ -5,6 +5,7 @@ ghost use lib.ListN.{length, take};
 ghost use Rattle.circuit.specs.File.{circuitOf};
 ghost use Rattle.mpc.specs.Lent.{WitnessFits};
 ghost use Rattle.seeds.specs.Derive.{masterOf};
+ghost use Rattle.seeds.specs.Operations.{maxInstances};
 ghost use Rattle.instance.specs.Instance.{masterOnline, stretchOf};
 ghost use Rattle.instance.specs.Stretch.{stretchBytes};
 ghost use Rattle.instance.specs.Worked.{Lent};
@@ -12,6 +13,8 @@ ghost use Rattle.proof.specs.Protocol.{firstMessage, responseOf};
 ghost use Rattle.proof.specs.Asks.{askOf, asksIn};
 ghost use Rattle.proving.specs.Steps.{onlinesOf, Response};
 use bits::copy;
+use circuit::Sizes;
+use instance::Instance;
 use instance::sending::digests;
 use instance::sending::send;
 use keccak::SHA3_256_RATE;
@@ -26,10 +29,7 @@ use seeds::party::master;
 // Round 1: h*, from the digests of all m instances; `onlines` takes the h'_j, one after the other.
 pub(crate) fn first(
     s: &[u8],
-    inputs: usize,
-    outputs: usize,
-    gates: usize,
-    ands: usize,
+    z: Sizes,
     m: u32,
     n: u32,
     h: u32,
@@ -39,7 +39,7 @@ pub(crate) fn first(
     tapes: &mut [u8],
     memory: &mut [u8],
 ) -> [u8; 32]
-    requires { ⌜ Lent (now s) inputs outputs gates ands n h (now tapes) (now memory) × (WitnessFits inputs (now witness) × ((m ≤ 512) × (length (now onlines) ≡ 32 * m))) ⌝ }
+    requires { ⌜ Lent (now s) z n h (now tapes) (now memory) × (WitnessFits z (now witness) × ((m ≤ maxInstances) × (length (now onlines) ≡ 32 * m))) ⌝ }
     ensures { λ r. ⌜ r ≡ firstMessage (circuitOf (now (s .entry))) m n (now (witness .entry)) (now (root .entry)) ⌝ }
     ensures { λ _. ⌜ now (onlines .exit) ≡ onlinesOf (circuitOf (now (s .entry))) m n (now (witness .entry)) (now (root .entry)) ⌝ }
 {
@@ -49,20 +49,12 @@ pub(crate) fn first(
         let i = j;
         let mut seed = [0u8; 16];
         master(i, root, &mut seed);
-        let d = digests(
-            s,
-            inputs,
-            outputs,
-            gates,
-            ands,
-            i,
-            n,
-            h,
-            witness,
-            &seed,
-            tapes,
-            memory,
-        );
+        let inst = Instance {
+            number: i,
+            parties: n,
+            height: h,
+        };
+        let d = digests(s, z, inst, witness, &seed, tapes, memory);
         all = all.absorb(SHA3_256_RATE, &d.commitments);
         let a = 32 * (j as usize);
         let e = a + 32;
@@ -76,13 +68,8 @@ pub(crate) fn first(
 // The stretch of instance j, of which p is asked; `online` is its h'_j.
 pub(crate) fn stretch(
     s: &[u8],
-    inputs: usize,
-    outputs: usize,
-    gates: usize,
-    ands: usize,
-    j: u32,
-    n: u32,
-    h: u32,
+    z: Sizes,
+    inst: Instance,
     p: u32,
     witness: &[u8],
     root: &[u8],
@@ -91,41 +78,25 @@ pub(crate) fn stretch(
     tapes: &mut [u8],
     memory: &mut [u8],
 )
-    requires { ⌜ Lent (now s) inputs outputs gates ands n h (now tapes) (now memory) × (WitnessFits inputs (now witness) × ((p ≤ n) × ((now online ≡ masterOnline (circuitOf (now s)) n j (now witness) (masterOf j (now root))) × (length (now part) ≡ stretchBytes (circuitOf (now s)) n (askOf n p))))) ⌝ }
-    ensures { λ _. ⌜ now (part .exit) ≡ stretchOf (circuitOf (now (s .entry))) n j (now (witness .entry)) (masterOf j (now (root .entry))) (askOf n p) ⌝ }
+    requires { ⌜ Lent (now s) z (inst .parties) (inst .height) (now tapes) (now memory) × (WitnessFits z (now witness) × ((p ≤ inst .parties) × ((now online ≡ masterOnline (circuitOf (now s)) (inst .parties) (inst .number) (now witness) (masterOf (inst .number) (now root))) × (length (now part) ≡ stretchBytes (circuitOf (now s)) (inst .parties) (askOf (inst .parties) p))))) ⌝ }
+    ensures { λ _. ⌜ now (part .exit) ≡ stretchOf (circuitOf (now (s .entry))) (inst .parties) (inst .number) (now (witness .entry)) (masterOf (inst .number) (now (root .entry))) (askOf (inst .parties) p) ⌝ }
 {
+    let j = inst.number;
+    let n = inst.parties;
     let mut seed = [0u8; 16];
     master(j, root, &mut seed);
     if p == n {
         copy(&seed, &mut part[..16]);
         copy(online, &mut part[16..]);
     } else {
-        send(
-            s,
-            inputs,
-            outputs,
-            gates,
-            ands,
-            j,
-            n,
-            h,
-            p,
-            witness,
-            &seed,
-            part,
-            tapes,
-            memory,
-        );
+        send(s, z, inst, p, witness, &seed, part, tapes, memory);
     }
 }
 
 // Round 3: the stretches, from the last to the first, so that each h'_j stands until it is read.
 pub(crate) fn respond(
     s: &[u8],
-    inputs: usize,
-    outputs: usize,
-    gates: usize,
-    ands: usize,
+    z: Sizes,
     m: u32,
     n: u32,
     h: u32,
@@ -136,7 +107,7 @@ pub(crate) fn respond(
     tapes: &mut [u8],
     memory: &mut [u8],
 )
-    requires { ⌜ Lent (now s) inputs outputs gates ands n h (now tapes) (now memory) × (WitnessFits inputs (now witness) × Response (now s) m n (now witness) (now root) (now choices) (now part)) ⌝ }
+    requires { ⌜ Lent (now s) z n h (now tapes) (now memory) × (WitnessFits z (now witness) × Response (now s) m n (now witness) (now root) (now choices) (now part)) ⌝ }
     ensures { λ _. ⌜ now (part .exit) ≡ responseOf (circuitOf (now (s .entry))) m n (now (witness .entry)) (now (root .entry)) (asksIn n (now (choices .entry))) ⌝ }
 {
     let mut end = part.len();
@@ -144,20 +115,20 @@ pub(crate) fn respond(
     while 0 < j {
         j -= 1;
         let p = asked(choices, n, j);
-        let start = end - stretch_bytes(s, inputs, outputs, gates, ands, n, h, p);
+        let start = end - stretch_bytes(s, z, n, h, p);
         let a = 32 * (j as usize);
         let e = a + 32;
         let mut online = [0u8; 32];
         copy(&part[a..e], &mut online);
+        let inst = Instance {
+            number: j,
+            parties: n,
+            height: h,
+        };
         stretch(
             s,
-            inputs,
-            outputs,
-            gates,
-            ands,
-            j,
-            n,
-            h,
+            z,
+            inst,
             p,
             witness,
             root,

@@ -6,18 +6,20 @@ ghost use lib.ListN.{length, drop};
 ghost use Rattle.circuit.specs.File.{circuitOf};
 ghost use Rattle.mpc.specs.Lent.{Known};
 ghost use Rattle.instance.specs.Worked.{Tree, Lent};
-ghost use Rattle.proof.specs.File.{headerOf};
+ghost use Rattle.proof.specs.File.{headerBytes, headerOf};
 ghost use Rattle.proof.specs.Prove.{proofOf};
 ghost use Rattle.proving.specs.Steps.{Tested};
 use crate::responding::first;
 use crate::responding::respond;
 use bits::copy;
+use circuit::Sizes;
+use proof::HEADER_BYTES;
 use proof::asking::proof_bytes;
 use seeds::challenge;
 
 // The header: M, τ, n, zero, h*.
 pub(crate) fn head(m: u32, tau: u32, n: u32, hstar: &[u8], out: &mut [u8])
-    requires { ⌜ (m < 65536) × ((tau < 65536) × ((n < 256) × ((length (now hstar) ≡ 32) × (length (now out) ≡ 38)))) ⌝ }
+    requires { ⌜ (m < 65536) × ((tau < 65536) × ((n < 256) × ((length (now hstar) ≡ 32) × (length (now out) ≡ headerBytes)))) ⌝ }
     ensures { λ _. ⌜ now (out .exit) ≡ headerOf m tau n (now (hstar .entry)) ⌝ }
 {
     bits::write_u16(out, 0, m as u16);
@@ -30,10 +32,7 @@ pub(crate) fn head(m: u32, tau: u32, n: u32, hstar: &[u8], out: &mut [u8])
 // Writes a proof into the buffer, and gives its length.
 pub(crate) fn prove_in(
     s: &[u8],
-    inputs: usize,
-    outputs: usize,
-    gates: usize,
-    ands: usize,
+    z: Sizes,
     m: u32,
     tau: u32,
     n: u32,
@@ -46,42 +45,36 @@ pub(crate) fn prove_in(
     tapes: &mut [u8],
     memory: &mut [u8],
 ) -> usize
-    requires { ⌜ Lent (now s) inputs outputs gates ands n h (now tapes) (now memory) × (Tested (now s) inputs m tau n (now witness) (now message) (now root) (now buffer) × (length (now choices) ≡ 3 * tau)) ⌝ }
+    requires { ⌜ Lent (now s) z n h (now tapes) (now memory) × (Tested (now s) z m tau n (now witness) (now message) (now root) (now buffer) × (length (now choices) ≡ 3 * tau)) ⌝ }
     ensures { λ r. ⌜ r ≡ length (proofOf (circuitOf (now (s .entry))) m tau n (now (witness .entry)) (now (message .entry)) (now (root .entry))) ⌝ }
     ensures { λ r. ⌜ now (buffer .exit) ≡ proofOf (circuitOf (now (s .entry))) m tau n (now (witness .entry)) (now (message .entry)) (now (root .entry)) ++ drop r (now (buffer .entry)) ⌝ }
 {
-    let kept = 38 + 32 * (m as usize);
+    let kept = HEADER_BYTES + 32 * (m as usize);
     let hstar = first(
         s,
-        inputs,
-        outputs,
-        gates,
-        ands,
+        z,
         m,
         n,
         h,
         witness,
         root,
-        &mut buffer[38..kept],
+        &mut buffer[HEADER_BYTES..kept],
         tapes,
         memory,
     );
     let _ = challenge(m, tau, n, &hstar, message, choices);
-    head(m, tau, n, &hstar, &mut buffer[..38]);
-    let size = proof_bytes(s, inputs, outputs, gates, ands, m, n, h, choices);
+    head(m, tau, n, &hstar, &mut buffer[..HEADER_BYTES]);
+    let size = proof_bytes(s, z, m, n, h, choices);
     respond(
         s,
-        inputs,
-        outputs,
-        gates,
-        ands,
+        z,
         m,
         n,
         h,
         choices,
         witness,
         root,
-        &mut buffer[38..size],
+        &mut buffer[HEADER_BYTES..size],
         tapes,
         memory,
     );
@@ -91,10 +84,7 @@ pub(crate) fn prove_in(
 // The same with a work memory of its own.
 pub(crate) fn prove_with(
     s: &[u8],
-    inputs: usize,
-    outputs: usize,
-    gates: usize,
-    ands: usize,
+    z: Sizes,
     m: u32,
     tau: u32,
     n: u32,
@@ -104,10 +94,13 @@ pub(crate) fn prove_with(
     root: &[u8],
     buffer: &mut [u8],
 ) -> usize
-    requires { ⌜ Known (now s) inputs outputs gates ands × (Tree n h × Tested (now s) inputs m tau n (now witness) (now message) (now root) (now buffer)) ⌝ }
+    requires { ⌜ Known (now s) z × (Tree n h × Tested (now s) z m tau n (now witness) (now message) (now root) (now buffer)) ⌝ }
     ensures { λ r. ⌜ r ≡ length (proofOf (circuitOf (now (s .entry))) m tau n (now (witness .entry)) (now (message .entry)) (now (root .entry))) ⌝ }
     ensures { λ r. ⌜ now (buffer .exit) ≡ proofOf (circuitOf (now (s .entry))) m tau n (now (witness .entry)) (now (message .entry)) (now (root .entry)) ++ drop r (now (buffer .entry)) ⌝ }
 {
+    let inputs = z.inputs;
+    let gates = z.gates;
+    let ands = z.ands;
     let mut choices = [0u8; 1533];
     let mut tapes = [0u8; 17408];
     let mut memory = [0u8; 299008];
@@ -116,10 +109,7 @@ pub(crate) fn prove_with(
     let w = 64 * (inputs + gates) + 4096;
     prove_in(
         s,
-        inputs,
-        outputs,
-        gates,
-        ands,
+        z,
         m,
         tau,
         n,

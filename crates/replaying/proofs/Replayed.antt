@@ -34,7 +34,7 @@ use Rattle.mpc.specs.Answers.{outcome}
 use Rattle.mpc.specs.Lent.{Known, Parties, Begun, ShowingFits}
 use Rattle.mpc.specs.declared.Answer.the-variants.{Done, Refused}
 use Rattle.mpc.proofs.Agreement.{replay-rows-agree, replay-output-agrees}
-use Rattle.mpc.proofs.Opened.{opened-refused, opened-legal, circuit-inputs, circuit-outputs, circuit-ands, circuit-row, ands-low}
+use Rattle.mpc.proofs.Opened.{sized, opened-refused, opened-legal, circuit-inputs, circuit-outputs, circuit-ands, circuit-row, ands-low}
 
 -- six tests, one after the other
 pub all-six : (a b c d e f a' b' c' d' e' f' p q r s t : Bool) → a ≡ a' → b ≡ b' → c ≡ c' → d ≡ d' → e ≡ e' → f ≡ f'
@@ -84,7 +84,7 @@ module _ (good : Bool) (w : ℕ) (m : List ℕ) (n said : ℕ) (rows : List ℕ)
   packed-not t = sym (ap (λ (j : Bool). cond j (packedRows w m n said (oct said)) rows) t)
 
 -- what the unpacking into a work memory m asks
-module _ (s : List ℕ) (i o g a : ℕ) (k : Known s i o g a) (n : ℕ) (parties : Parties n) (m : List ℕ) (large : 64 * (i + g) + 4096 ≤ length m) where
+module _ (s : List ℕ) (i o g a : ℕ) (k : Known s (sized i o g a)) (n : ℕ) (parties : Parties n) (m : List ℕ) (large : 64 * (i + g) + 4096 ≤ length m) where
   pub corrections-fit : (corr : List ℕ) → length corr ≡ oct a
       → (0 + a ≤ 8 * length corr) × ((0 + a < 65536) × ((48 * (i + g) + (n - 1) < 4294967296) × (48 * (i + g) + (n - 1) + 16 * a ≤ length m + 15)))
   corrections-fit corr e =
@@ -112,8 +112,8 @@ module _ (s : List ℕ) (i o g a : ℕ) (k : Known s i o g a) (n : ℕ) (parties
       (omega (arith, e), (omega (arith, is), (omega (arith, is, gs), omega (arith, large))))
 
 -- what the work memory gives: m1 with the tapes, m2 with the corrections, m3 with row p, m4 with the masked inputs, m5 after the walk
-module _ (s : List ℕ) (i o g a h n len p : ℕ) (tapes corr masked row m0 m1 m2 m3 m4 m5 : List ℕ) (k : Known s i o g a) (q : h ≡ headOf s)
-    (b : Begun (i + g) n m0) (hp : p < n) (unused : unusedZero i masked ≡ true) (l : len ≡ oct (i + 2 * a)) (e1 : m1 ≡ loadedTapes (i + g) i a len tapes n m0)
+module _ (s : List ℕ) (i o g a h n len p : ℕ) (tapes corr masked row m0 m1 m2 m3 m4 m5 : List ℕ) (k : Known s (sized i o g a)) (q : h ≡ headOf s)
+    (b : Begun (sized i o g a) n m0) (hp : p < n) (unused : unusedZero i masked ≡ true) (l : len ≡ oct (i + 2 * a)) (e1 : m1 ≡ loadedTapes (i + g) i a len tapes n m0)
     (e2 : m2 ≡ unpacked corr 0 a (48 * (i + g) + (n - 1)) m1) (e3 : m3 ≡ unpacked row 0 (a + o) (48 * (i + g) + p) m2)
     (e4 : m4 ≡ unpacked masked 0 i (16 * (i + g)) m3) (e5 : m5 ≡ walked (i + g) n p false s g h 0 m4) where
   -- the memory after the walk
@@ -166,9 +166,9 @@ lengthsHold i o a n tapes corr masked row y rows =
     && eqb (length y) (oct o) && eqb (length rows) (n * oct (a + o))
 
 -- where they are as stated
-pub lengths-parts : (i o a n : ℕ) (tapes corr masked row y rows : List ℕ) (r : Bool) → r ≡ lengthsHold i o a n tapes corr masked row y rows → not r ≡ false
-    → ShowingFits i o a n tapes corr masked row × (length rows ≡ n * oct (a + o))
-lengths-parts i o a n tapes corr masked row y rows r e t =
+pub lengths-parts : (i o g a n : ℕ) (tapes corr masked row y rows : List ℕ) (r : Bool) → r ≡ lengthsHold i o a n tapes corr masked row y rows → not r ≡ false
+    → ShowingFits (sized i o g a) n tapes corr masked row × (length rows ≡ n * oct (a + o))
+lengths-parts i o g a n tapes corr masked row y rows r e t =
     let z = six-true (eqb (length tapes) (n * oct (i + 2 * a))) (eqb (length corr) (oct a)) (eqb (length masked) (oct i)) (eqb (length row) (oct (a + o)))
     (eqb (length y) (oct o)) (eqb (length rows) (n * oct (a + o))) (held _ r e t) in (
       record {
@@ -181,7 +181,7 @@ lengths-parts i o a n tapes corr masked row y rows r e t =
     )
 
 -- a legal file
-module _ (s : List ℕ) (i o g a : ℕ) (k : Known s i o g a) (n p : ℕ) (tapes corr masked row : List ℕ) where
+module _ (s : List ℕ) (i o g a : ℕ) (k : Known s (sized i o g a)) (n p : ℕ) (tapes corr masked row : List ℕ) where
   -- the showing
   abbrev lent : Showing
   lent = record { tapes = tapes; corrections = corr; maskedInputs = masked; row = row }

@@ -15,6 +15,7 @@ ghost use Rattle.mpc.specs.Operations.{unusedShowing, replayLegal, replayOp};
 ghost use Rattle.mpc.specs.Answers.{outcome};
 ghost use Rattle.mpc.specs.Lent.{Known, Parties, Begun, ShowingFits};
 use circuit::ReadAnswer;
+use circuit::Sizes;
 use circuit::reading::read;
 use engine::chain::speak;
 use engine::chain::walk;
@@ -54,10 +55,7 @@ fn pack_if(good: bool, memory: &[u8], wires: usize, n: usize, said: usize, rows:
 // Replays in a work memory. Where the output is y, fills the rows and answers true; else answers false.
 fn replay_in(
     s: &[u8],
-    inputs: usize,
-    outputs: usize,
-    gates: usize,
-    ands: usize,
+    z: Sizes,
     n: usize,
     p: usize,
     tapes: &[u8],
@@ -68,21 +66,21 @@ fn replay_in(
     rows: &mut [u8],
     memory: &mut [u8],
 ) -> bool
-    requires { ⌜ Known (now s) inputs outputs gates ands × (Begun (inputs + gates) n (now memory) × ((p < n) × ((unusedZero inputs (now masked) ≡ true) × (ShowingFits inputs outputs ands n (now tapes) (now corrections) (now masked) (now row) × (length (now rows) ≡ n * oct (ands + outputs)))))) ⌝ }
+    requires { ⌜ Known (now s) z × (Begun z n (now memory) × ((p < n) × ((unusedZero (z .inputs) (now masked) ≡ true) × (ShowingFits z n (now tapes) (now corrections) (now masked) (now row) × (length (now rows) ≡ n * oct (z .ands + z .outputs)))))) ⌝ }
     ensures { λ r. ⌜ (r ≡ sameBytes (pack (replayOf (circuitOf (now (s .entry))) n p (record { tapes = now (tapes .entry); corrections = now (corrections .entry); maskedInputs = now (masked .entry); row = now (row .entry) }) .output)) (now (y .entry))) × (now (rows .exit) ≡ cond r (rowsOf n (replayOf (circuitOf (now (s .entry))) n p (record { tapes = now (tapes .entry); corrections = now (corrections .entry); maskedInputs = now (masked .entry); row = now (row .entry) }))) (now (rows .entry))) ⌝ }
 {
     let head = bits::read_u16(s, 6) as usize;
-    let wires = inputs + gates;
-    let len = bits::oct(inputs + 2 * ands);
-    let said = ands + outputs;
-    load_tapes(tapes, len, n, wires, inputs, ands, memory);
-    unpack(corrections, 0, ands, memory, 48 * wires + (n - 1));
+    let wires = z.inputs + z.gates;
+    let len = bits::oct(z.inputs + 2 * z.ands);
+    let said = z.ands + z.outputs;
+    load_tapes(tapes, len, n, wires, z.inputs, z.ands, memory);
+    unpack(corrections, 0, z.ands, memory, 48 * wires + (n - 1));
     unpack(row, 0, said, memory, 48 * wires + p);
-    unpack(masked, 0, inputs, memory, 16 * wires);
-    walk(s, inputs, outputs, gates, head, n, p, false, memory);
+    unpack(masked, 0, z.inputs, memory, 16 * wires);
+    walk(s, z, head, n, p, false, memory);
     let mut values = [0u8; 4096];
-    speak(s, inputs, outputs, gates, ands, n, p, memory, &mut values);
-    let good = outputs_are(&values, outputs, y);
+    speak(s, z, n, p, memory, &mut values);
+    let good = outputs_are(&values, z.outputs, y);
     pack_if(good, memory, wires, n, said, rows);
     good
 }
@@ -90,10 +88,7 @@ fn replay_in(
 // The same with a work memory of its own.
 fn replay_with(
     s: &[u8],
-    inputs: usize,
-    outputs: usize,
-    gates: usize,
-    ands: usize,
+    z: Sizes,
     n: usize,
     p: usize,
     tapes: &[u8],
@@ -103,16 +98,13 @@ fn replay_with(
     y: &[u8],
     rows: &mut [u8],
 ) -> bool
-    requires { ⌜ Known (now s) inputs outputs gates ands × (Parties n × ((p < n) × ((unusedZero inputs (now masked) ≡ true) × (ShowingFits inputs outputs ands n (now tapes) (now corrections) (now masked) (now row) × (length (now rows) ≡ n * oct (ands + outputs)))))) ⌝ }
+    requires { ⌜ Known (now s) z × (Parties n × ((p < n) × ((unusedZero (z .inputs) (now masked) ≡ true) × (ShowingFits z n (now tapes) (now corrections) (now masked) (now row) × (length (now rows) ≡ n * oct (z .ands + z .outputs)))))) ⌝ }
     ensures { λ r. ⌜ (r ≡ sameBytes (pack (replayOf (circuitOf (now (s .entry))) n p (record { tapes = now (tapes .entry); corrections = now (corrections .entry); maskedInputs = now (masked .entry); row = now (row .entry) }) .output)) (now (y .entry))) × (now (rows .exit) ≡ cond r (rowsOf n (replayOf (circuitOf (now (s .entry))) n p (record { tapes = now (tapes .entry); corrections = now (corrections .entry); maskedInputs = now (masked .entry); row = now (row .entry) }))) (now (rows .entry))) ⌝ }
 {
     let mut memory = [0u8; 299008];
     replay_in(
         s,
-        inputs,
-        outputs,
-        gates,
-        ands,
+        z,
         n,
         p,
         tapes,
@@ -127,9 +119,7 @@ fn replay_with(
 
 // Whether the lengths of what replay is lent are as stated.
 fn replay_lengths(
-    inputs: usize,
-    outputs: usize,
-    ands: usize,
+    z: Sizes,
     n: usize,
     tapes: &[u8],
     corrections: &[u8],
@@ -138,30 +128,27 @@ fn replay_lengths(
     y: &[u8],
     rows: &[u8],
 ) -> bool
-    requires { ⌜ (n ≤ 16) × ((inputs ≤ 512) × ((outputs ≤ 256) × (ands ≤ 4096))) ⌝ }
-    ensures { λ r. ⌜ r ≡ (eqb (length (now (tapes .entry))) (n * oct (inputs + 2 * ands)) && eqb (length (now (corrections .entry))) (oct ands) && eqb (length (now (masked .entry))) (oct inputs) && eqb (length (now (row .entry))) (oct (ands + outputs))) && eqb (length (now (y .entry))) (oct outputs) && eqb (length (now (rows .entry))) (n * oct (ands + outputs)) ⌝ }
+    requires { ⌜ (n ≤ 16) × ((z .inputs ≤ 512) × ((z .outputs ≤ 256) × (z .ands ≤ 4096))) ⌝ }
+    ensures { λ r. ⌜ r ≡ (eqb (length (now (tapes .entry))) (n * oct (z .inputs + 2 * z .ands)) && eqb (length (now (corrections .entry))) (oct (z .ands)) && eqb (length (now (masked .entry))) (oct (z .inputs)) && eqb (length (now (row .entry))) (oct (z .ands + z .outputs))) && eqb (length (now (y .entry))) (oct (z .outputs)) && eqb (length (now (rows .entry))) (n * oct (z .ands + z .outputs)) ⌝ }
 {
     let first = both(
         both(
-            holds_rows(tapes, n, inputs + 2 * ands),
-            holds(corrections, ands),
+            holds_rows(tapes, n, z.inputs + 2 * z.ands),
+            holds(corrections, z.ands),
         ),
-        holds(masked, inputs),
+        holds(masked, z.inputs),
     );
-    let parts = both(first, holds(row, ands + outputs));
+    let parts = both(first, holds(row, z.ands + z.outputs));
     both(
-        both(parts, holds(y, outputs)),
-        holds_rows(rows, n, ands + outputs),
+        both(parts, holds(y, z.outputs)),
+        holds_rows(rows, n, z.ands + z.outputs),
     )
 }
 
 // Whether every bit of a showing that is not used is zero, row p of the tapes and a hidden party's corrections too.
 fn unused_showing(
     s: &[u8],
-    inputs: usize,
-    outputs: usize,
-    gates: usize,
-    ands: usize,
+    z: Sizes,
     n: usize,
     p: usize,
     tapes: &[u8],
@@ -169,18 +156,18 @@ fn unused_showing(
     masked: &[u8],
     row: &[u8],
 ) -> bool
-    requires { ⌜ Known (now s) inputs outputs gates ands × ((n ≤ 16) × (p < n)) ⌝ }
+    requires { ⌜ Known (now s) z × ((n ≤ 16) × (p < n)) ⌝ }
     ensures { λ r. ⌜ r ≡ unusedShowing (circuitOf (now (s .entry))) n p (record { tapes = now (tapes .entry); corrections = now (corrections .entry); maskedInputs = now (masked .entry); row = now (row .entry) }) ⌝ }
 {
-    let len = bits::oct(inputs + 2 * ands);
+    let len = bits::oct(z.inputs + 2 * z.ands);
     let own = bits::row(tapes, len, p);
     let lent = both(
-        unused_rows(s, inputs, outputs, gates, ands, n, tapes),
-        bits::unused_zero(corrections, ands),
+        unused_rows(s, z, n, tapes),
+        bits::unused_zero(corrections, z.ands),
     );
     let more = both(
-        both(lent, bits::unused_zero(masked, inputs)),
-        bits::unused_zero(row, ands + outputs),
+        both(lent, bits::unused_zero(masked, z.inputs)),
+        bits::unused_zero(row, z.ands + z.outputs),
     );
     let none = either(p + 1 != n, bits::unused_zero(corrections, 0));
     both(both(more, bits::unused_zero(own, 0)), none)
@@ -189,10 +176,7 @@ fn unused_showing(
 // Tests what is lent, and replays a run of a legal circuit.
 fn replay_lent(
     s: &[u8],
-    inputs: usize,
-    outputs: usize,
-    gates: usize,
-    ands: usize,
+    z: Sizes,
     n: u32,
     p: u32,
     tapes: &[u8],
@@ -202,7 +186,7 @@ fn replay_lent(
     y: &[u8],
     rows: &mut [u8],
 ) -> Answer
-    requires { ⌜ Known (now s) inputs outputs gates ands ⌝ }
+    requires { ⌜ Known (now s) z ⌝ }
     ensures { λ r. ⌜ outcome r (now (rows .exit) ∷ []) ≡ replayLegal n p (record { tapes = now (tapes .entry); corrections = now (corrections .entry); maskedInputs = now (masked .entry); row = now (row .entry) }) (now (y .entry)) (now (rows .entry)) (circuitOf (now (s .entry))) ⌝ }
 {
     if parties::height(n) == 0 {
@@ -213,53 +197,16 @@ fn replay_lent(
     }
     let k = n as usize;
     let q = p as usize;
-    if !replay_lengths(
-        inputs,
-        outputs,
-        ands,
-        k,
-        tapes,
-        corrections,
-        masked,
-        row,
-        y,
-        rows,
-    ) {
+    if !replay_lengths(z, k, tapes, corrections, masked, row, y, rows) {
         return Answer::Refused(Refusal::BufferLength);
     }
     if !both(
-        unused_showing(
-            s,
-            inputs,
-            outputs,
-            gates,
-            ands,
-            k,
-            q,
-            tapes,
-            corrections,
-            masked,
-            row,
-        ),
-        bits::unused_zero(y, outputs),
+        unused_showing(s, z, k, q, tapes, corrections, masked, row),
+        bits::unused_zero(y, z.outputs),
     ) {
         return Answer::Refused(Refusal::UnusedBits);
     }
-    if replay_with(
-        s,
-        inputs,
-        outputs,
-        gates,
-        ands,
-        k,
-        q,
-        tapes,
-        corrections,
-        masked,
-        row,
-        y,
-        rows,
-    ) {
+    if replay_with(s, z, k, q, tapes, corrections, masked, row, y, rows) {
         Answer::Done
     } else {
         Answer::Refused(Refusal::Output)
@@ -283,20 +230,6 @@ pub fn replay(
     let answer = read(s);
     match answer {
         ReadAnswer::Refused(k) => Answer::Refused(k),
-        ReadAnswer::Legal(z) => replay_lent(
-            s,
-            z.inputs,
-            z.outputs,
-            z.gates,
-            z.ands,
-            n,
-            p,
-            tapes,
-            corrections,
-            masked,
-            row,
-            y,
-            rows,
-        ),
+        ReadAnswer::Legal(z) => replay_lent(s, z, n, p, tapes, corrections, masked, row, y, rows),
     }
 }

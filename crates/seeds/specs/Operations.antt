@@ -55,9 +55,16 @@ openOp j n p master lent =
     (unless (eqb (length lent) (16 * heightOf n)) BufferLength lent
     (record { number = 0; buffer = siblingsBelow j (heightOf n) 1 p master })))))
 
+-- the limits on M, and on the bytes of a message
+abbrev pub maxInstances : ℕ
+maxInstances = 512
+
+abbrev pub maxMessage : ℕ
+maxMessage = 4096
+
 -- "M is 2..512, τ 1..M−1"
 unfoldable pub areCounts : ℕ → ℕ → Bool
-areCounts M tau = leb 2 M && (leb M 512 && (leb 1 tau && ltb tau M))
+areCounts M tau = leb 2 M && (leb M maxInstances && (leb 1 tau && ltb tau M))
 
 -- derive the challenge from h* and the message
 unfoldable pub challengeOp : ℕ → ℕ → ℕ → List ℕ → List ℕ → List ℕ → Outcome
@@ -65,5 +72,5 @@ challengeOp M tau n hstar message lent =
     unless (areCounts M tau) Parameter lent
     (unless (isPartyCount n) Parameter lent
     (unless (eqb (length hstar) 32) BufferLength lent
-    (unless (leb (length message) 4096) BufferLength lent
+    (unless (leb (length message) maxMessage) BufferLength lent
     (unless (eqb (length lent) (3 * tau)) BufferLength lent (record { number = 0; buffer = challengeOf M tau n hstar message })))))

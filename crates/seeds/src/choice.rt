@@ -8,6 +8,7 @@ ghost use Prim.Native.Nat.{_+_, _*_, _≤_, _<_};
 ghost use lib.ListN.{length, replicate};
 ghost use Rattle.keccak.specs.Sponge.{shake256 as «shake256-of»};
 ghost use Rattle.seeds.specs.Inputs.{challengeInput};
+ghost use Rattle.seeds.specs.Operations.{maxInstances};
 ghost use Rattle.seeds.specs.Challenge.{choose as «choose-at», drawn, chosenFrom, partiesOf, instances, hiddenParties, beside, challengeOf};
 use keccak::SHAKE_FIRST;
 use keccak::SHAKE256_RATE;
@@ -88,7 +89,7 @@ fn write_chosen(flags: &[bool], n: u8, bytes: &[u8], out: &mut [u8])
 
 // The chosen instances with their hidden parties, from the stream; the flags are lent, none of them set.
 fn choose_with(tau: usize, n: u8, stream: &[u8], flags: &mut [bool], out: &mut [u8])
-    requires { ⌜ (length (now flags) ≤ 512) × ((tau ≤ length (now flags)) × ((0 < n) × ((length (now stream) ≡ 9 * tau) × ((length (now out) ≡ 3 * tau) × (now flags ≡ replicate (length (now flags)) false))))) ⌝ }
+    requires { ⌜ (length (now flags) ≤ maxInstances) × ((tau ≤ length (now flags)) × ((0 < n) × ((length (now stream) ≡ 9 * tau) × ((length (now out) ≡ 3 * tau) × (now flags ≡ replicate (length (now flags)) false))))) ⌝ }
     ensures { λ _. ⌜ now (out .exit) ≡ beside (instances (length (now (flags .entry))) tau (now (stream .entry))) (hiddenParties tau n (now (stream .entry))) ⌝ }
 {
     draw(tau, stream, flags);
@@ -106,7 +107,7 @@ fn derive_with(
     stream: &mut [u8],
     out: &mut [u8],
 )
-    requires { ⌜ (m ≤ 512) × ((tau < m) × ((0 < n) × ((length (now stream) ≡ 9 * tau) × (length (now out) ≡ 3 * tau)))) ⌝ }
+    requires { ⌜ (m ≤ maxInstances) × ((tau < m) × ((0 < n) × ((length (now stream) ≡ 9 * tau) × (length (now out) ≡ 3 * tau)))) ⌝ }
     ensures { λ _. ⌜ now (out .exit) ≡ challengeOf m tau n (now (hstar .entry)) (now (message .entry)) ⌝ }
 {
     stream_from(hstar, message, stream);
@@ -116,7 +117,7 @@ fn derive_with(
 
 // The challenge of tau among m instances and n parties.
 pub(crate) fn derive(m: usize, tau: usize, n: u8, hstar: &[u8], message: &[u8], out: &mut [u8])
-    requires { ⌜ (m ≤ 512) × ((tau < m) × ((0 < n) × (length (now out) ≡ 3 * tau))) ⌝ }
+    requires { ⌜ (m ≤ maxInstances) × ((tau < m) × ((0 < n) × (length (now out) ≡ 3 * tau))) ⌝ }
     ensures { λ _. ⌜ now (out .exit) ≡ challengeOf m tau n (now (hstar .entry)) (now (message .entry)) ⌝ }
 {
     let mut stream = [0u8; 4599];

@@ -14,6 +14,11 @@ use refusal::Refusal;
 use tree::leaves_below;
 use tree::siblings_below;
 
+// The limits on the instances of a proof, and on the bytes of a message.
+pub const MAX_INSTANCES: u32 = 512;
+
+pub const MAX_MESSAGE: usize = 4096;
+
 // What an operation answers.
 pub enum Answer {
     Done,
@@ -69,7 +74,7 @@ pub fn open(j: u32, n: u32, p: u32, master: &[u8], siblings: &mut [u8]) -> Answe
 pub fn counts(m: u32, tau: u32) -> bool
     ensures { λ r. ⌜ r ≡ areCounts m tau ⌝ }
 {
-    2 <= m && (m <= 512 && (1 <= tau && tau < m))
+    2 <= m && (m <= MAX_INSTANCES && (1 <= tau && tau < m))
 }
 
 // Derives the challenge: tau chosen instances, ascending, each with its hidden party.
@@ -87,7 +92,7 @@ pub fn challenge(m: u32, tau: u32, n: u32, hstar: &[u8], message: &[u8], out: &m
     if hstar.len() != 32 {
         return Answer::Refused(Refusal::BufferLength);
     }
-    if message.len() > 4096 {
+    if message.len() > MAX_MESSAGE {
         return Answer::Refused(Refusal::BufferLength);
     }
     if out.len() != 3 * (tau as usize) {

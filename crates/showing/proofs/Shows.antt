@@ -38,7 +38,7 @@ use Rattle.mpc.specs.Answers.{outcome}
 use Rattle.mpc.specs.Lent.{Known, Begun, WitnessFits, TapesFit, ShowingFits}
 use Rattle.mpc.specs.declared.Answer.the-variants.{Done, Refused}
 use Rattle.mpc.proofs.Agreement.{masked-agrees, show-corrections-agree, show-row-agrees}
-use Rattle.mpc.proofs.Opened.{opened-refused, opened-legal, circuit-inputs, circuit-outputs, circuit-gates, circuit-ands, circuit-row}
+use Rattle.mpc.proofs.Opened.{sized, opened-refused, opened-legal, circuit-inputs, circuit-outputs, circuit-gates, circuit-ands, circuit-row}
 
 -- the first k gates of the chain
 take-gates : (s : List ℕ) (k g h : ℕ) → k ≤ g → take k (gatesFrom s g h) ≡ gatesFrom s k h
@@ -57,7 +57,7 @@ ands-take (suc k) (and a b c ∷ gs) = omega (arith, ands-take k gs)
 ands-take (suc k) (inv a c ∷ gs) = ands-take k gs
 
 -- the chain of a legal file
-pub chained : (s : List ℕ) (i o g a : ℕ) → Known s i o g a → (h : ℕ) → h ≡ headOf s → Chained s i o g h
+pub chained : (s : List ℕ) (i o g a : ℕ) → Known s (sized i o g a) → (h : ℕ) → h ≡ headOf s → Chained s i o g h
 chained s i o g a k h p = record { laid = k .legal .laid; chain = ap₂ (walks s) (k .legal .laid .gates) p ∙ goodChain-walks s (k .legal .chain) }
 
 -- z zeros are z bytes
@@ -65,7 +65,7 @@ pub length-room : (z : ℕ) → z ≤ length (replicate {A = ℕ} z 0)
 length-room z = omega (arith, length-replicate {A = ℕ} z 0)
 
 -- a legal file, with a cut
-module _ (s : List ℕ) (i o g a : ℕ) (f : Known s i o g a) (k : ℕ) where
+module _ (s : List ℕ) (i o g a : ℕ) (f : Known s (sized i o g a)) (k : ℕ) where
   -- below G, the AND gates passed
   pub shown-below : (h r : ℕ) → h ≡ headOf s → k < g → r ≡ ands (gatesFrom s k h) → r ≡ shownBits (circuitOf s) k
   unfolding shownBits circuitOf
@@ -119,7 +119,7 @@ pub corrections-shown : (p n : ℕ) (y x z : List ℕ) → (p + 1 ≡ n → ⊥)
 corrections-shown p n y x z e q = rw (ne-eqb (suc p) n (λ t. e (add-one p ∙ t))) q
 
 -- a run as the work memory holds it: m0 clear, m1 with the tapes, m2 with the masked inputs, m3 after the walk, m4 after the outputs
-module _ (s : List ℕ) (i o g a : ℕ) (k : Known s i o g a) (n h len : ℕ) (w tapes m0 m1 m2 : List ℕ) (start : h ≡ headOf s) (b : Begun (i + g) n m0)
+module _ (s : List ℕ) (i o g a : ℕ) (k : Known s (sized i o g a)) (n h len : ℕ) (w tapes m0 m1 m2 : List ℕ) (start : h ≡ headOf s) (b : Begun (sized i o g a) n m0)
     (l : len ≡ oct (i + 2 * a)) (e : m1 ≡ loadedTapes (i + g) i a len tapes n m0) (f : m2 ≡ maskedInputs (i + g) n i w m1) where
   -- the memory with the tapes
   abbrev base : List ℕ
@@ -190,7 +190,7 @@ lengthsOf i o a n w tapes b c m u =
     && (eqb (length b) (n * oct (i + 2 * a)) && eqb (length c) (oct a) && eqb (length m) (oct i) && eqb (length u) (oct (a + o)))
 
 -- what the tests of the lengths and of the unused bits say
-module _ (i o a n : ℕ) (w tapes b c m u : List ℕ) (r : Bool) (e : r ≡ lengthsOf i o a n w tapes b c m u) (t : not r ≡ false) where
+module _ (i o g a n : ℕ) (w tapes b c m u : List ℕ) (r : Bool) (e : r ≡ lengthsOf i o a n w tapes b c m u) (t : not r ≡ false) where
   -- all six hold
   six : lengthsOf i o a n w tapes b c m u ≡ true
   six = held (lengthsOf i o a n w tapes b c m u) r e t
@@ -204,7 +204,7 @@ module _ (i o a n : ℕ) (w tapes b c m u : List ℕ) (r : Bool) (e : r ≡ leng
   outs = and-true-right (eqb (length w) (oct i) && eqb (length tapes) (n * oct (i + 2 * a))) _ six
 
   -- the witness
-  pub witness-tested : (x y z : Bool) → x ≡ unusedZero i w → z ≡ x && y → not z ≡ false → WitnessFits i w
+  pub witness-tested : (x y z : Bool) → x ≡ unusedZero i w → z ≡ x && y → not z ≡ false → WitnessFits (sized i o g a) w
   witness-tested x y z p q v =
       record {
         size = eqb-true (length w) (oct i) (and-true-left _ (eqb (length tapes) (n * oct (i + 2 * a))) ins);
@@ -212,11 +212,11 @@ module _ (i o a n : ℕ) (w tapes b c m u : List ℕ) (r : Bool) (e : r ≡ leng
       }
 
   -- the tapes
-  pub tapes-tested : TapesFit i a n tapes
+  pub tapes-tested : TapesFit (sized i o g a) n tapes
   tapes-tested = eqb-true (length tapes) (n * oct (i + 2 * a)) (and-true-right (eqb (length w) (oct i)) _ ins)
 
   -- the parts
-  pub parts-tested : ShowingFits i o a n b c m u
+  pub parts-tested : ShowingFits (sized i o g a) n b c m u
   parts-tested =
       let q = and-true-left _ (eqb (length u) (oct (a + o))) outs in
       let p = and-true-left _ (eqb (length m) (oct i)) q in
@@ -234,7 +234,7 @@ indices-tested p n cut g r e t =
     (ltb-true p n (and-true-left (ltb p n) (leb cut g) z), leb-true cut g (and-true-right (ltb p n) (leb cut g) z))
 
 -- the answers on a legal file
-module _ (s : List ℕ) (i o g a : ℕ) (k : Known s i o g a) (n h p cut : ℕ) (w tapes b c m u : List ℕ) (count : h ≡ heightOf n) where
+module _ (s : List ℕ) (i o g a : ℕ) (k : Known s (sized i o g a)) (n h p cut : ℕ) (w tapes b c m u : List ℕ) (count : h ≡ heightOf n) where
   -- what is lent for the parts
   abbrev lent : Showing
   lent = record { tapes = b; corrections = c; maskedInputs = m; row = u }

@@ -14,6 +14,7 @@ ghost use Rattle.mpc.specs.Answers.{outcome};
 ghost use Rattle.mpc.specs.Lent.{Known, Parties, Begun, WitnessFits, TapesFit, ShowingFits};
 use bits::clear;
 use circuit::ReadAnswer;
+use circuit::Sizes;
 use circuit::reading::read;
 use engine::chain::ands_passed;
 use engine::chain::speak;
@@ -29,22 +30,14 @@ use mpc::tests::unused_rows;
 use refusal::Refusal;
 
 // The bits of a broadcast row that a cut shows.
-fn shown_bits(
-    s: &[u8],
-    inputs: usize,
-    outputs: usize,
-    gates: usize,
-    ands: usize,
-    head: usize,
-    cut: usize,
-) -> usize
-    requires { ⌜ Known (now s) inputs outputs gates ands × ((head ≡ headOf (now s)) × (cut ≤ gates)) ⌝ }
+fn shown_bits(s: &[u8], z: Sizes, head: usize, cut: usize) -> usize
+    requires { ⌜ Known (now s) z × ((head ≡ headOf (now s)) × (cut ≤ z .gates)) ⌝ }
     ensures { λ r. ⌜ r ≡ shownBits (circuitOf (now (s .entry))) cut ⌝ }
 {
-    if cut < gates {
-        return ands_passed(s, inputs, outputs, gates, head, cut);
+    if cut < z.gates {
+        return ands_passed(s, z, head, cut);
     }
-    ands + outputs
+    z.ands + z.outputs
 }
 
 // Copies the tapes with row p all zero.
@@ -77,10 +70,7 @@ fn show_corrections(memory: &[u8], wires: usize, ands: usize, n: usize, p: usize
 // Runs the circuit in a work memory and fills the cut's four parts.
 fn show_in(
     s: &[u8],
-    inputs: usize,
-    outputs: usize,
-    gates: usize,
-    ands: usize,
+    z: Sizes,
     n: usize,
     p: usize,
     cut: usize,
@@ -92,31 +82,28 @@ fn show_in(
     row: &mut [u8],
     memory: &mut [u8],
 )
-    requires { ⌜ Known (now s) inputs outputs gates ands × (Begun (inputs + gates) n (now memory) × ((p < n) × ((cut ≤ gates) × (WitnessFits inputs (now witness) × (TapesFit inputs ands n (now tapes) × ShowingFits inputs outputs ands n (now blanked) (now corrections) (now masked) (now row)))))) ⌝ }
+    requires { ⌜ Known (now s) z × (Begun z n (now memory) × ((p < n) × ((cut ≤ z .gates) × (WitnessFits z (now witness) × (TapesFit z n (now tapes) × ShowingFits z n (now blanked) (now corrections) (now masked) (now row)))))) ⌝ }
     ensures { λ _. ⌜ now (blanked .exit) ∷ now (corrections .exit) ∷ now (masked .exit) ∷ now (row .exit) ∷ [] ≡ partsOf (showing (circuitOf (now (s .entry))) n p cut (now (witness .entry)) (now (tapes .entry))) ⌝ }
 {
     let head = bits::read_u16(s, 6) as usize;
-    let wires = inputs + gates;
-    let len = bits::oct(inputs + 2 * ands);
-    load_tapes(tapes, len, n, wires, inputs, ands, memory);
-    mask_inputs(witness, inputs, n, wires, memory);
-    pack(memory, 16 * wires, inputs, masked);
-    walk(s, inputs, outputs, gates, head, n, n, true, memory);
+    let wires = z.inputs + z.gates;
+    let len = bits::oct(z.inputs + 2 * z.ands);
+    load_tapes(tapes, len, n, wires, z.inputs, z.ands, memory);
+    mask_inputs(witness, z.inputs, n, wires, memory);
+    pack(memory, 16 * wires, z.inputs, masked);
+    walk(s, z, head, n, n, true, memory);
     let mut values = [0u8; 4096];
-    speak(s, inputs, outputs, gates, ands, n, n, memory, &mut values);
-    let shown = shown_bits(s, inputs, outputs, gates, ands, head, cut);
+    speak(s, z, n, n, memory, &mut values);
+    let shown = shown_bits(s, z, head, cut);
     pack(memory, 48 * wires + p, shown, row);
-    show_corrections(memory, wires, ands, n, p, corrections);
+    show_corrections(memory, wires, z.ands, n, p, corrections);
     hide_row(tapes, len, p, blanked);
 }
 
 // The same with a work memory of its own.
 fn show_with(
     s: &[u8],
-    inputs: usize,
-    outputs: usize,
-    gates: usize,
-    ands: usize,
+    z: Sizes,
     n: usize,
     p: usize,
     cut: usize,
@@ -127,16 +114,13 @@ fn show_with(
     masked: &mut [u8],
     row: &mut [u8],
 )
-    requires { ⌜ Known (now s) inputs outputs gates ands × (Parties n × ((p < n) × ((cut ≤ gates) × (WitnessFits inputs (now witness) × (TapesFit inputs ands n (now tapes) × ShowingFits inputs outputs ands n (now blanked) (now corrections) (now masked) (now row)))))) ⌝ }
+    requires { ⌜ Known (now s) z × (Parties n × ((p < n) × ((cut ≤ z .gates) × (WitnessFits z (now witness) × (TapesFit z n (now tapes) × ShowingFits z n (now blanked) (now corrections) (now masked) (now row)))))) ⌝ }
     ensures { λ _. ⌜ now (blanked .exit) ∷ now (corrections .exit) ∷ now (masked .exit) ∷ now (row .exit) ∷ [] ≡ partsOf (showing (circuitOf (now (s .entry))) n p cut (now (witness .entry)) (now (tapes .entry))) ⌝ }
 {
     let mut memory = [0u8; 299008];
     show_in(
         s,
-        inputs,
-        outputs,
-        gates,
-        ands,
+        z,
         n,
         p,
         cut,
@@ -152,9 +136,7 @@ fn show_with(
 
 // Whether the lengths of what show is lent are as stated.
 fn show_lengths(
-    inputs: usize,
-    outputs: usize,
-    ands: usize,
+    z: Sizes,
     n: usize,
     witness: &[u8],
     tapes: &[u8],
@@ -163,30 +145,27 @@ fn show_lengths(
     masked: &[u8],
     row: &[u8],
 ) -> bool
-    requires { ⌜ (n ≤ 16) × ((inputs ≤ 512) × ((outputs ≤ 256) × (ands ≤ 4096))) ⌝ }
-    ensures { λ r. ⌜ r ≡ eqb (length (now (witness .entry))) (oct inputs) && eqb (length (now (tapes .entry))) (n * oct (inputs + 2 * ands)) && (eqb (length (now (blanked .entry))) (n * oct (inputs + 2 * ands)) && eqb (length (now (corrections .entry))) (oct ands) && eqb (length (now (masked .entry))) (oct inputs) && eqb (length (now (row .entry))) (oct (ands + outputs))) ⌝ }
+    requires { ⌜ (n ≤ 16) × ((z .inputs ≤ 512) × ((z .outputs ≤ 256) × (z .ands ≤ 4096))) ⌝ }
+    ensures { λ r. ⌜ r ≡ eqb (length (now (witness .entry))) (oct (z .inputs)) && eqb (length (now (tapes .entry))) (n * oct (z .inputs + 2 * z .ands)) && (eqb (length (now (blanked .entry))) (n * oct (z .inputs + 2 * z .ands)) && eqb (length (now (corrections .entry))) (oct (z .ands)) && eqb (length (now (masked .entry))) (oct (z .inputs)) && eqb (length (now (row .entry))) (oct (z .ands + z .outputs))) ⌝ }
 {
     let lent = both(
-        holds(witness, inputs),
-        holds_rows(tapes, n, inputs + 2 * ands),
+        holds(witness, z.inputs),
+        holds_rows(tapes, n, z.inputs + 2 * z.ands),
     );
     let first = both(
         both(
-            holds_rows(blanked, n, inputs + 2 * ands),
-            holds(corrections, ands),
+            holds_rows(blanked, n, z.inputs + 2 * z.ands),
+            holds(corrections, z.ands),
         ),
-        holds(masked, inputs),
+        holds(masked, z.inputs),
     );
-    both(lent, both(first, holds(row, ands + outputs)))
+    both(lent, both(first, holds(row, z.ands + z.outputs)))
 }
 
 // Tests what is lent, and shows the run of a legal circuit.
 fn show_lent(
     s: &[u8],
-    inputs: usize,
-    outputs: usize,
-    gates: usize,
-    ands: usize,
+    z: Sizes,
     n: u32,
     p: u32,
     cut: u32,
@@ -197,43 +176,29 @@ fn show_lent(
     masked: &mut [u8],
     row: &mut [u8],
 ) -> Answer
-    requires { ⌜ Known (now s) inputs outputs gates ands ⌝ }
+    requires { ⌜ Known (now s) z ⌝ }
     ensures { λ r. ⌜ outcome r (now (blanked .exit) ∷ now (corrections .exit) ∷ now (masked .exit) ∷ now (row .exit) ∷ []) ≡ showLegal n p cut (now (witness .entry)) (now (tapes .entry)) (record { tapes = now (blanked .entry); corrections = now (corrections .entry); maskedInputs = now (masked .entry); row = now (row .entry) }) (circuitOf (now (s .entry))) ⌝ }
 {
     if parties::height(n) == 0 {
         return Answer::Refused(Refusal::Parameter);
     }
     let g = cut as usize;
-    if !both(p < n, g <= gates) {
+    if !both(p < n, g <= z.gates) {
         return Answer::Refused(Refusal::Index);
     }
     let k = n as usize;
-    if !show_lengths(
-        inputs,
-        outputs,
-        ands,
-        k,
-        witness,
-        tapes,
-        blanked,
-        corrections,
-        masked,
-        row,
-    ) {
+    if !show_lengths(z, k, witness, tapes, blanked, corrections, masked, row) {
         return Answer::Refused(Refusal::BufferLength);
     }
     if !both(
-        bits::unused_zero(witness, inputs),
-        unused_rows(s, inputs, outputs, gates, ands, k, tapes),
+        bits::unused_zero(witness, z.inputs),
+        unused_rows(s, z, k, tapes),
     ) {
         return Answer::Refused(Refusal::UnusedBits);
     }
     show_with(
         s,
-        inputs,
-        outputs,
-        gates,
-        ands,
+        z,
         k,
         p as usize,
         g,
@@ -267,10 +232,7 @@ pub fn show(
         ReadAnswer::Refused(k) => Answer::Refused(k),
         ReadAnswer::Legal(z) => show_lent(
             s,
-            z.inputs,
-            z.outputs,
-            z.gates,
-            z.ands,
+            z,
             n,
             p,
             cut,

@@ -61,7 +61,7 @@ array-borrow-prefix-memory c = work-few _ _ _ _ _ (c .before .before .before .be
 slice-aggregate-check-in-3 : tie.Need-slice-aggregate-check-in-3
 slice-aggregate-check-in-3 c =
     let x = c .before .before .before .before .before .before .before .before .args in
-    sym (front-length 299008 (64 * (x .inputs + x .gates) + 4096) (work-few _ _ _ _ _ (c .before .before .before .before .before .before .before .before .pre .0)))
+    sym (front-length 299008 (64 * (x .z .inputs + x .z .gates) + 4096) (work-few _ _ _ _ _ (c .before .before .before .before .before .before .before .before .pre .0)))
 
 check-in-requires : tie.Need-check-in-requires
 check-in-requires c κs =

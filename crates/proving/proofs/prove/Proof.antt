@@ -23,7 +23,7 @@ returns : tie.Need-returns
 returns c = prove-refused _ _ _ _ _ _ _ _ _ _ (c .before .before .before .read .ensures) _ (c .before .answer .given .1)
 
 same-length : tie.Need-same-length
-same-length c = c .before .before .prove-lent .kept .1 .1 .1 .1 .1 .1 .1 .1 .1 .1 .1 .1 .0
+same-length c = c .before .before .prove-lent .kept .1 .1 .1 .1 .1 .1 .1 .1 .1 .0
 
 returns-2 : tie.Need-returns-2
 returns-2 c = c .before .before .prove-lent .ensures ∙ prove-read _ _ _ _ _ _ _ _ _ _ (c .before .before .before .before .before .before .before .read .ensures) _ (c .before .before .before .before .before .answer2 .given .1)

@@ -68,7 +68,7 @@ prove-with-requires c κs =
     )
 
 same-length-4 : tie.Need-same-length-4
-same-length-4 c = c .before .before .prove-with .kept .1 .1 .1 .1 .1 .1 .1 .1 .1 .1 .1 .1 .0
+same-length-4 c = c .before .before .prove-with .kept .1 .1 .1 .1 .1 .1 .1 .1 .1 .0
 
 returns-5 : tie.Need-returns-5
 returns-5 c =

@@ -64,31 +64,31 @@ replay-with-requires c κs =
           c .before .before .before .before .before .before .before .before .if2 .left,
           (
             masked-unused _ _ _ _ _ (c .before .before .before .before .before .before .before .before .before .before .before .before .before .before .before .before .before .before .pre) _ _ (x .tapes .now) (x .corrections .now) (x .masked .now) (x .row .now) _ _ _ (c .before .before .before .before .unused-showing .ensures) (c .before .before .both .ensures) (c .before .if4 .left),
-            lengths-parts (x .inputs) (x .outputs) (x .ands) (x .n) (x .tapes .now) (x .corrections .now) (x .masked .now) (x .row .now) (x .y .now) (x .rows .now) _ (c .before .before .before .before .before .before .replay-lengths .ensures) (c .before .before .before .before .before .if3 .left),
+            lengths-parts (x .z .inputs) (x .z .outputs) (x .z .gates) (x .z .ands) (x .n) (x .tapes .now) (x .corrections .now) (x .masked .now) (x .row .now) (x .y .now) (x .rows .now) _ (c .before .before .before .before .before .before .replay-lengths .ensures) (c .before .before .before .before .before .if3 .left),
           ),
         ),
       ),
     )
 
 same-length-3 : tie.Need-same-length-3
-same-length-3 c = c .before .before .before .replay-with .kept .1 .1 .1 .1 .1 .1 .1 .1 .1 .1 .1 .1 .0
+same-length-3 c = c .before .before .before .replay-with .kept .1 .1 .1 .1 .1 .1 .1 .1 .1 .0
 
 returns-5 : tie.Need-returns-5
 returns-5 c =
     let x = c .before .before .before .before .before .before .before .before .before .before .before .before .before .before .before .before .before .before .before .before .before .before .args in
     replay-done _ _ _ _ _ (c .before .before .before .before .before .before .before .before .before .before .before .before .before .before .before .before .before .before .before .before .before .before .pre) _ _ (x .tapes .now) (x .corrections .now) (x .masked .now) (x .row .now) _ (x .y .now) (x .rows .now) (c .before .before .before .before .before .before .before .before .before .before .before .before .before .before .height .ensures)
     (c .before .before .before .before .before .before .before .before .before .before .before .before .before .if1 .left) (c .before .before .before .before .before .before .before .before .before .before .before .before .if2 .left) _ (c .before .before .before .before .before .before .before .before .before .before .replay-lengths .ensures) (c .before .before .before .before .before .before .before .before .before .if3 .left) _ _ _ (c .before .before .before .before .before .before .before .before .unused-showing .ensures) (c .before .before .before .before .before .before .before .unused-zero .ensures) (c .before .before .before .before .before .before .both .ensures) (c .before .before .before .before .before .if4 .left)
-    _ (c .before .before .before .replay-with .last .1 .1 .1 .1 .1 .1 .1 .1 .1 .1 .1 .1 .0) (c .before .before .before .replay-with .ensures .0) (c .before .before .before .replay-with .ensures .1) (c .if5 .taken)
+    _ (c .before .before .before .replay-with .last .1 .1 .1 .1 .1 .1 .1 .1 .1 .0) (c .before .before .before .replay-with .ensures .0) (c .before .before .before .replay-with .ensures .1) (c .if5 .taken)
 
 same-length-4 : tie.Need-same-length-4
-same-length-4 c = c .before .before .before .replay-with .kept .1 .1 .1 .1 .1 .1 .1 .1 .1 .1 .1 .1 .0
+same-length-4 c = c .before .before .before .replay-with .kept .1 .1 .1 .1 .1 .1 .1 .1 .1 .0
 
 returns-6 : tie.Need-returns-6
 returns-6 c =
     let x = c .before .before .before .before .before .before .before .before .before .before .before .before .before .before .before .before .before .before .before .before .before .before .args in
     replay-output _ _ _ _ _ (c .before .before .before .before .before .before .before .before .before .before .before .before .before .before .before .before .before .before .before .before .before .before .pre) _ _ (x .tapes .now) (x .corrections .now) (x .masked .now) (x .row .now) _ (x .y .now) (x .rows .now) (c .before .before .before .before .before .before .before .before .before .before .before .before .before .before .height .ensures)
     (c .before .before .before .before .before .before .before .before .before .before .before .before .before .if1 .left) (c .before .before .before .before .before .before .before .before .before .before .before .before .if2 .left) _ (c .before .before .before .before .before .before .before .before .before .before .replay-lengths .ensures) (c .before .before .before .before .before .before .before .before .before .if3 .left) _ _ _ (c .before .before .before .before .before .before .before .before .unused-showing .ensures) (c .before .before .before .before .before .before .before .unused-zero .ensures) (c .before .before .before .before .before .before .both .ensures) (c .before .before .before .before .before .if4 .left)
-    _ (c .before .before .before .replay-with .last .1 .1 .1 .1 .1 .1 .1 .1 .1 .1 .1 .1 .0) (c .before .before .before .replay-with .ensures .0) (c .before .before .before .replay-with .ensures .1) (c .if5 .left)
+    _ (c .before .before .before .replay-with .last .1 .1 .1 .1 .1 .1 .1 .1 .1 .0) (c .before .before .before .replay-with .ensures .0) (c .before .before .before .replay-with .ensures .1) (c .if5 .left)
 
 pub replay-lent-spec : {M : Type 1} → statement M
 replay-lent-spec =

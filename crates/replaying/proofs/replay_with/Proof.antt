@@ -17,7 +17,7 @@ replay-in-requires c κs =
     (p .0, (begun _ _ 299008 _ (p .1 .0) refl (omega (arith, p .0 .legal .laid .few-inputs, p .0 .legal .laid .few-gates)), p .1 .1))
 
 same-length : tie.Need-same-length
-same-length c = c .before .before .before .replay-in .kept .1 .1 .1 .1 .1 .1 .1 .1 .1 .1 .1 .1 .0
+same-length c = c .before .before .before .replay-in .kept .1 .1 .1 .1 .1 .1 .1 .1 .1 .0
 
 returns : tie.Need-returns
 returns c = c .before .before .before .replay-in .ensures

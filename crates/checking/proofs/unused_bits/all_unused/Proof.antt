@@ -14,12 +14,12 @@ use Rattle.checking.proofs.unused_bits.all_unused.Statement.{statement}
 use Rattle.checking.proofs.unused_bits.all_unused.Tie as tie
 
 abbrev Inv-loop : tie.InvT-loop
-Inv-loop s inputs outputs gates ands m n h choices proof good₀ at₀ j₀ good at j =
+Inv-loop s z m n h choices proof good₀ at₀ j₀ good at j =
     (j ≤ m)
     × ((at ≡ stretchStart (circuitOf s) n (asksIn n choices) j) × (good ≡ every j (unusedAt (circuitOf s) n (asksIn n choices) proof)))
 
 abbrev μ-loop : tie.MeasureT-loop
-μ-loop s inputs outputs gates ands m n h choices proof good₀ at₀ j₀ good at j = m - j
+μ-loop s z m n h choices proof good₀ at₀ j₀ good at j = m - j
 
 loop-holds : tie.Need-loop-holds Inv-loop μ-loop
 loop-holds c =

@@ -20,7 +20,7 @@ use Rattle.checking.proofs.verifying.recompute.Statement.{statement}
 use Rattle.checking.proofs.verifying.recompute.Tie as tie
 
 abbrev Inv-loop : tie.InvT-loop
-Inv-loop s inputs outputs gates ands m n h choices y proof tapes₀ memory₀ agrees₀ all₀ online₀ at₀ j₀ tapes memory agrees all online at j =
+Inv-loop s z m n h choices y proof tapes₀ memory₀ agrees₀ all₀ online₀ at₀ j₀ tapes memory agrees all online at j =
     (j ≤ m)
     × ((at ≡ stretchStart (circuitOf s) n (asksIn n choices) j)
     × ((length tapes ≡ length tapes₀)
@@ -30,7 +30,7 @@ Inv-loop s inputs outputs gates ands m n h choices y proof tapes₀ memory₀ ag
     × (online ≡ taken (allOnlineInput (flatten (tabulate j (onlineAt (circuitOf s) n (asksIn n choices) proof))))))))))
 
 abbrev μ-loop : tie.MeasureT-loop
-μ-loop s inputs outputs gates ands m n h choices y proof tapes₀ memory₀ agrees₀ all₀ online₀ at₀ j₀ tapes memory agrees all online at j =
+μ-loop s z m n h choices y proof tapes₀ memory₀ agrees₀ all₀ online₀ at₀ j₀ tapes memory agrees all online at j =
     m - j
 
 start-all-commitments-requires : tie.Need-start-all-commitments-requires Inv-loop μ-loop
@@ -58,7 +58,7 @@ add-end c =
     let x = c .before .before .before .before .before .before .before .before .before .before .before .before .args in
     let l = c .before .before .before .loop in
     let ask = asksIn (x .n) (x .choices .now) in
-    omega (arith, turn-inside (circuitOf (x .s .now)) (x .n) (x .m) ask (x .proof .now) (c .before .before .before .before .before .before .before .before .before .before .before .before .pre .1 .0 .size) (l .j) (l .at) (c .stretch-bytes .result) (askOf (x .n) (c .before .asked .result)) (c .before .before .loop-test .taken) (l .inv .1 .0) (ap (askOf (x .n)) (c .before .asked .ensures)) (c .stretch-bytes .ensures), c .before .before .before .before .before .before .before .before .before .before .before .before .good .1 .1 .1 .1 .1 .1 .1 .1 .1 .1 .0 .0)
+    omega (arith, turn-inside (circuitOf (x .s .now)) (x .n) (x .m) ask (x .proof .now) (c .before .before .before .before .before .before .before .before .before .before .before .before .pre .1 .0 .size) (l .j) (l .at) (c .stretch-bytes .result) (askOf (x .n) (c .before .asked .result)) (c .before .before .loop-test .taken) (l .inv .1 .0) (ap (askOf (x .n)) (c .before .asked .ensures)) (c .stretch-bytes .ensures), c .before .before .before .before .before .before .before .before .before .before .before .before .good .1 .1 .1 .1 .1 .1 .1 .0 .0)
 
 sub-check-instance : tie.Need-sub-check-instance Inv-loop μ-loop
 sub-check-instance c = omega arith
@@ -122,9 +122,9 @@ loop-again c =
       (
         turn-place (circuitOf (x .s .now)) (x .n) (x .m) ask (x .proof .now) (c .before .before .before .before .before .before .before .before .before .before .before .before .before .before .before .before .before .before .before .before .before .before .before .before .before .before .before .before .before .pre .1 .0 .size) (l .j) (l .at) (c .before .before .before .before .before .before .before .before .before .before .before .before .before .before .before .before .before .stretch-bytes .result) (askOf (x .n) (c .before .before .before .before .before .before .before .before .before .before .before .before .before .before .before .before .before .before .asked .result)) (c .before .before .before .before .before .before .before .before .before .before .before .before .before .before .before .before .before .before .before .loop-test .taken) (l .inv .1 .0) (ap (askOf (x .n)) (c .before .before .before .before .before .before .before .before .before .before .before .before .before .before .before .before .before .before .asked .ensures)) (c .before .before .before .before .before .before .before .before .before .before .before .before .before .before .before .before .before .stretch-bytes .ensures),
         (
-          c .before .before .before .before .before .before .before .before .before .before .before .before .before .check-instance .kept .1 .1 .1 .1 .1 .1 .1 .1 .1 .1 .1 .0 ∙ i .0,
+          c .before .before .before .before .before .before .before .before .before .before .before .before .before .check-instance .kept .1 .1 .1 .1 .1 .1 .0 ∙ i .0,
           (
-            c .before .before .before .before .before .before .before .before .before .before .before .before .before .check-instance .kept .1 .1 .1 .1 .1 .1 .1 .1 .1 .1 .1 .1 .0 ∙ i .1 .0,
+            c .before .before .before .before .before .before .before .before .before .before .before .before .before .check-instance .kept .1 .1 .1 .1 .1 .1 .1 .0 ∙ i .1 .0,
             (
               every-turn (outputAt (circuitOf (x .s .now)) (x .n) ask (x .proof .now) (x .y .now)) (l .j) (l .agrees) (r .agrees) (c .before .before .before .before .before .before .before .before .both .result) (i .1 .1 .0)
                   (turn-test (circuitOf (x .s .now)) (x .n) (x .m) ask (x .proof .now) (c .before .before .before .before .before .before .before .before .before .before .before .before .before .before .before .before .before .before .before .before .before .before .before .before .before .before .before .before .before .pre .1 .0 .size) (l .j) (l .at) (c .before .before .before .before .before .before .before .before .before .before .before .before .before .before .before .before .before .stretch-bytes .result) (askOf (x .n) (c .before .before .before .before .before .before .before .before .before .before .before .before .before .before .before .before .before .before .asked .result)) (c .before .before .before .before .before .before .before .before .before .before .before .before .before .before .before .before .before .before .before .loop-test .taken) (l .inv .1 .0) (ap (askOf (x .n)) (c .before .before .before .before .before .before .before .before .before .before .before .before .before .before .before .before .before .before .asked .ensures)) (c .before .before .before .before .before .before .before .before .before .before .before .before .before .before .before .before .before .stretch-bytes .ensures) (stretchOutput (circuitOf (x .s .now)) (x .n) (l .j) (x .y .now)) (r .agrees) (e .0))

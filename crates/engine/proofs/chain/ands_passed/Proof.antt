@@ -14,28 +14,29 @@ use Rattle.engine.proofs.chain.ands_passed.Statement.{statement}
 use Rattle.engine.proofs.chain.ands_passed.Tie as tie
 
 abbrev Inv-loop : tie.InvT-loop
-Inv-loop s inputs outputs gates head cut count₀ left₀ slot₀ count left slot =
+Inv-loop s head cut outputs count₀ left₀ slot₀ count left slot =
     (left ≤ cut)
     × ((count + left ≤ cut)
-    × ((walks s (left + (gates - cut)) slot ≡ true) × (count + ands (gatesFrom s left slot) ≡ ands (gatesFrom s cut head))))
+    × (((k : ℕ) → walks s (cut + k) head ≡ true → walks s (left + k) slot ≡ true) × (count + ands (gatesFrom s left slot) ≡ ands (gatesFrom s cut head))))
 
 abbrev μ-loop : tie.MeasureT-loop
-μ-loop s inputs outputs gates head cut count₀ left₀ slot₀ count left slot = left
+μ-loop s head cut outputs count₀ left₀ slot₀ count left slot = left
 
 loop-holds : tie.Need-loop-holds Inv-loop μ-loop
 loop-holds c =
-    let x = c .before .args in
-    let e : x .cut + (x .gates - x .cut) ≡ x .gates = omega arith in
-    (omega arith, (omega arith, (ap (λ (n : ℕ). walks (x .s .now) n (x .head)) e ∙ c .before .pre .0 .chain, omega arith)))
+    (omega arith, (omega arith, (λ k w. w, omega arith)))
 
 -- what the chain says of the slot in hand
 abbrev Ok : (c : tie.In-loop Inv-loop μ-loop) → Type 0
 Ok c =
     let x = c .before .before .before .args in
-    Here (x .s .now) (c .before .loop .left + (x .gates - x .cut)) (c .before .loop .slot)
+    Here (x .s .now) (c .before .loop .left + (x .z .gates - x .cut)) (c .before .loop .slot)
 
 ok : (c : tie.In-loop Inv-loop μ-loop) → Ok c
-ok c = here _ _ _ (omega arith) (c .before .loop .inv .1 .1 .0)
+ok c =
+    let x = c .before .before .before .args in
+    let e : x .cut + (x .z .gates - x .cut) ≡ x .z .gates = omega arith in
+    here _ _ _ (omega arith) (c .before .loop .inv .1 .1 .0 _ (ap (λ (n : ℕ). walks (x .s .now) n (x .head)) e ∙ c .before .before .before .pre .0 .chain))
 
 record-requires : tie.Need-record-requires Inv-loop μ-loop
 record-requires c κs =
@@ -57,16 +58,14 @@ loop-less c = omega arith
 
 loop-again : tie.Need-loop-again Inv-loop μ-loop
 loop-again c =
-    let x = c .before .before .before .before .before .args in
     let l = c .before .before .before .loop in
-    let k = ok (c .before .before) in
     let q = c .before .«record» .ensures in
-    let e : l .left - 1 + (x .gates - x .cut) ≡ l .left + (x .gates - x .cut) - 1 = omega arith in (
+    let e : (k : ℕ) → l .left - 1 + k ≡ l .left + k - 1 = λ k. omega arith in (
       omega arith,
       (
         omega (arith, andOne-le (c .before .«record» .result .gate)),
         (
-          rw (next-read _ _ _ q, e) (k .rest),
+          λ k w. rw (next-read _ _ _ q, e k) (here _ _ _ (omega arith) (l .inv .1 .1 .0 k w) .rest),
           ands-turn _ _ _ _ _ _ _ q (c .before .before .loop-test .taken) (c .and-one .ensures) (l .inv .1 .1 .1),
         ),
       ),

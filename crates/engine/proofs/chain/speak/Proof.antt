@@ -7,34 +7,35 @@ use lib.ListN.{length, length-set}
 use Rattle.engine.proofs.chain.speak.Statement.{statement}
 use Rattle.engine.proofs.chain.speak.Tie as tie
 use Rattle.circuit.proofs.Run.{output-low}
+use Rattle.engine.specs.Fits.{wireCount}
 use Rattle.engine.specs.Steps.{spoken, outputValues}
 use Rattle.engine.proofs.Turns.{room-kept, spoken-none, spoken-turn, values-none, values-turn}
 
 abbrev Inv-loop : tie.InvT-loop
-Inv-loop s inputs outputs gates ands n p memory₀ values₀ wires j₀ memory values j =
+Inv-loop s n p memory₀ values₀ outputs ands wires j₀ memory values j =
     (j ≤ outputs)
     × ((length memory ≡ length memory₀)
     × ((length values ≡ length values₀)
-    × ((memory ≡ spoken (inputs + gates) n p ands s j memory₀) × (values ≡ outputValues (inputs + gates) n p ands s j memory₀ values₀))))
+    × ((memory ≡ spoken wires n p ands s j memory₀) × (values ≡ outputValues wires n p ands s j memory₀ values₀))))
 
 abbrev μ-loop : tie.MeasureT-loop
-μ-loop s inputs outputs gates ands n p memory₀ values₀ wires j₀ memory values j = outputs - j
+μ-loop s n p memory₀ values₀ outputs ands wires j₀ memory values j = outputs - j
 
 add-wires : tie.Need-add-wires Inv-loop μ-loop
 add-wires c = omega arith
 
 loop-holds : tie.Need-loop-holds Inv-loop μ-loop
 loop-holds c =
-    let x = c .before .before .before .args in
-    let W = x .inputs + x .gates in (
+    let x = c .before .before .before .before .args in
+    let W = wireCount (x .z) in (
       omega arith,
       (
         refl,
         (
           refl,
           (
-            spoken-none W (x .n) (x .p) (x .ands) (x .s .now) (x .memory .now),
-            values-none W (x .n) (x .p) (x .ands) (x .s .now) (x .memory .now) (x .values .now),
+            spoken-none W (x .n) (x .p) (x .z .ands) (x .s .now) (x .memory .now),
+            values-none W (x .n) (x .p) (x .z .ands) (x .s .now) (x .memory .now) (x .values .now),
           ),
         ),
       ),
@@ -57,9 +58,9 @@ add-output c = omega arith
 
 output-requires : tie.Need-output-requires Inv-loop μ-loop
 output-requires c κs =
-    let z = c .before .before .before .before .before .before .before in
+    let z = c .before .before .before .before .before .before .before .before in
     let l = c .before .before .before .loop in
-    let o = output-low (z .args .s .now) (z .args .outputs) (l .j) (z .pre .outputs) (c .before .before .loop-test .taken) in
+    let o = output-low (z .args .s .now) (z .args .z .outputs) (l .j) (z .pre .outputs) (c .before .before .loop-test .taken) in
     (room-kept _ _ _ _ (l .inv .1 .0) (z .pre .memory), (omega (arith, o, c .before .read-u16 .ensures), omega arith))
 
 mul-values : tie.Need-mul-values Inv-loop μ-loop
@@ -77,18 +78,18 @@ loop-less c = omega arith
 loop-again : tie.Need-loop-again Inv-loop μ-loop
 loop-again c =
     let l = c .before .before .before .before .before .before .loop in
-    let x = c .before .before .before .before .before .before .before .before .before .before .args in
+    let x = c .before .before .before .before .before .before .before .before .before .before .before .args in
     let r = c .before .before .before .before .read-u16 .ensures in
     let o = c .before .before .output in
-    let W = x .inputs + x .gates in (
+    let W = wireCount (x .z) in (
       omega arith,
       (
         o .kept .0 ∙ l .inv .1 .0,
         (
           simp length-set (l .inv .1 .1 .0),
           (
-            spoken-turn W (x .n) (x .p) (x .ands) (x .s .now) (l .j) _ (l .memory) _ (x .memory .now) (l .inv .1 .1 .1 .0) r (o .ensures .0),
-            values-turn W (x .n) (x .p) (x .ands) (x .s .now) (l .j) _ (o .result) (l .memory) (x .memory .now) (l .values) (x .values .now)
+            spoken-turn W (x .n) (x .p) (x .z .ands) (x .s .now) (l .j) _ (l .memory) _ (x .memory .now) (l .inv .1 .1 .1 .0) r (o .ensures .0),
+            values-turn W (x .n) (x .p) (x .z .ands) (x .s .now) (l .j) _ (o .result) (l .memory) (x .memory .now) (l .values) (x .values .now)
                 (l .inv .1 .1 .1 .0)
                 (l .inv .1 .1 .1 .1)
                 r
@@ -107,7 +108,7 @@ same-length-2 c = c .before .loop .inv .1 .1 .0
 returns : tie.Need-returns Inv-loop μ-loop
 returns c =
     let l = c .before .loop in
-    let e : l .j ≡ c .before .before .before .before .before .args .outputs = omega arith in
+    let e : l .j ≡ c .before .before .before .before .before .before .args .z .outputs = omega arith in
     rw (← e) (l .inv .1 .1 .1)
 
 pub speak-spec : {M : Type 1} → statement M

@@ -12,31 +12,32 @@ use Rattle.circuit.specs.File.{walks}
 use Rattle.circuit.specs.Values.{wired}
 use Rattle.circuit.proofs.Chain.{Here, here, inside, next-read, gate-read, andOne-le}
 use Rattle.circuit.proofs.Run.{wired-on}
+use Rattle.engine.specs.Fits.{wireCount}
 use Rattle.engine.specs.Steps.{walked}
 use Rattle.engine.proofs.Turns.{room-kept, walked-end, walk-turn}
 
 abbrev Inv-loop : tie.InvT-loop
-Inv-loop s inputs outputs gates head n p correcting memory₀ wires left₀ slot₀ t₀ memory left slot t =
+Inv-loop s head n p correcting memory₀ inputs outputs wires left₀ slot₀ t₀ memory left slot t =
     (length memory ≡ length memory₀)
-    × ((t + left ≤ gates)
+    × ((t + left ≤ left₀)
     × ((walks s left slot ≡ true)
-    × (wired s (inputs + gates) left slot
-    × (walked (inputs + gates) n p correcting s left slot t memory ≡ walked (inputs + gates) n p correcting s gates head 0 memory₀))))
+    × (wired s wires left slot
+    × (walked wires n p correcting s left slot t memory ≡ walked wires n p correcting s left₀ head 0 memory₀))))
 
 abbrev μ-loop : tie.MeasureT-loop
-μ-loop s inputs outputs gates head n p correcting memory₀ wires left₀ slot₀ t₀ memory left slot t = left
+μ-loop s head n p correcting memory₀ inputs outputs wires left₀ slot₀ t₀ memory left slot t = left
 
 add-wires : tie.Need-add-wires Inv-loop μ-loop
 add-wires c = omega arith
 
 loop-holds : tie.Need-loop-holds Inv-loop μ-loop
 loop-holds c =
-    let z = c .before .before .pre in
+    let z = c .before .before .before .pre in
     (refl, (omega arith, (z .chained .chain, (z .reads, refl))))
 
 -- what the chain says of the slot in hand
 abbrev Ok : (c : tie.In-loop Inv-loop μ-loop) → Type 0
-Ok c = Here (c .before .before .before .before .args .s .now) (c .before .loop .left) (c .before .loop .slot)
+Ok c = Here (c .before .before .before .before .before .args .s .now) (c .before .loop .left) (c .before .loop .slot)
 
 ok : (c : tie.In-loop Inv-loop μ-loop) → Ok c
 ok c = here _ _ _ (c .loop-test .taken) (c .before .loop .inv .1 .1 .0)
@@ -44,18 +45,18 @@ ok c = here _ _ _ (c .loop-test .taken) (c .before .loop .inv .1 .1 .0)
 record-requires : tie.Need-record-requires Inv-loop μ-loop
 record-requires c κs =
     let k = ok c in
-    let l = c .before .before .before .before .pre .chained .laid in
+    let l = c .before .before .before .before .before .pre .chained .laid in
     inside _ _ _ _ _ l (k .first) (omega arith)
 
 sub-gate : tie.Need-sub-gate Inv-loop μ-loop
 sub-gate c = ok (c .before .before) .first
 
 add-gate : tie.Need-add-gate Inv-loop μ-loop
-add-gate c = omega (arith, ok (c .before .before), c .before .before .before .before .before .before .pre .chained .laid)
+add-gate c = omega (arith, ok (c .before .before), c .before .before .before .before .before .before .before .pre .chained .laid)
 
 gate-requires : tie.Need-gate-requires Inv-loop μ-loop
 gate-requires c κs =
-    let z = c .before .before .before .before .before .before .pre in
+    let z = c .before .before .before .before .before .before .before .pre in
     let l = c .before .before .before .loop in
     let k = ok (c .before .before) in
     let a = z .chained .laid in
@@ -84,7 +85,7 @@ loop-less c = omega arith
 
 loop-again : tie.Need-loop-again Inv-loop μ-loop
 loop-again c =
-    let z = c .before .before .before .before .before .before .before .before .before .before in
+    let z = c .before .before .before .before .before .before .before .before .before .before .before in
     let x = z .args in
     let l = c .before .before .before .before .before .before .before .loop in
     let k = ok (c .before .before .before .before .before .before) in
@@ -99,7 +100,7 @@ loop-again c =
           rw n (k .rest),
           (
             rw n (wired-on _ _ _ _ t (l .inv .1 .1 .1 .0) .1),
-            walk-turn (x .inputs + x .gates) (x .n) (x .p) (x .correcting) (x .s .now) (x .inputs) (l .left) (l .slot) (l .t) (c .and-one .result) (l .memory) _ _ _
+            walk-turn (wireCount (x .z)) (x .n) (x .p) (x .correcting) (x .s .now) (x .z .inputs) (l .left) (l .slot) (l .t) (c .and-one .result) (l .memory) _ _ _
                 q
                 t
                 (k .first)

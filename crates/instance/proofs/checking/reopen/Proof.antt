@@ -10,6 +10,9 @@ use Rattle.instance.proofs.Replays.{prefix-length, kept-prefix, prefix-
 use Rattle.instance.proofs.checking.reopen.Statement.{statement}
 use Rattle.instance.proofs.checking.reopen.Tie as tie
 
+cast-k : tie.Need-cast-k
+cast-k c = omega (arith, tree-parties _ _ (c .before .before .before .before .pre .0 .tree) .few)
+
 mul-size : tie.Need-mul-size
 mul-size c = omega (arith, tree-parties _ _ (c .before .before .before .before .pre .0 .tree) .few)
 
@@ -22,27 +25,27 @@ array-borrow-prefix-seeds c = omega (arith, tree-parties _ _ (c .before .before 
 slice-aggregate-master-seeds : tie.Need-slice-aggregate-master-seeds
 slice-aggregate-master-seeds c =
     let x = c .before .before .before .before .before .before .args in
-    sym (prefix-length (32 * x .n) 512 (omega (arith, tree-parties _ _ (c .before .before .before .before .before .before .pre .0 .tree) .few)))
+    sym (prefix-length (32 * x .inst .parties) 512 (omega (arith, tree-parties _ _ (c .before .before .before .before .before .before .pre .0 .tree) .few)))
 
 master-seeds-requires : tie.Need-master-seeds-requires
 master-seeds-requires c κs =
     let x = c .before .before .before .before .before .before .args in
-    (c .before .before .before .before .before .before .pre .0 .tree, (c .before .before .before .before .before .before .pre .1, prefix-length (32 * x .n) 512 (omega (arith, tree-parties _ _ (c .before .before .before .before .before .before .pre .0 .tree) .few))))
+    (c .before .before .before .before .before .before .pre .0 .tree, (c .before .before .before .before .before .before .pre .1, prefix-length (32 * x .inst .parties) 512 (omega (arith, tree-parties _ _ (c .before .before .before .before .before .before .pre .0 .tree) .few))))
 
 array-share-prefix-seeds : tie.Need-array-share-prefix-seeds
 array-share-prefix-seeds c =
     let x = c .before .before .before .before .before .before .before .before .args in
-    prefix-inside (32 * x .n) (32 * x .n) (c .before .master-seeds .last .1 .1 .1 .1 .0) (drop (32 * x .n) (replicate 512 0)) (kept-prefix (32 * x .n) 512 (c .before .master-seeds .last .1 .1 .1 .1 .0) (omega (arith, tree-parties _ _ (c .before .before .before .before .before .before .before .before .pre .0 .tree) .few)) (c .before .master-seeds .kept .1 .1 .1 .1 .0)) (omega arith)
+    prefix-inside (32 * x .inst .parties) (32 * x .inst .parties) (c .before .master-seeds .last .1 .1 .0) (drop (32 * x .inst .parties) (replicate 512 0)) (kept-prefix (32 * x .inst .parties) 512 (c .before .master-seeds .last .1 .1 .0) (omega (arith, tree-parties _ _ (c .before .before .before .before .before .before .before .before .pre .0 .tree) .few)) (c .before .master-seeds .kept .1 .1 .0)) (omega arith)
 
 slice-aggregate-tape-rows : tie.Need-slice-aggregate-tape-rows
 slice-aggregate-tape-rows c =
     let x = c .before .before .before .before .before .before .before .before .before .args in
-    prefix-taken (32 * x .n) (32 * x .n) (c .before .before .master-seeds .last .1 .1 .1 .1 .0) (drop (32 * x .n) (replicate 512 0)) (kept-prefix (32 * x .n) 512 (c .before .before .master-seeds .last .1 .1 .1 .1 .0) (omega (arith, tree-parties _ _ (c .before .before .before .before .before .before .before .before .before .pre .0 .tree) .few)) (c .before .before .master-seeds .kept .1 .1 .1 .1 .0)) (omega arith)
+    prefix-taken (32 * x .inst .parties) (32 * x .inst .parties) (c .before .before .master-seeds .last .1 .1 .0) (drop (32 * x .inst .parties) (replicate 512 0)) (kept-prefix (32 * x .inst .parties) 512 (c .before .before .master-seeds .last .1 .1 .0) (omega (arith, tree-parties _ _ (c .before .before .before .before .before .before .before .before .before .pre .0 .tree) .few)) (c .before .before .master-seeds .kept .1 .1 .0)) (omega arith)
 
 tape-rows-requires : tie.Need-tape-rows-requires
 tape-rows-requires c κs =
     let x = c .before .before .before .before .before .before .before .before .before .before .args in
-    (c .before .before .before .before .before .before .before .before .before .before .pre .0 .known, (tree-parties _ _ (c .before .before .before .before .before .before .before .before .before .before .pre .0 .tree) .few, (sym (prefix-taken (32 * x .n) (32 * x .n) (c .before .before .before .master-seeds .last .1 .1 .1 .1 .0) (drop (32 * x .n) (replicate 512 0)) (kept-prefix (32 * x .n) 512 (c .before .before .before .master-seeds .last .1 .1 .1 .1 .0) (omega (arith, tree-parties _ _ (c .before .before .before .before .before .before .before .before .before .before .pre .0 .tree) .few)) (c .before .before .before .master-seeds .kept .1 .1 .1 .1 .0)) (omega arith)), c .before .before .before .before .before .before .before .before .before .before .pre .0 .tapes-fit)))
+    (c .before .before .before .before .before .before .before .before .before .before .pre .0 .known, (tree-parties _ _ (c .before .before .before .before .before .before .before .before .before .before .pre .0 .tree) .few, (sym (prefix-taken (32 * x .inst .parties) (32 * x .inst .parties) (c .before .before .before .master-seeds .last .1 .1 .0) (drop (32 * x .inst .parties) (replicate 512 0)) (kept-prefix (32 * x .inst .parties) 512 (c .before .before .before .master-seeds .last .1 .1 .0) (omega (arith, tree-parties _ _ (c .before .before .before .before .before .before .before .before .before .before .pre .0 .tree) .few)) (c .before .before .before .master-seeds .kept .1 .1 .0)) (omega arith)), c .before .before .before .before .before .before .before .before .before .before .pre .0 .tapes-fit)))
 
 clear-requires : tie.Need-clear-requires
 clear-requires c κs = tt
@@ -56,7 +59,7 @@ slice-aggregate-prepare-in c = sym (prefix-length (c .before .before .before .be
 prepare-in-requires : tie.Need-prepare-in-requires
 prepare-in-requires c κs =
     let x = c .before .before .before .before .before .before .before .before .before .before .before .before .before .before .before .before .before .before .before .before .args in
-    (c .before .before .before .before .before .before .before .before .before .before .before .before .before .before .before .before .before .before .before .before .pre .0 .known, (begun _ _ (length (x .memory .now)) _ (tree-parties _ _ (c .before .before .before .before .before .before .before .before .before .before .before .before .before .before .before .before .before .before .before .before .pre .0 .tree)) (c .before .before .before .before .before .clear .ensures) (c .before .before .before .before .before .before .before .before .before .before .before .before .before .before .before .before .before .before .before .before .pre .0 .room), (c .before .before .before .before .before .before .before .before .before .tape-rows .kept .1 .1 .1 .1 .1 .1 .1 .1 .0 ∙ c .before .before .before .before .before .before .before .before .before .before .before .before .before .before .before .before .before .before .before .before .pre .0 .tapes-fit, prefix-length (c .before .before .before .before .before .before .before .before .before .before .before .before .before .before .before .oct .result) 512 (omega (arith, c .before .before .before .before .before .before .before .before .before .before .before .before .before .before .before .oct .ensures, ands-low _ _ _ _ _ (c .before .before .before .before .before .before .before .before .before .before .before .before .before .before .before .before .before .before .before .before .pre .0 .known), c .before .before .before .before .before .before .before .before .before .before .before .before .before .before .before .before .before .before .before .before .pre .0 .known .legal .laid .few-gates)) ∙ c .before .before .before .before .before .before .before .before .before .before .before .before .before .before .before .oct .ensures)))
+    (c .before .before .before .before .before .before .before .before .before .before .before .before .before .before .before .before .before .before .before .before .pre .0 .known, (begun _ _ (length (x .memory .now)) _ (tree-parties _ _ (c .before .before .before .before .before .before .before .before .before .before .before .before .before .before .before .before .before .before .before .before .pre .0 .tree)) (c .before .before .before .before .before .clear .ensures) (c .before .before .before .before .before .before .before .before .before .before .before .before .before .before .before .before .before .before .before .before .pre .0 .room), (c .before .before .before .before .before .before .before .before .before .tape-rows .kept .1 .1 .1 .1 .0 ∙ c .before .before .before .before .before .before .before .before .before .before .before .before .before .before .before .before .before .before .before .before .pre .0 .tapes-fit, prefix-length (c .before .before .before .before .before .before .before .before .before .before .before .before .before .before .before .oct .result) 512 (omega (arith, c .before .before .before .before .before .before .before .before .before .before .before .before .before .before .before .oct .ensures, ands-low _ _ _ _ _ (c .before .before .before .before .before .before .before .before .before .before .before .before .before .before .before .before .before .before .before .before .pre .0 .known), c .before .before .before .before .before .before .before .before .before .before .before .before .before .before .before .before .before .before .before .before .pre .0 .known .legal .laid .few-gates)) ∙ c .before .before .before .before .before .before .before .before .before .before .before .before .before .before .before .oct .ensures)))
 
 slice-aggregate-commit : tie.Need-slice-aggregate-commit
 slice-aggregate-commit c = refl
@@ -64,39 +67,40 @@ slice-aggregate-commit c = refl
 array-share-prefix-seeds-2 : tie.Need-array-share-prefix-seeds-2
 array-share-prefix-seeds-2 c =
     let x = c .before .before .before .before .before .before .before .before .before .before .before .before .before .before .before .before .before .before .before .before .before .before .before .before .before .args in
-    prefix-inside (32 * x .n) (32 * x .n) (c .before .before .before .before .before .before .before .before .before .before .before .before .before .before .before .before .before .before .master-seeds .last .1 .1 .1 .1 .0) (drop (32 * x .n) (replicate 512 0)) (kept-prefix (32 * x .n) 512 (c .before .before .before .before .before .before .before .before .before .before .before .before .before .before .before .before .before .before .master-seeds .last .1 .1 .1 .1 .0) (omega (arith, tree-parties _ _ (c .before .before .before .before .before .before .before .before .before .before .before .before .before .before .before .before .before .before .before .before .before .before .before .before .before .pre .0 .tree) .few)) (c .before .before .before .before .before .before .before .before .before .before .before .before .before .before .before .before .before .before .master-seeds .kept .1 .1 .1 .1 .0)) (omega arith)
+    prefix-inside (32 * x .inst .parties) (32 * x .inst .parties) (c .before .before .before .before .before .before .before .before .before .before .before .before .before .before .before .before .before .before .master-seeds .last .1 .1 .0) (drop (32 * x .inst .parties) (replicate 512 0)) (kept-prefix (32 * x .inst .parties) 512 (c .before .before .before .before .before .before .before .before .before .before .before .before .before .before .before .before .before .before .master-seeds .last .1 .1 .0) (omega (arith, tree-parties _ _ (c .before .before .before .before .before .before .before .before .before .before .before .before .before .before .before .before .before .before .before .before .before .before .before .before .before .pre .0 .tree) .few)) (c .before .before .before .before .before .before .before .before .before .before .before .before .before .before .before .before .before .before .master-seeds .kept .1 .1 .0)) (omega arith)
 
 slice-aggregate-commit-2 : tie.Need-slice-aggregate-commit-2
 slice-aggregate-commit-2 c =
     let x = c .before .before .before .before .before .before .before .before .before .before .before .before .before .before .before .before .before .before .before .before .before .before .before .before .before .before .args in
-    prefix-taken (32 * x .n) (32 * x .n) (c .before .before .before .before .before .before .before .before .before .before .before .before .before .before .before .before .before .before .before .master-seeds .last .1 .1 .1 .1 .0) (drop (32 * x .n) (replicate 512 0)) (kept-prefix (32 * x .n) 512 (c .before .before .before .before .before .before .before .before .before .before .before .before .before .before .before .before .before .before .before .master-seeds .last .1 .1 .1 .1 .0) (omega (arith, tree-parties _ _ (c .before .before .before .before .before .before .before .before .before .before .before .before .before .before .before .before .before .before .before .before .before .before .before .before .before .before .pre .0 .tree) .few)) (c .before .before .before .before .before .before .before .before .before .before .before .before .before .before .before .before .before .before .before .master-seeds .kept .1 .1 .1 .1 .0)) (omega arith)
+    prefix-taken (32 * x .inst .parties) (32 * x .inst .parties) (c .before .before .before .before .before .before .before .before .before .before .before .before .before .before .before .before .before .before .before .master-seeds .last .1 .1 .0) (drop (32 * x .inst .parties) (replicate 512 0)) (kept-prefix (32 * x .inst .parties) 512 (c .before .before .before .before .before .before .before .before .before .before .before .before .before .before .before .before .before .before .before .master-seeds .last .1 .1 .0) (omega (arith, tree-parties _ _ (c .before .before .before .before .before .before .before .before .before .before .before .before .before .before .before .before .before .before .before .before .before .before .before .before .before .before .pre .0 .tree) .few)) (c .before .before .before .before .before .before .before .before .before .before .before .before .before .before .before .before .before .before .before .master-seeds .kept .1 .1 .0)) (omega arith)
 
 array-share-prefix-corrections : tie.Need-array-share-prefix-corrections
-array-share-prefix-corrections c = prefix-inside (c .before .before .before .before .before .before .before .before .before .before .before .before .before .before .before .before .before .before .before .before .before .oct .result) (c .before .before .before .before .before .before .before .before .before .before .before .before .before .before .before .before .before .before .before .before .before .oct .result) (c .before .before .before .before .before .prepare-in .last .1 .1 .1 .1 .1 .1 .1 .0) (drop (c .before .before .before .before .before .before .before .before .before .before .before .before .before .before .before .before .before .before .before .before .before .oct .result) (replicate 512 0)) (kept-prefix (c .before .before .before .before .before .before .before .before .before .before .before .before .before .before .before .before .before .before .before .before .before .oct .result) 512 (c .before .before .before .before .before .prepare-in .last .1 .1 .1 .1 .1 .1 .1 .0) (omega (arith, c .before .before .before .before .before .before .before .before .before .before .before .before .before .before .before .before .before .before .before .before .before .oct .ensures, ands-low _ _ _ _ _ (c .before .before .before .before .before .before .before .before .before .before .before .before .before .before .before .before .before .before .before .before .before .before .before .before .before .before .pre .0 .known), c .before .before .before .before .before .before .before .before .before .before .before .before .before .before .before .before .before .before .before .before .before .before .before .before .before .before .pre .0 .known .legal .laid .few-gates)) (c .before .before .before .before .before .prepare-in .kept .1 .1 .1 .1 .1 .1 .1 .0)) (omega arith)
+array-share-prefix-corrections c = prefix-inside (c .before .before .before .before .before .before .before .before .before .before .before .before .before .before .before .before .before .before .before .before .before .oct .result) (c .before .before .before .before .before .before .before .before .before .before .before .before .before .before .before .before .before .before .before .before .before .oct .result) (c .before .before .before .before .before .prepare-in .last .1 .1 .1 .1 .0) (drop (c .before .before .before .before .before .before .before .before .before .before .before .before .before .before .before .before .before .before .before .before .before .oct .result) (replicate 512 0)) (kept-prefix (c .before .before .before .before .before .before .before .before .before .before .before .before .before .before .before .before .before .before .before .before .before .oct .result) 512 (c .before .before .before .before .before .prepare-in .last .1 .1 .1 .1 .0) (omega (arith, c .before .before .before .before .before .before .before .before .before .before .before .before .before .before .before .before .before .before .before .before .before .oct .ensures, ands-low _ _ _ _ _ (c .before .before .before .before .before .before .before .before .before .before .before .before .before .before .before .before .before .before .before .before .before .before .before .before .before .before .pre .0 .known), c .before .before .before .before .before .before .before .before .before .before .before .before .before .before .before .before .before .before .before .before .before .before .before .before .before .before .pre .0 .known .legal .laid .few-gates)) (c .before .before .before .before .before .prepare-in .kept .1 .1 .1 .1 .0)) (omega arith)
 
 slice-aggregate-commit-3 : tie.Need-slice-aggregate-commit-3
-slice-aggregate-commit-3 c = prefix-taken (c .before .before .before .before .before .before .before .before .before .before .before .before .before .before .before .before .before .before .before .before .before .before .oct .result) (c .before .before .before .before .before .before .before .before .before .before .before .before .before .before .before .before .before .before .before .before .before .before .oct .result) (c .before .before .before .before .before .before .prepare-in .last .1 .1 .1 .1 .1 .1 .1 .0) (drop (c .before .before .before .before .before .before .before .before .before .before .before .before .before .before .before .before .before .before .before .before .before .before .oct .result) (replicate 512 0)) (kept-prefix (c .before .before .before .before .before .before .before .before .before .before .before .before .before .before .before .before .before .before .before .before .before .before .oct .result) 512 (c .before .before .before .before .before .before .prepare-in .last .1 .1 .1 .1 .1 .1 .1 .0) (omega (arith, c .before .before .before .before .before .before .before .before .before .before .before .before .before .before .before .before .before .before .before .before .before .before .oct .ensures, ands-low _ _ _ _ _ (c .before .before .before .before .before .before .before .before .before .before .before .before .before .before .before .before .before .before .before .before .before .before .before .before .before .before .before .pre .0 .known), c .before .before .before .before .before .before .before .before .before .before .before .before .before .before .before .before .before .before .before .before .before .before .before .before .before .before .before .pre .0 .known .legal .laid .few-gates)) (c .before .before .before .before .before .before .prepare-in .kept .1 .1 .1 .1 .1 .1 .1 .0)) (omega arith)
+slice-aggregate-commit-3 c = prefix-taken (c .before .before .before .before .before .before .before .before .before .before .before .before .before .before .before .before .before .before .before .before .before .before .oct .result) (c .before .before .before .before .before .before .before .before .before .before .before .before .before .before .before .before .before .before .before .before .before .before .oct .result) (c .before .before .before .before .before .before .prepare-in .last .1 .1 .1 .1 .0) (drop (c .before .before .before .before .before .before .before .before .before .before .before .before .before .before .before .before .before .before .before .before .before .before .oct .result) (replicate 512 0)) (kept-prefix (c .before .before .before .before .before .before .before .before .before .before .before .before .before .before .before .before .before .before .before .before .before .before .oct .result) 512 (c .before .before .before .before .before .before .prepare-in .last .1 .1 .1 .1 .0) (omega (arith, c .before .before .before .before .before .before .before .before .before .before .before .before .before .before .before .before .before .before .before .before .before .before .oct .ensures, ands-low _ _ _ _ _ (c .before .before .before .before .before .before .before .before .before .before .before .before .before .before .before .before .before .before .before .before .before .before .before .before .before .before .before .pre .0 .known), c .before .before .before .before .before .before .before .before .before .before .before .before .before .before .before .before .before .before .before .before .before .before .before .before .before .before .before .pre .0 .known .legal .laid .few-gates)) (c .before .before .before .before .before .before .prepare-in .kept .1 .1 .1 .1 .0)) (omega arith)
 
 commit-requires : tie.Need-commit-requires
 commit-requires c κs =
     let x = c .before .before .before .before .before .before .before .before .before .before .before .before .before .before .before .before .before .before .before .before .before .before .before .before .before .before .before .args in
-    (tree-parties _ _ (c .before .before .before .before .before .before .before .before .before .before .before .before .before .before .before .before .before .before .before .before .before .before .before .before .before .before .before .pre .0 .tree) .few, sym (prefix-taken (32 * x .n) (32 * x .n) (c .before .before .before .before .before .before .before .before .before .before .before .before .before .before .before .before .before .before .before .before .master-seeds .last .1 .1 .1 .1 .0) (drop (32 * x .n) (replicate 512 0)) (kept-prefix (32 * x .n) 512 (c .before .before .before .before .before .before .before .before .before .before .before .before .before .before .before .before .before .before .before .before .master-seeds .last .1 .1 .1 .1 .0) (omega (arith, tree-parties _ _ (c .before .before .before .before .before .before .before .before .before .before .before .before .before .before .before .before .before .before .before .before .before .before .before .before .before .before .before .pre .0 .tree) .few)) (c .before .before .before .before .before .before .before .before .before .before .before .before .before .before .before .before .before .before .before .before .master-seeds .kept .1 .1 .1 .1 .0)) (omega arith)))
+    (tree-parties _ _ (c .before .before .before .before .before .before .before .before .before .before .before .before .before .before .before .before .before .before .before .before .before .before .before .before .before .before .before .pre .0 .tree) .few, sym (prefix-taken (32 * x .inst .parties) (32 * x .inst .parties) (c .before .before .before .before .before .before .before .before .before .before .before .before .before .before .before .before .before .before .before .before .master-seeds .last .1 .1 .0) (drop (32 * x .inst .parties) (replicate 512 0)) (kept-prefix (32 * x .inst .parties) 512 (c .before .before .before .before .before .before .before .before .before .before .before .before .before .before .before .before .before .before .before .before .master-seeds .last .1 .1 .0) (omega (arith, tree-parties _ _ (c .before .before .before .before .before .before .before .before .before .before .before .before .before .before .before .before .before .before .before .before .before .before .before .before .before .before .before .pre .0 .tree) .few)) (c .before .before .before .before .before .before .before .before .before .before .before .before .before .before .before .before .before .before .before .before .master-seeds .kept .1 .1 .0)) (omega arith)))
 
 same-length : tie.Need-same-length
-same-length c = c .before .before .before .before .before .before .before .before .before .before .before .before .before .before .before .before .before .tape-rows .kept .1 .1 .1 .1 .1 .1 .1 .1 .0
+same-length c = c .before .before .before .before .before .before .before .before .before .before .before .before .before .before .before .before .before .tape-rows .kept .1 .1 .1 .1 .0
 
 same-length-2 : tie.Need-same-length-2
-same-length-2 c = c .before .before .before .before .before .before .before .prepare-in .kept .1 .1 .1 .1 .1 .1 .1 .1 .0 ∙ c .before .before .before .before .before .before .before .before .before .before .before .before .before .clear .kept .0
+same-length-2 c = c .before .before .before .before .before .before .before .prepare-in .kept .1 .1 .1 .1 .1 .0 ∙ c .before .before .before .before .before .before .before .before .before .before .before .before .before .clear .kept .0
 
 returns : tie.Need-returns
 returns c =
     let x = c .before .before .before .before .before .before .before .before .before .before .before .before .before .before .before .before .before .before .before .before .before .before .before .before .before .before .before .before .args in
-    master-made (x .s .now) (x .n) (x .j) (32 * x .n) (c .before .before .before .before .before .before .before .before .before .before .before .before .before .before .before .before .before .before .before .before .before .before .before .oct .result) (x .master .now) (take 0 (x .master .now)) (c .before .before .before .before .before .before .before .before .before .before .before .before .before .before .before .before .before .before .before .before .before .master-seeds .last .1 .1 .1 .1 .0) (c .before .before .before .before .before .before .before .before .before .before .before .before .before .before .before .before .before .tape-rows .last .1 .1 .1 .1 .1 .1 .1 .1 .0) (c .before .before .before .before .before .before .before .prepare-in .last .1 .1 .1 .1 .1 .1 .1 .0) (drop (32 * x .n) (replicate 512 0)) (drop (c .before .before .before .before .before .before .before .before .before .before .before .before .before .before .before .before .before .before .before .before .before .before .before .oct .result) (replicate 512 0)) _ (c .before .before .before .before .before .before .before .before .before .before .before .before .before .before .before .before .before .before .before .before .before .master-seeds .ensures) (kept-prefix (32 * x .n) 512 (c .before .before .before .before .before .before .before .before .before .before .before .before .before .before .before .before .before .before .before .before .before .master-seeds .last .1 .1 .1 .1 .0) (omega (arith, tree-parties _ _ (c .before .before .before .before .before .before .before .before .before .before .before .before .before .before .before .before .before .before .before .before .before .before .before .before .before .before .before .before .pre .0 .tree) .few)) (c .before .before .before .before .before .before .before .before .before .before .before .before .before .before .before .before .before .before .before .before .before .master-seeds .kept .1 .1 .1 .1 .0)) (c .before .before .before .before .before .before .before .before .before .before .before .before .before .before .before .before .before .tape-rows .ensures) (c .before .before .before .before .before .before .before .prepare-in .ensures) (kept-prefix (c .before .before .before .before .before .before .before .before .before .before .before .before .before .before .before .before .before .before .before .before .before .before .before .oct .result) 512 (c .before .before .before .before .before .before .before .prepare-in .last .1 .1 .1 .1 .1 .1 .1 .0) (omega (arith, c .before .before .before .before .before .before .before .before .before .before .before .before .before .before .before .before .before .before .before .before .before .before .before .oct .ensures, ands-low _ _ _ _ _ (c .before .before .before .before .before .before .before .before .before .before .before .before .before .before .before .before .before .before .before .before .before .before .before .before .before .before .before .before .pre .0 .known), c .before .before .before .before .before .before .before .before .before .before .before .before .before .before .before .before .before .before .before .before .before .before .before .before .before .before .before .before .pre .0 .known .legal .laid .few-gates)) (c .before .before .before .before .before .before .before .prepare-in .kept .1 .1 .1 .1 .1 .1 .1 .0)) (c .commit .ensures)
+    master-made (x .s .now) (x .inst .parties) (x .inst .number) (32 * x .inst .parties) (c .before .before .before .before .before .before .before .before .before .before .before .before .before .before .before .before .before .before .before .before .before .before .before .oct .result) (x .master .now) (take 0 (x .master .now)) (c .before .before .before .before .before .before .before .before .before .before .before .before .before .before .before .before .before .before .before .before .before .master-seeds .last .1 .1 .0) (c .before .before .before .before .before .before .before .before .before .before .before .before .before .before .before .before .before .tape-rows .last .1 .1 .1 .1 .0) (c .before .before .before .before .before .before .before .prepare-in .last .1 .1 .1 .1 .0) (drop (32 * x .inst .parties) (replicate 512 0)) (drop (c .before .before .before .before .before .before .before .before .before .before .before .before .before .before .before .before .before .before .before .before .before .before .before .oct .result) (replicate 512 0)) _ (c .before .before .before .before .before .before .before .before .before .before .before .before .before .before .before .before .before .before .before .before .before .master-seeds .ensures) (kept-prefix (32 * x .inst .parties) 512 (c .before .before .before .before .before .before .before .before .before .before .before .before .before .before .before .before .before .before .before .before .before .master-seeds .last .1 .1 .0) (omega (arith, tree-parties _ _ (c .before .before .before .before .before .before .before .before .before .before .before .before .before .before .before .before .before .before .before .before .before .before .before .before .before .before .before .before .pre .0 .tree) .few)) (c .before .before .before .before .before .before .before .before .before .before .before .before .before .before .before .before .before .before .before .before .before .master-seeds .kept .1 .1 .0)) (c .before .before .before .before .before .before .before .before .before .before .before .before .before .before .before .before .before .tape-rows .ensures) (c .before .before .before .before .before .before .before .prepare-in .ensures) (kept-prefix (c .before .before .before .before .before .before .before .before .before .before .before .before .before .before .before .before .before .before .before .before .before .before .before .oct .result) 512 (c .before .before .before .before .before .before .before .prepare-in .last .1 .1 .1 .1 .0) (omega (arith, c .before .before .before .before .before .before .before .before .before .before .before .before .before .before .before .before .before .before .before .before .before .before .before .oct .ensures, ands-low _ _ _ _ _ (c .before .before .before .before .before .before .before .before .before .before .before .before .before .before .before .before .before .before .before .before .before .before .before .before .before .before .before .before .pre .0 .known), c .before .before .before .before .before .before .before .before .before .before .before .before .before .before .before .before .before .before .before .before .before .before .before .before .before .before .before .before .pre .0 .known .legal .laid .few-gates)) (c .before .before .before .before .before .before .before .prepare-in .kept .1 .1 .1 .1 .0)) (c .commit .ensures)
 
 pub reopen-spec : {M : Type 1} → statement M
 reopen-spec =
     tie.close
     (tie.spec
+    cast-k
     mul-size
     oct-requires
     array-borrow-prefix-seeds

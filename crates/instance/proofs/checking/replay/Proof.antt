@@ -11,6 +11,12 @@ use Rattle.instance.proofs.Replays.{prefix-length, kept-prefix, prefix-
 use Rattle.instance.proofs.checking.replay.Statement.{statement}
 use Rattle.instance.proofs.checking.replay.Tie as tie
 
+cast-k : tie.Need-cast-k
+cast-k c =
+    let p = c .before .before .before .before .before .pre in
+    let x = c .before .before .before .before .before .args in
+    omega (arith, tree-parties _ _ (p .0 .tree) .few)
+
 mul-size : tie.Need-mul-size
 mul-size c =
     let p = c .before .before .before .before .before .pre in
@@ -26,6 +32,12 @@ sent-bytes-requires c κs =
     let x = c .before .before .before .before .before .before .args in
     (omega (arith, ands-low _ _ _ _ _ (p .0 .known), p .0 .known .legal .laid .few-gates), p .1 .0)
 
+cast-first : tie.Need-cast-first
+cast-first c =
+    let p = c .before .before .before .before .before .before .before .pre in
+    let x = c .before .before .before .before .before .before .before .args in
+    omega (arith, tree-low _ _ (p .0 .tree))
+
 mul-first : tie.Need-mul-first
 mul-first c =
     let p = c .before .before .before .before .before .before .before .pre in
@@ -36,13 +48,13 @@ add-second : tie.Need-add-second
 add-second c =
     let p = c .before .before .before .before .before .before .before .pre in
     let x = c .before .before .before .before .before .before .before .args in
-    omega (arith, tree-low _ _ (p .0 .tree), sent-small _ _ _ _ _ (p .0 .known) (x .n) (x .h) (x .p) (p .0 .tree) (x .part .now) (p .1 .1 .0) (c .sent-bytes .result) (c .sent-bytes .ensures), ands-low _ _ _ _ _ (p .0 .known), p .0 .known .legal .laid .few-gates, p .0 .known .legal .laid .few-inputs)
+    omega (arith, tree-low _ _ (p .0 .tree), sent-small _ _ _ _ _ (p .0 .known) (x .inst .parties) (x .inst .height) (x .p) (p .0 .tree) (x .part .now) (p .1 .1 .0) (c .sent-bytes .result) (c .sent-bytes .ensures), ands-low _ _ _ _ _ (p .0 .known), p .0 .known .legal .laid .few-gates, p .0 .known .legal .laid .few-inputs)
 
 add-third : tie.Need-add-third
 add-third c =
     let p = c .before .before .before .before .before .before .before .pre in
     let x = c .before .before .before .before .before .before .before .args in
-    omega (arith, tree-low _ _ (p .0 .tree), sent-small _ _ _ _ _ (p .0 .known) (x .n) (x .h) (x .p) (p .0 .tree) (x .part .now) (p .1 .1 .0) (c .sent-bytes .result) (c .sent-bytes .ensures), ands-low _ _ _ _ _ (p .0 .known), p .0 .known .legal .laid .few-gates, p .0 .known .legal .laid .few-inputs)
+    omega (arith, tree-low _ _ (p .0 .tree), sent-small _ _ _ _ _ (p .0 .known) (x .inst .parties) (x .inst .height) (x .p) (p .0 .tree) (x .part .now) (p .1 .1 .0) (c .sent-bytes .result) (c .sent-bytes .ensures), ands-low _ _ _ _ _ (p .0 .known), p .0 .known .legal .laid .few-gates, p .0 .known .legal .laid .few-inputs)
 
 oct-requires-2 : tie.Need-oct-requires-2
 oct-requires-2 c κs = tt
@@ -51,7 +63,7 @@ add-fourth : tie.Need-add-fourth
 add-fourth c =
     let p = c .before .before .before .before .before .before .before .before .pre in
     let x = c .before .before .before .before .before .before .before .before .args in
-    omega (arith, tree-low _ _ (p .0 .tree), sent-small _ _ _ _ _ (p .0 .known) (x .n) (x .h) (x .p) (p .0 .tree) (x .part .now) (p .1 .1 .0) (c .before .sent-bytes .result) (c .before .sent-bytes .ensures), ands-low _ _ _ _ _ (p .0 .known), p .0 .known .legal .laid .few-gates, p .0 .known .legal .laid .few-inputs, c .oct2 .ensures)
+    omega (arith, tree-low _ _ (p .0 .tree), sent-small _ _ _ _ _ (p .0 .known) (x .inst .parties) (x .inst .height) (x .p) (p .0 .tree) (x .part .now) (p .1 .1 .0) (c .before .sent-bytes .result) (c .before .sent-bytes .ensures), ands-low _ _ _ _ _ (p .0 .known), p .0 .known .legal .laid .few-gates, p .0 .known .legal .laid .few-inputs, c .oct2 .ensures)
 
 array-borrow-prefix-seeds : tie.Need-array-borrow-prefix-seeds
 array-borrow-prefix-seeds c =
@@ -63,7 +75,7 @@ slice-aggregate-reopen-parties : tie.Need-slice-aggregate-reopen-parties
 slice-aggregate-reopen-parties c =
     let p = c .before .before .before .before .before .before .before .before .before .pre in
     let x = c .before .before .before .before .before .before .before .before .before .args in
-    sym (prefix-length (32 * x .n) 512 (omega (arith, tree-parties _ _ (p .0 .tree) .few)))
+    sym (prefix-length (32 * x .inst .parties) 512 (omega (arith, tree-parties _ _ (p .0 .tree) .few)))
 
 array-borrow-prefix-corrections : tie.Need-array-borrow-prefix-corrections
 array-borrow-prefix-corrections c =
@@ -81,7 +93,7 @@ reopen-parties-requires : tie.Need-reopen-parties-requires
 reopen-parties-requires c κs =
     let p = c .before .before .before .before .before .before .before .before .before .before .before .pre in
     let x = c .before .before .before .before .before .before .before .before .before .before .before .args in
-    (p .0 .known, (p .0 .tree, (p .1 .0, (p .1 .1 .0, (prefix-length (32 * x .n) 512 (omega (arith, tree-parties _ _ (p .0 .tree) .few)), (prefix-length (c .before .before .before .before .before .oct .result) 512 (omega (arith, c .before .before .before .before .before .oct .ensures, ands-low _ _ _ _ _ (p .0 .known), p .0 .known .legal .laid .few-gates)) ∙ c .before .before .before .before .before .oct .ensures, p .0 .tapes-fit))))))
+    (p .0 .known, (p .0 .tree, (p .1 .0, (p .1 .1 .0, (prefix-length (32 * x .inst .parties) 512 (omega (arith, tree-parties _ _ (p .0 .tree) .few)), (prefix-length (c .before .before .before .before .before .oct .result) 512 (omega (arith, c .before .before .before .before .before .oct .ensures, ands-low _ _ _ _ _ (p .0 .known), p .0 .known .legal .laid .few-gates)) ∙ c .before .before .before .before .before .oct .ensures, p .0 .tapes-fit))))))
 
 sub-commit : tie.Need-sub-commit
 sub-commit c = omega arith
@@ -93,49 +105,49 @@ part-commit-end : tie.Need-part-commit-end
 part-commit-end c =
     let p = c .before .before .before .before .before .before .before .before .before .before .before .before .before .before .before .before .pre in
     let x = c .before .before .before .before .before .before .before .before .before .before .before .before .before .before .before .before .args in
-    omega (arith, stretch-size _ _ _ _ _ (p .0 .known) (x .n) (x .h) (x .p) (p .0 .tree) (x .part .now) (p .1 .1 .0) (c .before .before .before .before .before .before .before .before .before .sent-bytes .result) (c .before .before .before .before .before .before .before .before .before .sent-bytes .ensures))
+    omega (arith, stretch-size _ _ _ _ _ (p .0 .known) (x .inst .parties) (x .inst .height) (x .p) (p .0 .tree) (x .part .now) (p .1 .1 .0) (c .before .before .before .before .before .before .before .before .before .sent-bytes .result) (c .before .before .before .before .before .before .before .before .before .sent-bytes .ensures))
 
 array-share-prefix-seeds : tie.Need-array-share-prefix-seeds
 array-share-prefix-seeds c =
     let p = c .before .before .before .before .before .before .before .before .before .before .before .before .before .before .before .before .before .pre in
     let x = c .before .before .before .before .before .before .before .before .before .before .before .before .before .before .before .before .before .args in
-    prefix-inside (32 * x .n) (32 * x .n) (c .before .before .before .before .before .reopen-parties .last .1 .1 .1 .1 .1 .1 .1 .1 .1 .1 .0) (drop (32 * x .n) (replicate 512 0)) (kept-prefix (32 * x .n) 512 (c .before .before .before .before .before .reopen-parties .last .1 .1 .1 .1 .1 .1 .1 .1 .1 .1 .0) (omega (arith, tree-parties _ _ (p .0 .tree) .few)) (c .before .before .before .before .before .reopen-parties .kept .1 .1 .1 .1 .1 .1 .1 .1 .1 .1 .0)) (omega arith)
+    prefix-inside (32 * x .inst .parties) (32 * x .inst .parties) (c .before .before .before .before .before .reopen-parties .last .1 .1 .1 .1 .1 .0) (drop (32 * x .inst .parties) (replicate 512 0)) (kept-prefix (32 * x .inst .parties) 512 (c .before .before .before .before .before .reopen-parties .last .1 .1 .1 .1 .1 .0) (omega (arith, tree-parties _ _ (p .0 .tree) .few)) (c .before .before .before .before .before .reopen-parties .kept .1 .1 .1 .1 .1 .0)) (omega arith)
 
 slice-aggregate-commit : tie.Need-slice-aggregate-commit
 slice-aggregate-commit c =
     let p = c .before .before .before .before .before .before .before .before .before .before .before .before .before .before .before .before .before .before .pre in
     let x = c .before .before .before .before .before .before .before .before .before .before .before .before .before .before .before .before .before .before .args in
-    prefix-taken (32 * x .n) (32 * x .n) (c .before .before .before .before .before .before .reopen-parties .last .1 .1 .1 .1 .1 .1 .1 .1 .1 .1 .0) (drop (32 * x .n) (replicate 512 0)) (kept-prefix (32 * x .n) 512 (c .before .before .before .before .before .before .reopen-parties .last .1 .1 .1 .1 .1 .1 .1 .1 .1 .1 .0) (omega (arith, tree-parties _ _ (p .0 .tree) .few)) (c .before .before .before .before .before .before .reopen-parties .kept .1 .1 .1 .1 .1 .1 .1 .1 .1 .1 .0)) (omega arith)
+    prefix-taken (32 * x .inst .parties) (32 * x .inst .parties) (c .before .before .before .before .before .before .reopen-parties .last .1 .1 .1 .1 .1 .0) (drop (32 * x .inst .parties) (replicate 512 0)) (kept-prefix (32 * x .inst .parties) 512 (c .before .before .before .before .before .before .reopen-parties .last .1 .1 .1 .1 .1 .0) (omega (arith, tree-parties _ _ (p .0 .tree) .few)) (c .before .before .before .before .before .before .reopen-parties .kept .1 .1 .1 .1 .1 .0)) (omega arith)
 
 array-share-prefix-corrections : tie.Need-array-share-prefix-corrections
 array-share-prefix-corrections c =
     let p = c .before .before .before .before .before .before .before .before .before .before .before .before .before .before .before .before .before .before .pre in
     let x = c .before .before .before .before .before .before .before .before .before .before .before .before .before .before .before .before .before .before .args in
-    prefix-inside (c .before .before .before .before .before .before .before .before .before .before .before .sent-bytes .result) (c .before .before .before .before .before .before .before .before .before .before .before .before .oct .result) (c .before .before .before .before .before .before .reopen-parties .last .1 .1 .1 .1 .1 .1 .1 .1 .1 .1 .1 .0) (drop (c .before .before .before .before .before .before .before .before .before .before .before .before .oct .result) (replicate 512 0)) (kept-prefix (c .before .before .before .before .before .before .before .before .before .before .before .before .oct .result) 512 (c .before .before .before .before .before .before .reopen-parties .last .1 .1 .1 .1 .1 .1 .1 .1 .1 .1 .1 .0) (omega (arith, c .before .before .before .before .before .before .before .before .before .before .before .before .oct .ensures, ands-low _ _ _ _ _ (p .0 .known), p .0 .known .legal .laid .few-gates)) (c .before .before .before .before .before .before .reopen-parties .kept .1 .1 .1 .1 .1 .1 .1 .1 .1 .1 .1 .0)) (omega (arith, sent-small _ _ _ _ _ (p .0 .known) (x .n) (x .h) (x .p) (p .0 .tree) (x .part .now) (p .1 .1 .0) (c .before .before .before .before .before .before .before .before .before .before .before .sent-bytes .result) (c .before .before .before .before .before .before .before .before .before .before .before .sent-bytes .ensures), c .before .before .before .before .before .before .before .before .before .before .before .before .oct .ensures))
+    prefix-inside (c .before .before .before .before .before .before .before .before .before .before .before .sent-bytes .result) (c .before .before .before .before .before .before .before .before .before .before .before .before .oct .result) (c .before .before .before .before .before .before .reopen-parties .last .1 .1 .1 .1 .1 .1 .0) (drop (c .before .before .before .before .before .before .before .before .before .before .before .before .oct .result) (replicate 512 0)) (kept-prefix (c .before .before .before .before .before .before .before .before .before .before .before .before .oct .result) 512 (c .before .before .before .before .before .before .reopen-parties .last .1 .1 .1 .1 .1 .1 .0) (omega (arith, c .before .before .before .before .before .before .before .before .before .before .before .before .oct .ensures, ands-low _ _ _ _ _ (p .0 .known), p .0 .known .legal .laid .few-gates)) (c .before .before .before .before .before .before .reopen-parties .kept .1 .1 .1 .1 .1 .1 .0)) (omega (arith, sent-small _ _ _ _ _ (p .0 .known) (x .inst .parties) (x .inst .height) (x .p) (p .0 .tree) (x .part .now) (p .1 .1 .0) (c .before .before .before .before .before .before .before .before .before .before .before .sent-bytes .result) (c .before .before .before .before .before .before .before .before .before .before .before .sent-bytes .ensures), c .before .before .before .before .before .before .before .before .before .before .before .before .oct .ensures))
 
 slice-aggregate-commit-2 : tie.Need-slice-aggregate-commit-2
 slice-aggregate-commit-2 c =
     let p = c .before .before .before .before .before .before .before .before .before .before .before .before .before .before .before .before .before .before .before .pre in
     let x = c .before .before .before .before .before .before .before .before .before .before .before .before .before .before .before .before .before .before .before .args in
-    prefix-taken (c .before .before .before .before .before .before .before .before .before .before .before .before .sent-bytes .result) (c .before .before .before .before .before .before .before .before .before .before .before .before .before .oct .result) (c .before .before .before .before .before .before .before .reopen-parties .last .1 .1 .1 .1 .1 .1 .1 .1 .1 .1 .1 .0) (drop (c .before .before .before .before .before .before .before .before .before .before .before .before .before .oct .result) (replicate 512 0)) (kept-prefix (c .before .before .before .before .before .before .before .before .before .before .before .before .before .oct .result) 512 (c .before .before .before .before .before .before .before .reopen-parties .last .1 .1 .1 .1 .1 .1 .1 .1 .1 .1 .1 .0) (omega (arith, c .before .before .before .before .before .before .before .before .before .before .before .before .before .oct .ensures, ands-low _ _ _ _ _ (p .0 .known), p .0 .known .legal .laid .few-gates)) (c .before .before .before .before .before .before .before .reopen-parties .kept .1 .1 .1 .1 .1 .1 .1 .1 .1 .1 .1 .0)) (omega (arith, sent-small _ _ _ _ _ (p .0 .known) (x .n) (x .h) (x .p) (p .0 .tree) (x .part .now) (p .1 .1 .0) (c .before .before .before .before .before .before .before .before .before .before .before .before .sent-bytes .result) (c .before .before .before .before .before .before .before .before .before .before .before .before .sent-bytes .ensures), c .before .before .before .before .before .before .before .before .before .before .before .before .before .oct .ensures))
+    prefix-taken (c .before .before .before .before .before .before .before .before .before .before .before .before .sent-bytes .result) (c .before .before .before .before .before .before .before .before .before .before .before .before .before .oct .result) (c .before .before .before .before .before .before .before .reopen-parties .last .1 .1 .1 .1 .1 .1 .0) (drop (c .before .before .before .before .before .before .before .before .before .before .before .before .before .oct .result) (replicate 512 0)) (kept-prefix (c .before .before .before .before .before .before .before .before .before .before .before .before .before .oct .result) 512 (c .before .before .before .before .before .before .before .reopen-parties .last .1 .1 .1 .1 .1 .1 .0) (omega (arith, c .before .before .before .before .before .before .before .before .before .before .before .before .before .oct .ensures, ands-low _ _ _ _ _ (p .0 .known), p .0 .known .legal .laid .few-gates)) (c .before .before .before .before .before .before .before .reopen-parties .kept .1 .1 .1 .1 .1 .1 .0)) (omega (arith, sent-small _ _ _ _ _ (p .0 .known) (x .inst .parties) (x .inst .height) (x .p) (p .0 .tree) (x .part .now) (p .1 .1 .0) (c .before .before .before .before .before .before .before .before .before .before .before .before .sent-bytes .result) (c .before .before .before .before .before .before .before .before .before .before .before .before .sent-bytes .ensures), c .before .before .before .before .before .before .before .before .before .before .before .before .before .oct .ensures))
 
 commit-requires : tie.Need-commit-requires
 commit-requires c κs =
     let p = c .before .before .before .before .before .before .before .before .before .before .before .before .before .before .before .before .before .before .before .pre in
     let x = c .before .before .before .before .before .before .before .before .before .before .before .before .before .before .before .before .before .before .before .args in
-    (tree-parties _ _ (p .0 .tree) .few, sym (prefix-taken (32 * x .n) (32 * x .n) (c .before .before .before .before .before .before .before .reopen-parties .last .1 .1 .1 .1 .1 .1 .1 .1 .1 .1 .0) (drop (32 * x .n) (replicate 512 0)) (kept-prefix (32 * x .n) 512 (c .before .before .before .before .before .before .before .reopen-parties .last .1 .1 .1 .1 .1 .1 .1 .1 .1 .1 .0) (omega (arith, tree-parties _ _ (p .0 .tree) .few)) (c .before .before .before .before .before .before .before .reopen-parties .kept .1 .1 .1 .1 .1 .1 .1 .1 .1 .1 .0)) (omega arith)))
+    (tree-parties _ _ (p .0 .tree) .few, sym (prefix-taken (32 * x .inst .parties) (32 * x .inst .parties) (c .before .before .before .before .before .before .before .reopen-parties .last .1 .1 .1 .1 .1 .0) (drop (32 * x .inst .parties) (replicate 512 0)) (kept-prefix (32 * x .inst .parties) 512 (c .before .before .before .before .before .before .before .reopen-parties .last .1 .1 .1 .1 .1 .0) (omega (arith, tree-parties _ _ (p .0 .tree) .few)) (c .before .before .before .before .before .before .before .reopen-parties .kept .1 .1 .1 .1 .1 .0)) (omega arith)))
 
 array-share-prefix-corrections-2 : tie.Need-array-share-prefix-corrections-2
 array-share-prefix-corrections-2 c =
     let p = c .before .before .before .before .before .before .before .before .before .before .before .before .before .before .before .before .before .before .before .before .before .pre in
     let x = c .before .before .before .before .before .before .before .before .before .before .before .before .before .before .before .before .before .before .before .before .before .args in
-    prefix-inside (c .before .before .before .before .before .before .before .before .before .before .before .before .before .before .before .oct .result) (c .before .before .before .before .before .before .before .before .before .before .before .before .before .before .before .oct .result) (c .before .before .before .before .before .before .before .before .before .reopen-parties .last .1 .1 .1 .1 .1 .1 .1 .1 .1 .1 .1 .0) (drop (c .before .before .before .before .before .before .before .before .before .before .before .before .before .before .before .oct .result) (replicate 512 0)) (kept-prefix (c .before .before .before .before .before .before .before .before .before .before .before .before .before .before .before .oct .result) 512 (c .before .before .before .before .before .before .before .before .before .reopen-parties .last .1 .1 .1 .1 .1 .1 .1 .1 .1 .1 .1 .0) (omega (arith, c .before .before .before .before .before .before .before .before .before .before .before .before .before .before .before .oct .ensures, ands-low _ _ _ _ _ (p .0 .known), p .0 .known .legal .laid .few-gates)) (c .before .before .before .before .before .before .before .before .before .reopen-parties .kept .1 .1 .1 .1 .1 .1 .1 .1 .1 .1 .1 .0)) (omega arith)
+    prefix-inside (c .before .before .before .before .before .before .before .before .before .before .before .before .before .before .before .oct .result) (c .before .before .before .before .before .before .before .before .before .before .before .before .before .before .before .oct .result) (c .before .before .before .before .before .before .before .before .before .reopen-parties .last .1 .1 .1 .1 .1 .1 .0) (drop (c .before .before .before .before .before .before .before .before .before .before .before .before .before .before .before .oct .result) (replicate 512 0)) (kept-prefix (c .before .before .before .before .before .before .before .before .before .before .before .before .before .before .before .oct .result) 512 (c .before .before .before .before .before .before .before .before .before .reopen-parties .last .1 .1 .1 .1 .1 .1 .0) (omega (arith, c .before .before .before .before .before .before .before .before .before .before .before .before .before .before .before .oct .ensures, ands-low _ _ _ _ _ (p .0 .known), p .0 .known .legal .laid .few-gates)) (c .before .before .before .before .before .before .before .before .before .reopen-parties .kept .1 .1 .1 .1 .1 .1 .0)) (omega arith)
 
 slice-aggregate-rerun : tie.Need-slice-aggregate-rerun
 slice-aggregate-rerun c =
     let p = c .before .before .before .before .before .before .before .before .before .before .before .before .before .before .before .before .before .before .before .before .before .before .pre in
     let x = c .before .before .before .before .before .before .before .before .before .before .before .before .before .before .before .before .before .before .before .before .before .before .args in
-    prefix-taken (c .before .before .before .before .before .before .before .before .before .before .before .before .before .before .before .before .oct .result) (c .before .before .before .before .before .before .before .before .before .before .before .before .before .before .before .before .oct .result) (c .before .before .before .before .before .before .before .before .before .before .reopen-parties .last .1 .1 .1 .1 .1 .1 .1 .1 .1 .1 .1 .0) (drop (c .before .before .before .before .before .before .before .before .before .before .before .before .before .before .before .before .oct .result) (replicate 512 0)) (kept-prefix (c .before .before .before .before .before .before .before .before .before .before .before .before .before .before .before .before .oct .result) 512 (c .before .before .before .before .before .before .before .before .before .before .reopen-parties .last .1 .1 .1 .1 .1 .1 .1 .1 .1 .1 .1 .0) (omega (arith, c .before .before .before .before .before .before .before .before .before .before .before .before .before .before .before .before .oct .ensures, ands-low _ _ _ _ _ (p .0 .known), p .0 .known .legal .laid .few-gates)) (c .before .before .before .before .before .before .before .before .before .before .reopen-parties .kept .1 .1 .1 .1 .1 .1 .1 .1 .1 .1 .1 .0)) (omega arith)
+    prefix-taken (c .before .before .before .before .before .before .before .before .before .before .before .before .before .before .before .before .oct .result) (c .before .before .before .before .before .before .before .before .before .before .before .before .before .before .before .before .oct .result) (c .before .before .before .before .before .before .before .before .before .before .reopen-parties .last .1 .1 .1 .1 .1 .1 .0) (drop (c .before .before .before .before .before .before .before .before .before .before .before .before .before .before .before .before .oct .result) (replicate 512 0)) (kept-prefix (c .before .before .before .before .before .before .before .before .before .before .before .before .before .before .before .before .oct .result) 512 (c .before .before .before .before .before .before .before .before .before .before .reopen-parties .last .1 .1 .1 .1 .1 .1 .0) (omega (arith, c .before .before .before .before .before .before .before .before .before .before .before .before .before .before .before .before .oct .ensures, ands-low _ _ _ _ _ (p .0 .known), p .0 .known .legal .laid .few-gates)) (c .before .before .before .before .before .before .before .before .before .before .reopen-parties .kept .1 .1 .1 .1 .1 .1 .0)) (omega arith)
 
 sub-rerun : tie.Need-sub-rerun
 sub-rerun c = omega arith
@@ -147,19 +159,19 @@ part-rerun-end : tie.Need-part-rerun-end
 part-rerun-end c =
     let p = c .before .before .before .before .before .before .before .before .before .before .before .before .before .before .before .before .before .before .before .before .before .before .pre in
     let x = c .before .before .before .before .before .before .before .before .before .before .before .before .before .before .before .before .before .before .before .before .before .before .args in
-    omega (arith, stretch-size _ _ _ _ _ (p .0 .known) (x .n) (x .h) (x .p) (p .0 .tree) (x .part .now) (p .1 .1 .0) (c .before .before .before .before .before .before .before .before .before .before .before .before .before .before .before .sent-bytes .result) (c .before .before .before .before .before .before .before .before .before .before .before .before .before .before .before .sent-bytes .ensures), c .before .before .before .before .before .before .before .before .before .before .before .before .before .before .oct2 .ensures)
+    omega (arith, stretch-size _ _ _ _ _ (p .0 .known) (x .inst .parties) (x .inst .height) (x .p) (p .0 .tree) (x .part .now) (p .1 .1 .0) (c .before .before .before .before .before .before .before .before .before .before .before .before .before .before .before .sent-bytes .result) (c .before .before .before .before .before .before .before .before .before .before .before .before .before .before .before .sent-bytes .ensures), c .before .before .before .before .before .before .before .before .before .before .before .before .before .before .oct2 .ensures)
 
 sub-rerun-2 : tie.Need-sub-rerun-2
 sub-rerun-2 c =
     let p = c .before .before .before .before .before .before .before .before .before .before .before .before .before .before .before .before .before .before .before .before .before .before .before .pre in
     let x = c .before .before .before .before .before .before .before .before .before .before .before .before .before .before .before .before .before .before .before .before .before .before .before .args in
-    omega (arith, stretch-size _ _ _ _ _ (p .0 .known) (x .n) (x .h) (x .p) (p .0 .tree) (x .part .now) (p .1 .1 .0) (c .before .before .before .before .before .before .before .before .before .before .before .before .before .before .before .before .sent-bytes .result) (c .before .before .before .before .before .before .before .before .before .before .before .before .before .before .before .before .sent-bytes .ensures), c .before .before .before .before .before .before .before .before .before .before .before .before .before .before .before .oct2 .ensures)
+    omega (arith, stretch-size _ _ _ _ _ (p .0 .known) (x .inst .parties) (x .inst .height) (x .p) (p .0 .tree) (x .part .now) (p .1 .1 .0) (c .before .before .before .before .before .before .before .before .before .before .before .before .before .before .before .before .sent-bytes .result) (c .before .before .before .before .before .before .before .before .before .before .before .before .before .before .before .before .sent-bytes .ensures), c .before .before .before .before .before .before .before .before .before .before .before .before .before .before .before .oct2 .ensures)
 
 part-rerun-start-2 : tie.Need-part-rerun-start-2
 part-rerun-start-2 c =
     let p = c .before .before .before .before .before .before .before .before .before .before .before .before .before .before .before .before .before .before .before .before .before .before .before .pre in
     let x = c .before .before .before .before .before .before .before .before .before .before .before .before .before .before .before .before .before .before .before .before .before .before .before .args in
-    omega (arith, stretch-size _ _ _ _ _ (p .0 .known) (x .n) (x .h) (x .p) (p .0 .tree) (x .part .now) (p .1 .1 .0) (c .before .before .before .before .before .before .before .before .before .before .before .before .before .before .before .before .sent-bytes .result) (c .before .before .before .before .before .before .before .before .before .before .before .before .before .before .before .before .sent-bytes .ensures), c .before .before .before .before .before .before .before .before .before .before .before .before .before .before .before .oct2 .ensures)
+    omega (arith, stretch-size _ _ _ _ _ (p .0 .known) (x .inst .parties) (x .inst .height) (x .p) (p .0 .tree) (x .part .now) (p .1 .1 .0) (c .before .before .before .before .before .before .before .before .before .before .before .before .before .before .before .before .sent-bytes .result) (c .before .before .before .before .before .before .before .before .before .before .before .before .before .before .before .before .sent-bytes .ensures), c .before .before .before .before .before .before .before .before .before .before .before .before .before .before .before .oct2 .ensures)
 
 part-rerun-end-2 : tie.Need-part-rerun-end-2
 part-rerun-end-2 c = omega arith
@@ -168,26 +180,26 @@ rerun-requires : tie.Need-rerun-requires
 rerun-requires c κs =
     let p = c .before .before .before .before .before .before .before .before .before .before .before .before .before .before .before .before .before .before .before .before .before .before .before .before .before .pre in
     let x = c .before .before .before .before .before .before .before .before .before .before .before .before .before .before .before .before .before .before .before .before .before .before .before .before .before .args in
-    let tapes = c .before .before .before .before .before .before .before .before .before .before .before .before .before .reopen-parties .kept .1 .1 .1 .1 .1 .1 .1 .1 .1 .1 .1 .1 .0 ∙ p .0 .tapes-fit in
-    let corrections = sym (prefix-taken (c .before .before .before .before .before .before .before .before .before .before .before .before .before .before .before .before .before .before .before .oct .result) (c .before .before .before .before .before .before .before .before .before .before .before .before .before .before .before .before .before .before .before .oct .result) (c .before .before .before .before .before .before .before .before .before .before .before .before .before .reopen-parties .last .1 .1 .1 .1 .1 .1 .1 .1 .1 .1 .1 .0) (drop (c .before .before .before .before .before .before .before .before .before .before .before .before .before .before .before .before .before .before .before .oct .result) (replicate 512 0)) (kept-prefix (c .before .before .before .before .before .before .before .before .before .before .before .before .before .before .before .before .before .before .before .oct .result) 512 (c .before .before .before .before .before .before .before .before .before .before .before .before .before .reopen-parties .last .1 .1 .1 .1 .1 .1 .1 .1 .1 .1 .1 .0) (omega (arith, c .before .before .before .before .before .before .before .before .before .before .before .before .before .before .before .before .before .before .before .oct .ensures, ands-low _ _ _ _ _ (p .0 .known), p .0 .known .legal .laid .few-gates)) (c .before .before .before .before .before .before .before .before .before .before .before .before .before .reopen-parties .kept .1 .1 .1 .1 .1 .1 .1 .1 .1 .1 .1 .0)) (omega arith)) ∙ c .before .before .before .before .before .before .before .before .before .before .before .before .before .before .before .before .before .before .before .oct .ensures in
-    let masked = sym (part-length (16 * x .h + c .before .before .before .before .before .before .before .before .before .before .before .before .before .before .before .before .before .before .sent-bytes .result + 32) (c .before .before .before .before .before .before .before .before .before .before .before .before .before .before .before .before .before .oct2 .result) (oct (x .inputs)) (oct (x .inputs)) (x .part .now) (omega (arith, stretch-size _ _ _ _ _ (p .0 .known) (x .n) (x .h) (x .p) (p .0 .tree) (x .part .now) (p .1 .1 .0) (c .before .before .before .before .before .before .before .before .before .before .before .before .before .before .before .before .before .before .sent-bytes .result) (c .before .before .before .before .before .before .before .before .before .before .before .before .before .before .before .before .before .before .sent-bytes .ensures), c .before .before .before .before .before .before .before .before .before .before .before .before .before .before .before .before .before .oct2 .ensures)) (c .before .before .before .before .before .before .before .before .before .before .before .before .before .before .before .before .before .oct2 .ensures) refl) in
-    let row = rest-length (16 * x .h + c .before .before .before .before .before .before .before .before .before .before .before .before .before .before .before .before .before .before .sent-bytes .result + 32 + c .before .before .before .before .before .before .before .before .before .before .before .before .before .before .before .before .before .oct2 .result) (oct (x .ands + x .outputs)) (x .part .now) (omega (arith, stretch-size _ _ _ _ _ (p .0 .known) (x .n) (x .h) (x .p) (p .0 .tree) (x .part .now) (p .1 .1 .0) (c .before .before .before .before .before .before .before .before .before .before .before .before .before .before .before .before .before .before .sent-bytes .result) (c .before .before .before .before .before .before .before .before .before .before .before .before .before .before .before .before .before .before .sent-bytes .ensures), c .before .before .before .before .before .before .before .before .before .before .before .before .before .before .before .before .before .oct2 .ensures)) in
-    (p .0 .known, (tree-parties _ _ (p .0 .tree), (p .1 .0, (record { tapes-fit = tapes; corrections-fit = corrections; masked-fit = masked; row-fits = row }, (masked-unused _ _ _ _ _ (p .0 .known) (x .n) (x .h) (x .p) (p .0 .tree) (x .part .now) (p .1 .1 .0) (c .before .before .before .before .before .before .before .before .before .before .before .before .before .before .before .before .before .before .sent-bytes .result) (c .before .before .before .before .before .before .before .before .before .before .before .before .before .before .before .before .before .before .sent-bytes .ensures) (c .before .before .before .before .before .before .before .before .before .before .before .before .before .before .before .before .before .oct2 .result) (c .before .before .before .before .before .before .before .before .before .before .before .before .before .before .before .before .before .oct2 .ensures) (p .1 .1 .1), p .0 .room)))))
+    let tapes = c .before .before .before .before .before .before .before .before .before .before .before .before .before .reopen-parties .kept .1 .1 .1 .1 .1 .1 .1 .0 ∙ p .0 .tapes-fit in
+    let corrections = sym (prefix-taken (c .before .before .before .before .before .before .before .before .before .before .before .before .before .before .before .before .before .before .before .oct .result) (c .before .before .before .before .before .before .before .before .before .before .before .before .before .before .before .before .before .before .before .oct .result) (c .before .before .before .before .before .before .before .before .before .before .before .before .before .reopen-parties .last .1 .1 .1 .1 .1 .1 .0) (drop (c .before .before .before .before .before .before .before .before .before .before .before .before .before .before .before .before .before .before .before .oct .result) (replicate 512 0)) (kept-prefix (c .before .before .before .before .before .before .before .before .before .before .before .before .before .before .before .before .before .before .before .oct .result) 512 (c .before .before .before .before .before .before .before .before .before .before .before .before .before .reopen-parties .last .1 .1 .1 .1 .1 .1 .0) (omega (arith, c .before .before .before .before .before .before .before .before .before .before .before .before .before .before .before .before .before .before .before .oct .ensures, ands-low _ _ _ _ _ (p .0 .known), p .0 .known .legal .laid .few-gates)) (c .before .before .before .before .before .before .before .before .before .before .before .before .before .reopen-parties .kept .1 .1 .1 .1 .1 .1 .0)) (omega arith)) ∙ c .before .before .before .before .before .before .before .before .before .before .before .before .before .before .before .before .before .before .before .oct .ensures in
+    let masked = sym (part-length (16 * x .inst .height + c .before .before .before .before .before .before .before .before .before .before .before .before .before .before .before .before .before .before .sent-bytes .result + 32) (c .before .before .before .before .before .before .before .before .before .before .before .before .before .before .before .before .before .oct2 .result) (oct (x .z .inputs)) (oct (x .z .inputs)) (x .part .now) (omega (arith, stretch-size _ _ _ _ _ (p .0 .known) (x .inst .parties) (x .inst .height) (x .p) (p .0 .tree) (x .part .now) (p .1 .1 .0) (c .before .before .before .before .before .before .before .before .before .before .before .before .before .before .before .before .before .before .sent-bytes .result) (c .before .before .before .before .before .before .before .before .before .before .before .before .before .before .before .before .before .before .sent-bytes .ensures), c .before .before .before .before .before .before .before .before .before .before .before .before .before .before .before .before .before .oct2 .ensures)) (c .before .before .before .before .before .before .before .before .before .before .before .before .before .before .before .before .before .oct2 .ensures) refl) in
+    let row = rest-length (16 * x .inst .height + c .before .before .before .before .before .before .before .before .before .before .before .before .before .before .before .before .before .before .sent-bytes .result + 32 + c .before .before .before .before .before .before .before .before .before .before .before .before .before .before .before .before .before .oct2 .result) (oct (x .z .ands + x .z .outputs)) (x .part .now) (omega (arith, stretch-size _ _ _ _ _ (p .0 .known) (x .inst .parties) (x .inst .height) (x .p) (p .0 .tree) (x .part .now) (p .1 .1 .0) (c .before .before .before .before .before .before .before .before .before .before .before .before .before .before .before .before .before .before .sent-bytes .result) (c .before .before .before .before .before .before .before .before .before .before .before .before .before .before .before .before .before .before .sent-bytes .ensures), c .before .before .before .before .before .before .before .before .before .before .before .before .before .before .before .before .before .oct2 .ensures)) in
+    (p .0 .known, (tree-parties _ _ (p .0 .tree), (p .1 .0, (record { tapes-fit = tapes; corrections-fit = corrections; masked-fit = masked; row-fits = row }, (masked-unused _ _ _ _ _ (p .0 .known) (x .inst .parties) (x .inst .height) (x .p) (p .0 .tree) (x .part .now) (p .1 .1 .0) (c .before .before .before .before .before .before .before .before .before .before .before .before .before .before .before .before .before .before .sent-bytes .result) (c .before .before .before .before .before .before .before .before .before .before .before .before .before .before .before .before .before .before .sent-bytes .ensures) (c .before .before .before .before .before .before .before .before .before .before .before .before .before .before .before .before .before .oct2 .result) (c .before .before .before .before .before .before .before .before .before .before .before .before .before .before .before .before .before .oct2 .ensures) (p .1 .1 .1), p .0 .room)))))
 
 same-length : tie.Need-same-length
-same-length c = c .before .before .before .before .before .before .before .before .before .before .before .before .before .before .before .before .reopen-parties .kept .1 .1 .1 .1 .1 .1 .1 .1 .1 .1 .1 .1 .0
+same-length c = c .before .before .before .before .before .before .before .before .before .before .before .before .before .before .before .before .reopen-parties .kept .1 .1 .1 .1 .1 .1 .1 .0
 
 same-length-2 : tie.Need-same-length-2
-same-length-2 c = c .before .before .rerun .kept .1 .1 .1 .1 .1 .1 .1 .1 .1 .1 .1 .1 .1 .1 .0
+same-length-2 c = c .before .before .rerun .kept .1 .1 .1 .1 .1 .1 .1 .1 .1 .1 .1 .0
 
 returns : tie.Need-returns
 returns c =
     let p = c .before .before .before .before .before .before .before .before .before .before .before .before .before .before .before .before .before .before .before .before .before .before .before .before .before .before .before .before .pre in
     let x = c .before .before .before .before .before .before .before .before .before .before .before .before .before .before .before .before .before .before .before .before .before .before .before .before .before .before .before .before .args in (
-      output-made _ _ _ _ _ (p .0 .known) (x .n) (x .h) (x .j) (x .p) (p .0 .tree) (x .part .now) (p .1 .1 .0) (c .before .before .before .before .before .before .before .before .before .before .before .before .before .before .before .before .before .before .before .before .before .sent-bytes .result) (c .before .before .before .before .before .before .before .before .before .before .before .before .before .before .before .before .before .before .before .before .before .sent-bytes .ensures) (c .before .before .before .before .before .before .before .before .before .before .before .before .before .before .before .before .reopen-parties .last .1 .1 .1 .1 .1 .1 .1 .1 .1 .1 .1 .0) (c .before .before .before .before .before .before .before .before .before .before .before .before .before .before .before .before .reopen-parties .ensures .1 .0) (kept-prefix (c .before .before .before .before .before .before .before .before .before .before .before .before .before .before .before .before .before .before .before .before .before .before .oct .result) 512 (c .before .before .before .before .before .before .before .before .before .before .before .before .before .before .before .before .reopen-parties .last .1 .1 .1 .1 .1 .1 .1 .1 .1 .1 .1 .0) (omega (arith, c .before .before .before .before .before .before .before .before .before .before .before .before .before .before .before .before .before .before .before .before .before .before .oct .ensures, ands-low _ _ _ _ _ (p .0 .known), p .0 .known .legal .laid .few-gates)) (c .before .before .before .before .before .before .before .before .before .before .before .before .before .before .before .before .reopen-parties .kept .1 .1 .1 .1 .1 .1 .1 .1 .1 .1 .1 .0) ∙ c .before .before .before .before .before .before .before .before .before .before .before .before .before .before .before .before .before .before .before .before .before .before .oct .ensures) (c .before .before .before .before .before .before .before .before .before .before .before .before .before .before .before .before .before .before .before .before .oct2 .result) (c .before .before .before .before .before .before .before .before .before .before .before .before .before .before .before .before .before .before .before .before .before .before .oct .result) (c .before .before .before .before .before .before .before .before .before .before .before .before .before .before .before .before .before .before .before .before .oct2 .ensures) (c .before .before .before .before .before .before .before .before .before .before .before .before .before .before .before .before .before .before .before .before .before .before .oct .ensures) (c .before .before .before .before .before .before .before .before .before .before .before .before .before .before .before .before .reopen-parties .last .1 .1 .1 .1 .1 .1 .1 .1 .1 .1 .1 .1 .0) (drop (c .before .before .before .before .before .before .before .before .before .before .before .before .before .before .before .before .before .before .before .before .before .before .oct .result) (replicate 512 0)) (c .before .before .before .before .before .before .before .before .before .before .before .before .before .before .before .before .reopen-parties .ensures .1 .1) _ (x .y .now) (c .before .before .rerun .ensures .0),
+      output-made _ _ _ _ _ (p .0 .known) (x .inst .parties) (x .inst .height) (x .inst .number) (x .p) (p .0 .tree) (x .part .now) (p .1 .1 .0) (c .before .before .before .before .before .before .before .before .before .before .before .before .before .before .before .before .before .before .before .before .before .sent-bytes .result) (c .before .before .before .before .before .before .before .before .before .before .before .before .before .before .before .before .before .before .before .before .before .sent-bytes .ensures) (c .before .before .before .before .before .before .before .before .before .before .before .before .before .before .before .before .reopen-parties .last .1 .1 .1 .1 .1 .1 .0) (c .before .before .before .before .before .before .before .before .before .before .before .before .before .before .before .before .reopen-parties .ensures .1 .0) (kept-prefix (c .before .before .before .before .before .before .before .before .before .before .before .before .before .before .before .before .before .before .before .before .before .before .oct .result) 512 (c .before .before .before .before .before .before .before .before .before .before .before .before .before .before .before .before .reopen-parties .last .1 .1 .1 .1 .1 .1 .0) (omega (arith, c .before .before .before .before .before .before .before .before .before .before .before .before .before .before .before .before .before .before .before .before .before .before .oct .ensures, ands-low _ _ _ _ _ (p .0 .known), p .0 .known .legal .laid .few-gates)) (c .before .before .before .before .before .before .before .before .before .before .before .before .before .before .before .before .reopen-parties .kept .1 .1 .1 .1 .1 .1 .0) ∙ c .before .before .before .before .before .before .before .before .before .before .before .before .before .before .before .before .before .before .before .before .before .before .oct .ensures) (c .before .before .before .before .before .before .before .before .before .before .before .before .before .before .before .before .before .before .before .before .oct2 .result) (c .before .before .before .before .before .before .before .before .before .before .before .before .before .before .before .before .before .before .before .before .before .before .oct .result) (c .before .before .before .before .before .before .before .before .before .before .before .before .before .before .before .before .before .before .before .before .oct2 .ensures) (c .before .before .before .before .before .before .before .before .before .before .before .before .before .before .before .before .before .before .before .before .before .before .oct .ensures) (c .before .before .before .before .before .before .before .before .before .before .before .before .before .before .before .before .reopen-parties .last .1 .1 .1 .1 .1 .1 .1 .0) (drop (c .before .before .before .before .before .before .before .before .before .before .before .before .before .before .before .before .before .before .before .before .before .before .oct .result) (replicate 512 0)) (c .before .before .before .before .before .before .before .before .before .before .before .before .before .before .before .before .reopen-parties .ensures .1 .1) _ (x .y .now) (c .before .before .rerun .ensures .0),
       (
-        c .before .before .rerun .ensures .1 .0 ∙ commitments-made _ _ _ _ _ (p .0 .known) (x .n) (x .h) (x .j) (x .p) (p .0 .tree) (x .part .now) (p .1 .1 .0) (c .before .before .before .before .before .before .before .before .before .before .before .before .before .before .before .before .before .before .before .before .before .sent-bytes .result) (c .before .before .before .before .before .before .before .before .before .before .before .before .before .before .before .before .before .before .before .before .before .sent-bytes .ensures) (c .before .before .before .before .before .before .before .before .before .before .before .before .before .before .before .before .reopen-parties .last .1 .1 .1 .1 .1 .1 .1 .1 .1 .1 .1 .0) (c .before .before .before .before .before .before .before .before .before .before .before .before .before .before .before .before .reopen-parties .ensures .1 .0) (kept-prefix (c .before .before .before .before .before .before .before .before .before .before .before .before .before .before .before .before .before .before .before .before .before .before .oct .result) 512 (c .before .before .before .before .before .before .before .before .before .before .before .before .before .before .before .before .reopen-parties .last .1 .1 .1 .1 .1 .1 .1 .1 .1 .1 .1 .0) (omega (arith, c .before .before .before .before .before .before .before .before .before .before .before .before .before .before .before .before .before .before .before .before .before .before .oct .ensures, ands-low _ _ _ _ _ (p .0 .known), p .0 .known .legal .laid .few-gates)) (c .before .before .before .before .before .before .before .before .before .before .before .before .before .before .before .before .reopen-parties .kept .1 .1 .1 .1 .1 .1 .1 .1 .1 .1 .1 .0) ∙ c .before .before .before .before .before .before .before .before .before .before .before .before .before .before .before .before .before .before .before .before .before .before .oct .ensures) (32 * x .n) (c .before .before .before .before .before .before .before .before .before .before .before .before .before .before .before .before .reopen-parties .last .1 .1 .1 .1 .1 .1 .1 .1 .1 .1 .0) (drop (32 * x .n) (replicate 512 0)) (drop (c .before .before .before .before .before .before .before .before .before .before .before .before .before .before .before .before .before .before .before .before .before .before .oct .result) (replicate 512 0)) _ (c .before .before .before .before .before .before .before .before .before .before .before .before .before .before .before .before .reopen-parties .ensures .0) (kept-prefix (32 * x .n) 512 (c .before .before .before .before .before .before .before .before .before .before .before .before .before .before .before .before .reopen-parties .last .1 .1 .1 .1 .1 .1 .1 .1 .1 .1 .0) (omega (arith, tree-parties _ _ (p .0 .tree) .few)) (c .before .before .before .before .before .before .before .before .before .before .before .before .before .before .before .before .reopen-parties .kept .1 .1 .1 .1 .1 .1 .1 .1 .1 .1 .0)) (c .before .before .before .before .before .before .before .before .commit .ensures),
-        rows-made _ _ _ _ _ (p .0 .known) (x .n) (x .h) (x .j) (x .p) (p .0 .tree) (x .part .now) (p .1 .1 .0) (c .before .before .before .before .before .before .before .before .before .before .before .before .before .before .before .before .before .before .before .before .before .sent-bytes .result) (c .before .before .before .before .before .before .before .before .before .before .before .before .before .before .before .before .before .before .before .before .before .sent-bytes .ensures) (c .before .before .before .before .before .before .before .before .before .before .before .before .before .before .before .before .reopen-parties .last .1 .1 .1 .1 .1 .1 .1 .1 .1 .1 .1 .0) (c .before .before .before .before .before .before .before .before .before .before .before .before .before .before .before .before .reopen-parties .ensures .1 .0) (kept-prefix (c .before .before .before .before .before .before .before .before .before .before .before .before .before .before .before .before .before .before .before .before .before .before .oct .result) 512 (c .before .before .before .before .before .before .before .before .before .before .before .before .before .before .before .before .reopen-parties .last .1 .1 .1 .1 .1 .1 .1 .1 .1 .1 .1 .0) (omega (arith, c .before .before .before .before .before .before .before .before .before .before .before .before .before .before .before .before .before .before .before .before .before .before .oct .ensures, ands-low _ _ _ _ _ (p .0 .known), p .0 .known .legal .laid .few-gates)) (c .before .before .before .before .before .before .before .before .before .before .before .before .before .before .before .before .reopen-parties .kept .1 .1 .1 .1 .1 .1 .1 .1 .1 .1 .1 .0) ∙ c .before .before .before .before .before .before .before .before .before .before .before .before .before .before .before .before .before .before .before .before .before .before .oct .ensures) (c .before .before .before .before .before .before .before .before .before .before .before .before .before .before .before .before .before .before .before .before .oct2 .result) (c .before .before .before .before .before .before .before .before .before .before .before .before .before .before .before .before .before .before .before .before .before .before .oct .result) (c .before .before .before .before .before .before .before .before .before .before .before .before .before .before .before .before .before .before .before .before .oct2 .ensures) (c .before .before .before .before .before .before .before .before .before .before .before .before .before .before .before .before .before .before .before .before .before .before .oct .ensures) (c .before .before .before .before .before .before .before .before .before .before .before .before .before .before .before .before .reopen-parties .last .1 .1 .1 .1 .1 .1 .1 .1 .1 .1 .1 .1 .0) (drop (c .before .before .before .before .before .before .before .before .before .before .before .before .before .before .before .before .before .before .before .before .before .before .oct .result) (replicate 512 0)) (c .before .before .before .before .before .before .before .before .before .before .before .before .before .before .before .before .reopen-parties .ensures .1 .1) _ (c .before .before .rerun .ensures .1 .1),
+        c .before .before .rerun .ensures .1 .0 ∙ commitments-made _ _ _ _ _ (p .0 .known) (x .inst .parties) (x .inst .height) (x .inst .number) (x .p) (p .0 .tree) (x .part .now) (p .1 .1 .0) (c .before .before .before .before .before .before .before .before .before .before .before .before .before .before .before .before .before .before .before .before .before .sent-bytes .result) (c .before .before .before .before .before .before .before .before .before .before .before .before .before .before .before .before .before .before .before .before .before .sent-bytes .ensures) (c .before .before .before .before .before .before .before .before .before .before .before .before .before .before .before .before .reopen-parties .last .1 .1 .1 .1 .1 .1 .0) (c .before .before .before .before .before .before .before .before .before .before .before .before .before .before .before .before .reopen-parties .ensures .1 .0) (kept-prefix (c .before .before .before .before .before .before .before .before .before .before .before .before .before .before .before .before .before .before .before .before .before .before .oct .result) 512 (c .before .before .before .before .before .before .before .before .before .before .before .before .before .before .before .before .reopen-parties .last .1 .1 .1 .1 .1 .1 .0) (omega (arith, c .before .before .before .before .before .before .before .before .before .before .before .before .before .before .before .before .before .before .before .before .before .before .oct .ensures, ands-low _ _ _ _ _ (p .0 .known), p .0 .known .legal .laid .few-gates)) (c .before .before .before .before .before .before .before .before .before .before .before .before .before .before .before .before .reopen-parties .kept .1 .1 .1 .1 .1 .1 .0) ∙ c .before .before .before .before .before .before .before .before .before .before .before .before .before .before .before .before .before .before .before .before .before .before .oct .ensures) (32 * x .inst .parties) (c .before .before .before .before .before .before .before .before .before .before .before .before .before .before .before .before .reopen-parties .last .1 .1 .1 .1 .1 .0) (drop (32 * x .inst .parties) (replicate 512 0)) (drop (c .before .before .before .before .before .before .before .before .before .before .before .before .before .before .before .before .before .before .before .before .before .before .oct .result) (replicate 512 0)) _ (c .before .before .before .before .before .before .before .before .before .before .before .before .before .before .before .before .reopen-parties .ensures .0) (kept-prefix (32 * x .inst .parties) 512 (c .before .before .before .before .before .before .before .before .before .before .before .before .before .before .before .before .reopen-parties .last .1 .1 .1 .1 .1 .0) (omega (arith, tree-parties _ _ (p .0 .tree) .few)) (c .before .before .before .before .before .before .before .before .before .before .before .before .before .before .before .before .reopen-parties .kept .1 .1 .1 .1 .1 .0)) (c .before .before .before .before .before .before .before .before .commit .ensures),
+        rows-made _ _ _ _ _ (p .0 .known) (x .inst .parties) (x .inst .height) (x .inst .number) (x .p) (p .0 .tree) (x .part .now) (p .1 .1 .0) (c .before .before .before .before .before .before .before .before .before .before .before .before .before .before .before .before .before .before .before .before .before .sent-bytes .result) (c .before .before .before .before .before .before .before .before .before .before .before .before .before .before .before .before .before .before .before .before .before .sent-bytes .ensures) (c .before .before .before .before .before .before .before .before .before .before .before .before .before .before .before .before .reopen-parties .last .1 .1 .1 .1 .1 .1 .0) (c .before .before .before .before .before .before .before .before .before .before .before .before .before .before .before .before .reopen-parties .ensures .1 .0) (kept-prefix (c .before .before .before .before .before .before .before .before .before .before .before .before .before .before .before .before .before .before .before .before .before .before .oct .result) 512 (c .before .before .before .before .before .before .before .before .before .before .before .before .before .before .before .before .reopen-parties .last .1 .1 .1 .1 .1 .1 .0) (omega (arith, c .before .before .before .before .before .before .before .before .before .before .before .before .before .before .before .before .before .before .before .before .before .before .oct .ensures, ands-low _ _ _ _ _ (p .0 .known), p .0 .known .legal .laid .few-gates)) (c .before .before .before .before .before .before .before .before .before .before .before .before .before .before .before .before .reopen-parties .kept .1 .1 .1 .1 .1 .1 .0) ∙ c .before .before .before .before .before .before .before .before .before .before .before .before .before .before .before .before .before .before .before .before .before .before .oct .ensures) (c .before .before .before .before .before .before .before .before .before .before .before .before .before .before .before .before .before .before .before .before .oct2 .result) (c .before .before .before .before .before .before .before .before .before .before .before .before .before .before .before .before .before .before .before .before .before .before .oct .result) (c .before .before .before .before .before .before .before .before .before .before .before .before .before .before .before .before .before .before .before .before .oct2 .ensures) (c .before .before .before .before .before .before .before .before .before .before .before .before .before .before .before .before .before .before .before .before .before .before .oct .ensures) (c .before .before .before .before .before .before .before .before .before .before .before .before .before .before .before .before .reopen-parties .last .1 .1 .1 .1 .1 .1 .1 .0) (drop (c .before .before .before .before .before .before .before .before .before .before .before .before .before .before .before .before .before .before .before .before .before .before .oct .result) (replicate 512 0)) (c .before .before .before .before .before .before .before .before .before .before .before .before .before .before .before .before .reopen-parties .ensures .1 .1) _ (c .before .before .rerun .ensures .1 .1),
       ),
     )
 
@@ -195,9 +207,11 @@ pub replay-spec : {M : Type 1} → statement M
 replay-spec =
     tie.close
     (tie.spec
+    cast-k
     mul-size
     oct-requires
     sent-bytes-requires
+    cast-first
     mul-first
     add-second
     add-third

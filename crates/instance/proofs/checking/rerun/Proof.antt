@@ -19,33 +19,33 @@ rework-requires c κs =
     (p .0, (p .1 .0, (p .1 .1 .0, (p .1 .1 .1 .0, (refl, p .1 .1 .1 .1 .1)))))
 
 slice-aggregate-outputs-are : tie.Need-slice-aggregate-outputs-are
-slice-aggregate-outputs-are c = sym (c .before .before .before .before .rework .kept .1 .1 .1 .1 .1 .1 .1 .1 .1 .1 .1 .0 ∙ length-replicate {A = ℕ} 4096 0)
+slice-aggregate-outputs-are c = sym (c .before .before .before .before .rework .kept .1 .1 .1 .1 .1 .1 .1 .1 .0 ∙ length-replicate {A = ℕ} 4096 0)
 
 outputs-are-requires : tie.Need-outputs-are-requires
 outputs-are-requires c κs =
     let p = c .before .before .before .before .before .before .before .before .before .before .before .before .before .before .pre in
-    let e = c .before .before .before .before .rework .kept .1 .1 .1 .1 .1 .1 .1 .1 .1 .1 .1 .0 ∙ length-replicate {A = ℕ} 4096 0 in
+    let e = c .before .before .before .before .rework .kept .1 .1 .1 .1 .1 .1 .1 .1 .0 ∙ length-replicate {A = ℕ} 4096 0 in
     (p .0 .legal .laid .few-outputs, omega (arith, p .0 .legal .laid .few-outputs, e))
 
 add-online : tie.Need-add-online
-add-online c = omega (arith, c .before .before .before .before .before .before .before .before .before .before .before .before .before .before .before .before .pre .0 .legal .laid .few-inputs, c .before .before .before .before .before .before .before .before .before .before .before .before .before .before .before .before .pre .0 .legal .laid .few-gates)
+add-online c = omega (arith, c .before .before .before .before .before .before .before .before .before .before .before .before .before .before .before .before .before .pre .0 .legal .laid .few-inputs, c .before .before .before .before .before .before .before .before .before .before .before .before .before .before .before .before .before .pre .0 .legal .laid .few-gates)
 
 add-online-2 : tie.Need-add-online-2
-add-online-2 c = omega (arith, ands-low _ _ _ _ _ (c .before .before .before .before .before .before .before .before .before .before .before .before .before .before .before .before .pre .0), c .before .before .before .before .before .before .before .before .before .before .before .before .before .before .before .before .pre .0 .legal .laid .few-gates, c .before .before .before .before .before .before .before .before .before .before .before .before .before .before .before .before .pre .0 .legal .laid .few-outputs)
+add-online-2 c = omega (arith, ands-low _ _ _ _ _ (c .before .before .before .before .before .before .before .before .before .before .before .before .before .before .before .before .before .before .pre .0), c .before .before .before .before .before .before .before .before .before .before .before .before .before .before .before .before .before .before .pre .0 .legal .laid .few-gates, c .before .before .before .before .before .before .before .before .before .before .before .before .before .before .before .before .before .before .pre .0 .legal .laid .few-outputs)
 
 online-requires : tie.Need-online-requires
 online-requires c κs =
-    let p = c .before .before .before .before .before .before .before .before .before .before .before .before .before .before .before .before .pre in
-    (room _ _ _ _ _ (p .0) _ _ (p .1 .0) (kept-room _ _ _ (c .before .before .before .before .before .before .rework .kept .1 .1 .1 .1 .1 .1 .1 .1 .1 .1 .1 .1 .0) (p .1 .1 .1 .1 .1)), omega (arith, ands-low _ _ _ _ _ (p .0), p .0 .legal .laid .few-outputs))
+    let p = c .before .before .before .before .before .before .before .before .before .before .before .before .before .before .before .before .before .before .pre in
+    (room _ _ _ _ _ (p .0) _ _ (p .1 .0) (kept-room _ _ _ (c .before .before .before .before .before .before .before .before .rework .kept .1 .1 .1 .1 .1 .1 .1 .1 .1 .0) (p .1 .1 .1 .1 .1)), omega (arith, ands-low _ _ _ _ _ (p .0), p .0 .legal .laid .few-outputs))
 
 same-length : tie.Need-same-length
-same-length c = c .before .before .before .before .before .before .before .rework .kept .1 .1 .1 .1 .1 .1 .1 .1 .1 .1 .1 .1 .0
+same-length c = c .before .before .before .before .before .before .before .before .before .rework .kept .1 .1 .1 .1 .1 .1 .1 .1 .1 .0
 
 returns : tie.Need-returns
 returns c =
-    let p = c .before .before .before .before .before .before .before .before .before .before .before .before .before .before .before .before .before .pre in
-    let x = c .before .before .before .before .before .before .before .before .before .before .before .before .before .before .before .before .before .args in
-    (agrees-made _ _ _ _ _ (p .0) (x .n) (x .p) (p .1 .0) (p .1 .1 .0) (x .tapes .now) (x .corrections .now) (x .masked .now) (x .row .now) (p .1 .1 .1 .1 .0) (length (x .memory .now)) (p .1 .1 .1 .1 .1) _ (x .y .now) _ (c .before .before .before .before .before .before .before .rework .ensures .0) (c .before .before .outputs-are .ensures), (refl, online-made _ _ _ _ _ (p .0) (x .n) (x .p) (p .1 .0) (p .1 .1 .0) (x .tapes .now) (x .corrections .now) (x .masked .now) (x .row .now) (p .1 .1 .1 .1 .0) (length (x .memory .now)) (p .1 .1 .1 .1 .1) (x .j) _ _ (c .before .before .before .before .before .before .before .rework .ensures .1) (c .online .ensures)))
+    let p = c .before .before .before .before .before .before .before .before .before .before .before .before .before .before .before .before .before .before .before .pre in
+    let x = c .before .before .before .before .before .before .before .before .before .before .before .before .before .before .before .before .before .before .before .args in
+    (agrees-made _ _ _ _ _ (p .0) (x .n) (x .p) (p .1 .0) (p .1 .1 .0) (x .tapes .now) (x .corrections .now) (x .masked .now) (x .row .now) (p .1 .1 .1 .1 .0) (length (x .memory .now)) (p .1 .1 .1 .1 .1) _ (x .y .now) _ (c .before .before .before .before .before .before .before .before .before .rework .ensures .0) (c .before .before .before .before .outputs-are .ensures), (refl, online-made _ _ _ _ _ (p .0) (x .n) (x .p) (p .1 .0) (p .1 .1 .0) (x .tapes .now) (x .corrections .now) (x .masked .now) (x .row .now) (p .1 .1 .1 .1 .0) (length (x .memory .now)) (p .1 .1 .1 .1 .1) (x .j) _ _ (c .before .before .before .before .before .before .before .before .before .rework .ensures .1) (c .online .ensures)))
 
 pub rerun-spec : {M : Type 1} → statement M
 rerun-spec =

@@ -72,7 +72,7 @@ part-unused-zero-end-3 : tie.Need-part-unused-zero-end-3
 part-unused-zero-end-3 c = omega arith
 
 add-unused-zero : tie.Need-add-unused-zero
-add-unused-zero c = omega (arith, ands-low _ _ _ _ _ (c .before .before .before .before .before .before .before .before .before .pre .0), c .before .before .before .before .before .before .before .before .before .pre .0 .legal .laid .few-gates, c .before .before .before .before .before .before .before .before .before .pre .0 .legal .laid .few-outputs)
+add-unused-zero c = omega (arith, ands-low _ _ _ _ _ (c .before .before .before .before .before .before .before .before .before .before .pre .0), c .before .before .before .before .before .before .before .before .before .before .pre .0 .legal .laid .few-gates, c .before .before .before .before .before .before .before .before .before .before .pre .0 .legal .laid .few-outputs)
 
 unused-zero-requires-3 : tie.Need-unused-zero-requires-3
 unused-zero-requires-3 c κs = tt
@@ -85,8 +85,8 @@ both-requires-2 c κs = tt
 
 returns : tie.Need-returns
 returns c =
-    let p = c .before .before .before .before .before .before .before .before .before .before .before .before .pre in
-    unused-made _ _ _ _ _ (p .0) _ _ _ (p .1 .0) (c .before .before .before .before .before .before .before .before .before .before .before .before .args .part .now) (p .1 .1 .1) _ (c .before .before .before .before .before .before .before .before .before .sent-bytes .ensures) _ (c .before .before .before .before .before .before .before .before .oct .ensures) _ _ _ _ _ (c .before .before .before .before .before .before .unused-zero .ensures) (c .before .before .before .before .unused-zero2 .ensures) (c .before .before .unused-zero3 .ensures) (c .before .both .ensures) (c .both2 .ensures)
+    let p = c .before .before .before .before .before .before .before .before .before .before .before .before .before .pre in
+    unused-made _ _ _ _ _ (p .0) _ _ _ (p .1 .0) (c .before .before .before .before .before .before .before .before .before .before .before .before .before .args .part .now) (p .1 .1 .1) _ (c .before .before .before .before .before .before .before .before .before .before .sent-bytes .ensures) _ (c .before .before .before .before .before .before .before .before .before .oct .ensures) _ _ _ _ _ (c .before .before .before .before .before .before .before .unused-zero .ensures) (c .before .before .before .before .before .unused-zero2 .ensures) (c .before .before .unused-zero3 .ensures) (c .before .both .ensures) (c .both2 .ensures)
 
 pub unused-spec : {M : Type 1} → statement M
 unused-spec =

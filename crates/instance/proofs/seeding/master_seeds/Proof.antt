@@ -9,6 +9,9 @@ use Rattle.instance.proofs.Seeded.{tree-few, front, front-leaves, tree-
 use Rattle.instance.proofs.seeding.master_seeds.Statement.{statement}
 use Rattle.instance.proofs.seeding.master_seeds.Tie as tie
 
+cast-size : tie.Need-cast-size
+cast-size c = omega (arith, tree-few _ _ (c .before .before .pre .0))
+
 mul-size : tie.Need-mul-size
 mul-size c = omega (arith, tree-few _ _ (c .before .before .pre .0))
 
@@ -22,31 +25,32 @@ leaves-below-requires : tie.Need-leaves-below-requires
 leaves-below-requires c κs = (c .before .before .before .pre .1 .0, (front-leaves _ _ (c .before .before .before .pre .0), tree-small _ _ (c .before .before .before .pre .0)))
 
 array-share-prefix-leaves : tie.Need-array-share-prefix-leaves
-array-share-prefix-leaves c = written-fits (c .before .before .before .before .before .args .n) (c .before .leaves-below .last .1 .1 .1 .1 .0) _ (c .before .leaves-below .kept .1 .1 .1 .1 .0 ∙ front _ _ (c .before .before .before .before .before .pre .0))
+array-share-prefix-leaves c = written-fits (c .before .before .before .before .before .args .inst .parties) (c .before .leaves-below .last .1 .1 .1 .1 .0) _ (c .before .leaves-below .kept .1 .1 .1 .1 .0 ∙ front _ _ (c .before .before .before .before .before .pre .0))
 
 slice-aggregate-seed-rows : tie.Need-slice-aggregate-seed-rows
-slice-aggregate-seed-rows c = sym (written-length (c .before .before .before .before .before .before .args .n) (c .before .before .leaves-below .last .1 .1 .1 .1 .0) _ (c .before .before .leaves-below .kept .1 .1 .1 .1 .0 ∙ front _ _ (c .before .before .before .before .before .before .pre .0)))
+slice-aggregate-seed-rows c = sym (written-length (c .before .before .before .before .before .before .args .inst .parties) (c .before .before .leaves-below .last .1 .1 .1 .1 .0) _ (c .before .before .leaves-below .kept .1 .1 .1 .1 .0 ∙ front _ _ (c .before .before .before .before .before .before .pre .0)))
 
 seed-rows-requires : tie.Need-seed-rows-requires
 seed-rows-requires c κs =
     let p = c .before .before .before .before .before .before .before .pre in
-    (tree-few _ _ (p .0), (written-length (c .before .before .before .before .before .before .before .args .n) (c .before .before .before .leaves-below .last .1 .1 .1 .1 .0) _ (c .before .before .before .leaves-below .kept .1 .1 .1 .1 .0 ∙ front _ _ (p .0)), p .1 .1))
+    (tree-few _ _ (p .0), (written-length (c .before .before .before .before .before .before .before .args .inst .parties) (c .before .before .before .leaves-below .last .1 .1 .1 .1 .0) _ (c .before .before .before .leaves-below .kept .1 .1 .1 .1 .0 ∙ front _ _ (p .0)), p .1 .1))
 
 same-length : tie.Need-same-length
-same-length c = c .before .before .seed-rows .kept .1 .1 .1 .0
+same-length c = c .before .before .seed-rows .kept .1 .1 .0
 
 returns : tie.Need-returns
 returns c =
     let p = c .before .before .before .before .before .before .before .before .before .before .pre in
     let x = c .before .before .before .before .before .before .before .before .before .before .args in
     let l = c .before .before .before .before .before .before .leaves-below in
-    master-made (x .n) (x .j) (x .h) (x .master .now) _ (p .0 .height)
-    (seeds-made (x .n) (l .last .1 .1 .1 .1 .0) _ (l .kept .1 .1 .1 .1 .0 ∙ front _ _ (p .0)) (x .j) (leavesBelow (x .j) (x .h) 1 (x .master .now)) _ (l .ensures) (c .before .before .seed-rows .ensures))
+    master-made (x .inst .parties) (x .inst .number) (x .inst .height) (x .master .now) _ (p .0 .height)
+    (seeds-made (x .inst .parties) (l .last .1 .1 .1 .1 .0) _ (l .kept .1 .1 .1 .1 .0 ∙ front _ _ (p .0)) (x .inst .number) (leavesBelow (x .inst .number) (x .inst .height) 1 (x .master .now)) _ (l .ensures) (c .before .before .seed-rows .ensures))
 
 pub master-seeds-spec : {M : Type 1} → statement M
 master-seeds-spec =
     tie.close
     (tie.spec
+    cast-size
     mul-size
     array-borrow-prefix-leaves
     slice-aggregate-leaves-below

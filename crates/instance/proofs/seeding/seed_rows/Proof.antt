@@ -14,11 +14,11 @@ use Rattle.instance.proofs.seeding.seed_rows.Statement.{statement}
 use Rattle.instance.proofs.seeding.seed_rows.Tie as tie
 
 abbrev Inv-loop : tie.InvT-loop
-Inv-loop j n leaves seeds₀ i₀ seeds i =
+Inv-loop leaves seeds₀ j n i₀ seeds i =
     (i ≤ n) × ((length seeds ≡ length seeds₀) × (take (i * 32) seeds ≡ flatten (tabulate i (λ k. seedRow j k (rowOf leaves 16 k)))))
 
 abbrev μ-loop : tie.MeasureT-loop
-μ-loop j n leaves seeds₀ i₀ seeds i = n - i
+μ-loop leaves seeds₀ j n i₀ seeds i = n - i
 
 loop-holds : tie.Need-loop-holds Inv-loop μ-loop
 loop-holds c = (omega arith, (refl, rows-none 32 (c .before .before .args .seeds .now)))
@@ -65,10 +65,10 @@ loop-again c =
       omega arith,
       (
         same-len-mid a (a + 32 - a) (l .seeds) z (p .kept .1 .1 .1 .0) ∙ l .inv .1 .0,
-        rows-turn 32 (l .i) a (a + 32) (omega arith) refl (l .seeds) (omega arith) (λ k. seedRow (x .j) k (rowOf (x .leaves .now) 16 k)) z
+        rows-turn 32 (l .i) a (a + 32) (omega arith) refl (l .seeds) (omega arith) (λ k. seedRow (x .inst .number) k (rowOf (x .leaves .now) 16 k)) z
             (p .kept .1 .1 .1 .0 ∙ part-length 32 (l .i) a (a + 32) (omega arith) refl (l .seeds) (omega arith))
             (l .inv .1 .1)
-            (p .ensures ∙ ap (seedRow (x .j) (l .i)) (c .before .before .before .before .row .ensures)),
+            (p .ensures ∙ ap (seedRow (x .inst .number) (l .i)) (c .before .before .before .before .row .ensures)),
       ),
     )
 
@@ -79,7 +79,7 @@ returns : tie.Need-returns Inv-loop μ-loop
 returns c =
     let l = c .before .loop in
     let x = c .before .before .before .before .args in
-    seeds-end (x .n) (l .i) (x .j) (x .leaves .now) (l .seeds) (omega arith) (l .inv .1 .0 ∙ c .before .before .before .before .pre .1 .1) (l .inv .1 .1)
+    seeds-end (x .inst .parties) (l .i) (x .inst .number) (x .leaves .now) (l .seeds) (omega arith) (l .inv .1 .0 ∙ c .before .before .before .before .pre .1 .1) (l .inv .1 .1)
 
 pub seed-rows-spec : {M : Type 1} → statement M
 seed-rows-spec =

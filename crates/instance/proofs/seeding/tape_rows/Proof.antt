@@ -18,13 +18,13 @@ use Rattle.instance.proofs.seeding.tape_rows.Statement.{statement}
 use Rattle.instance.proofs.seeding.tape_rows.Tie as tie
 
 abbrev Inv-loop : tie.InvT-loop
-Inv-loop s inputs outputs gates ands j n seeds tapes₀ len i₀ tapes i =
+Inv-loop s seeds tapes₀ j n inputs ands len i₀ tapes i =
     (i ≤ n)
     × ((length tapes ≡ length tapes₀)
     × (take (i * len) tapes ≡ flatten (tabulate i (λ k. tapeRow j k (seedOf seeds k) (usedBits (circuitOf s) n k) (rowBytes (circuitOf s))))))
 
 abbrev μ-loop : tie.MeasureT-loop
-μ-loop s inputs outputs gates ands j n seeds tapes₀ len i₀ tapes i = n - i
+μ-loop s seeds tapes₀ j n inputs ands len i₀ tapes i = n - i
 
 mul-oct : tie.Need-mul-oct Inv-loop μ-loop
 mul-oct c = omega (arith, ands-low _ _ _ _ _ (c .before .before .before .pre .0), c .before .before .before .pre .0 .legal .laid .few-gates)
@@ -44,7 +44,7 @@ inside : (c : tie.In-loop Inv-loop μ-loop)
 inside c =
     let x = c .before .before .before .before .before .before .args in
     let l = c .before .loop in
-    omega (arith, row-fits (x .n) (c .before .before .oct .result) (l .i) (c .loop-test .taken), l .inv .1 .0, c .before .before .before .before .before .before .pre .1 .1 .1, ap (λ (k : ℕ). x .n * k) (c .before .before .oct .ensures))
+    omega (arith, row-fits (x .inst .parties) (c .before .before .oct .result) (l .i) (c .loop-test .taken), l .inv .1 .0, c .before .before .before .before .before .before .pre .1 .1 .1, ap (λ (k : ℕ). x .inst .parties * k) (c .before .before .oct .ensures))
 
 -- a row is short
 short : (c : tie.In-loop Inv-loop μ-loop)
@@ -59,6 +59,9 @@ cast-k c = omega arith
 row-requires : tie.Need-row-requires Inv-loop μ-loop
 row-requires c κs = tt
 
+cast-used-bits : tie.Need-cast-used-bits Inv-loop μ-loop
+cast-used-bits c = omega (arith, c .before .before .before .before .before .before .before .pre .1 .0)
+
 used-bits-requires : tie.Need-used-bits-requires Inv-loop μ-loop
 used-bits-requires c κs =
     let p = c .before .before .before .before .before .before .before .pre in
@@ -71,7 +74,7 @@ add-e : tie.Need-add-e Inv-loop μ-loop
 add-e c = omega (arith, short (c .before .before))
 
 slice-aggregate-tape : tie.Need-slice-aggregate-tape Inv-loop μ-loop
-slice-aggregate-tape c = sym (seed-fits (c .before .before .before .before .before .before .before .before .before .args .n) (c .before .before .before .before .loop .i) (c .before .before .before .before .before .before .before .before .before .args .seeds .now) (c .before .before .row .result .now) (c .before .before .before .loop-test .taken) (c .before .before .before .before .before .before .before .before .before .pre .1 .1 .0) (c .before .before .row .ensures))
+slice-aggregate-tape c = sym (seed-fits (c .before .before .before .before .before .before .before .before .before .args .inst .parties) (c .before .before .before .before .loop .i) (c .before .before .before .before .before .before .before .before .before .args .seeds .now) (c .before .before .row .result .now) (c .before .before .before .loop-test .taken) (c .before .before .before .before .before .before .before .before .before .pre .1 .1 .0) (c .before .before .row .ensures))
 
 sub-tape : tie.Need-sub-tape Inv-loop μ-loop
 sub-tape c = omega arith
@@ -104,10 +107,10 @@ loop-again c =
       omega arith,
       (
         same-len-mid a (a + len - a) (l .tapes) z (p .kept .1 .1 .1 .1 .0) ∙ l .inv .1 .0,
-        rows-turn len (l .i) a (a + len) refl refl (l .tapes) h (λ k. tapeRow (x .j) k (seedOf (x .seeds .now) k) (usedBits (circuitOf (x .s .now)) (x .n) k) (rowBytes (circuitOf (x .s .now)))) z
+        rows-turn len (l .i) a (a + len) refl refl (l .tapes) h (λ k. tapeRow (x .inst .number) k (seedOf (x .seeds .now) k) (usedBits (circuitOf (x .s .now)) (x .inst .parties) k) (rowBytes (circuitOf (x .s .now)))) z
             (p .kept .1 .1 .1 .1 .0 ∙ m)
             (l .inv .1 .1)
-            (tape-made _ _ _ _ _ (c .before .before .before .before .before .before .before .before .before .before .before .before .before .pre .0) (x .n) (x .j) (l .i) (c .before .before .before .before .before .used-bits .result) len _ (x .seeds .now) (c .before .before .before .before .before .before .row .result .now) z (c .before .before .before .before .before .before .before .before .before .oct .ensures) (c .before .before .before .before .before .before .row .ensures) (c .before .before .before .before .before .used-bits .ensures) m (p .ensures)),
+            (tape-made _ _ _ _ _ (c .before .before .before .before .before .before .before .before .before .before .before .before .before .pre .0) (x .inst .parties) (x .inst .number) (l .i) (c .before .before .before .before .before .used-bits .result) len _ (x .seeds .now) (c .before .before .before .before .before .before .row .result .now) z (c .before .before .before .before .before .before .before .before .before .oct .ensures) (c .before .before .before .before .before .before .row .ensures) (c .before .before .before .before .before .used-bits .ensures) m (p .ensures)),
       ),
     )
 
@@ -118,7 +121,7 @@ returns : tie.Need-returns Inv-loop μ-loop
 returns c =
     let l = c .before .loop in
     let x = c .before .before .before .before .before .before .args in
-    tapes-end _ _ _ _ _ (c .before .before .before .before .before .before .pre .0) (x .n) (l .i) (x .j) (c .before .before .oct .result) (x .seeds .now) (l .tapes) (omega arith) (c .before .before .oct .ensures) (l .inv .1 .0 ∙ c .before .before .before .before .before .before .pre .1 .1 .1) (l .inv .1 .1)
+    tapes-end _ _ _ _ _ (c .before .before .before .before .before .before .pre .0) (x .inst .parties) (l .i) (x .inst .number) (c .before .before .oct .result) (x .seeds .now) (l .tapes) (omega arith) (c .before .before .oct .ensures) (l .inv .1 .0 ∙ c .before .before .before .before .before .before .pre .1 .1 .1) (l .inv .1 .1)
 
 pub tape-rows-spec : {M : Type 1} → statement M
 tape-rows-spec =
@@ -132,6 +135,7 @@ tape-rows-spec =
     loop-holds
     cast-k
     row-requires
+    cast-used-bits
     used-bits-requires
     mul-a
     add-e

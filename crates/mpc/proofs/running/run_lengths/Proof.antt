@@ -16,7 +16,7 @@ add-holds-rows : tie.Need-add-holds-rows
 add-holds-rows c = omega arith
 
 holds-rows-requires : tie.Need-holds-rows-requires
-holds-rows-requires c κs = (c .before .before .before .before .before .before .before .pre .0, omega arith)
+holds-rows-requires c κs = (c .before .before .before .before .before .before .before .before .before .pre .0, omega arith)
 
 both-requires : tie.Need-both-requires
 both-requires c κs = tt
@@ -37,7 +37,7 @@ add-holds-rows-2 : tie.Need-add-holds-rows-2
 add-holds-rows-2 c = omega arith
 
 holds-rows-requires-2 : tie.Need-holds-rows-requires-2
-holds-rows-requires-2 c κs = (c .before .before .before .before .before .before .before .before .before .before .before .before .before .pre .0, omega arith)
+holds-rows-requires-2 c κs = (c .before .before .before .before .before .before .before .before .before .before .before .before .before .before .before .before .pre .0, omega arith)
 
 both-requires-4 : tie.Need-both-requires-4
 both-requires-4 c κs = tt
@@ -50,8 +50,8 @@ both-requires-5 c κs = tt
 
 returns : tie.Need-returns
 returns c =
-    let lent = c .before .before .before .before .before .before .both2 .ensures ∙ ap₂ _&&_ (c .before .before .before .before .before .before .before .before .both .ensures ∙ ap₂ _&&_ (c .before .before .before .before .before .before .before .before .before .before .holds .ensures) (c .before .before .before .before .before .before .before .before .before .holds-rows .ensures)) (c .before .before .before .before .before .before .before .holds2 .ensures) in
-    let out = c .before .before .both4 .ensures ∙ ap₂ _&&_ (c .before .before .before .before .both3 .ensures ∙ ap₂ _&&_ lent (c .before .before .before .before .before .holds3 .ensures)) (c .before .before .before .holds-rows2 .ensures) in
+    let lent = c .before .before .before .before .before .before .before .both2 .ensures ∙ ap₂ _&&_ (c .before .before .before .before .before .before .before .before .before .both .ensures ∙ ap₂ _&&_ (c .before .before .before .before .before .before .before .before .before .before .before .before .before .holds .ensures) (c .before .before .before .before .before .before .before .before .before .before .holds-rows .ensures)) (c .before .before .before .before .before .before .before .before .holds2 .ensures) in
+    let out = c .before .before .both4 .ensures ∙ ap₂ _&&_ (c .before .before .before .before .before .both3 .ensures ∙ ap₂ _&&_ lent (c .before .before .before .before .before .before .holds3 .ensures)) (c .before .before .before .holds-rows2 .ensures) in
     c .both5 .ensures ∙ ap₂ _&&_ out (c .before .holds4 .ensures)
 
 pub run-lengths-spec : {M : Type 1} → statement M

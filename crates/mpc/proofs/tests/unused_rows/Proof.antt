@@ -11,10 +11,10 @@ use Rattle.mpc.proofs.tests.unused_rows.Statement.{statement}
 use Rattle.mpc.proofs.tests.unused_rows.Tie as tie
 
 abbrev Inv-loop : tie.InvT-loop
-Inv-loop s inputs outputs gates ands n tapes len good₀ i₀ good i = (i ≤ n) × (good ≡ unusedRows (circuitOf s) n tapes i)
+Inv-loop s n tapes inputs ands len good₀ i₀ good i = (i ≤ n) × (good ≡ unusedRows (circuitOf s) n tapes i)
 
 abbrev μ-loop : tie.MeasureT-loop
-μ-loop s inputs outputs gates ands n tapes len good₀ i₀ good i = n - i
+μ-loop s n tapes inputs ands len good₀ i₀ good i = n - i
 
 mul-oct : tie.Need-mul-oct Inv-loop μ-loop
 mul-oct c = omega (arith, ands-low _ _ _ _ _ (c .before .before .pre .0))

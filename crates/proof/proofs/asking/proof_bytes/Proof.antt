@@ -12,11 +12,11 @@ use Rattle.proof.proofs.asking.proof_bytes.Statement.{statement}
 use Rattle.proof.proofs.asking.proof_bytes.Tie as tie
 
 abbrev Inv-loop : tie.InvT-loop
-Inv-loop s inputs outputs gates ands m n h choices at₀ j₀ at j =
+Inv-loop s z m n h choices at₀ j₀ at j =
     (j ≤ m) × ((at ≤ 38 + 2048 * j) × (at ≡ stretchStart (circuitOf s) n (asksIn n choices) j))
 
 abbrev μ-loop : tie.MeasureT-loop
-μ-loop s inputs outputs gates ands m n h choices at₀ j₀ at j = m - j
+μ-loop s z m n h choices at₀ j₀ at j = m - j
 
 loop-holds : tie.Need-loop-holds Inv-loop μ-loop
 loop-holds c =
@@ -35,7 +35,7 @@ add-at : tie.Need-add-at Inv-loop μ-loop
 add-at c =
     let b = c .before .before .before .before .before .before in
     let x = b .args in
-    let w = stretch-few (x .s .now) (x .inputs) (x .outputs) (x .gates) (x .ands) (b .pre .0) (x .n) (askOf (x .n) (c .before .asked .result)) in
+    let w = stretch-few (x .s .now) (x .z .inputs) (x .z .outputs) (x .z .gates) (x .z .ands) (b .pre .0) (x .n) (askOf (x .n) (c .before .asked .result)) in
     omega (arith, c .stretch-bytes .ensures, b .pre .1 .1 .0, c .before .before .before .loop .inv)
 
 add-j : tie.Need-add-j Inv-loop μ-loop
@@ -49,7 +49,7 @@ loop-again c =
     let b = c .before .before .before .before .before .before in
     let l = c .before .before .before .loop in
     let x = b .args in
-    let w = stretch-few (x .s .now) (x .inputs) (x .outputs) (x .gates) (x .ands) (b .pre .0) (x .n) (askOf (x .n) (c .before .asked .result)) in (
+    let w = stretch-few (x .s .now) (x .z .inputs) (x .z .outputs) (x .z .gates) (x .z .ands) (b .pre .0) (x .n) (askOf (x .n) (c .before .asked .result)) in (
       omega arith,
       (
         omega (arith, c .stretch-bytes .ensures, l .inv),

@@ -18,7 +18,7 @@ add-oct : tie.Need-add-oct
 add-oct c =
     let b = c .before .before .before in
     let x = b .args in
-    omega (arith, broadcasts-few (x .s .now) (x .inputs) (x .outputs) (x .gates) (x .ands) (b .pre .0))
+    omega (arith, broadcasts-few (x .s .now) (x .z .inputs) (x .z .outputs) (x .z .gates) (x .z .ands) (b .pre .0))
 
 oct-requires-2 : tie.Need-oct-requires-2
 oct-requires-2 c κs = tt
@@ -27,7 +27,7 @@ add-row : tie.Need-add-row
 add-row c =
     let b = c .before .before .before .before in
     let x = b .args in
-    omega (arith, broadcasts-few (x .s .now) (x .inputs) (x .outputs) (x .gates) (x .ands) (b .pre .0), b .pre .0 .legal .laid .few-inputs, c .oct2 .ensures, c .before .oct .ensures)
+    omega (arith, broadcasts-few (x .s .now) (x .z .inputs) (x .z .outputs) (x .z .gates) (x .z .ands) (b .pre .0), b .pre .0 .legal .laid .few-inputs, c .oct2 .ensures, c .before .oct .ensures)
 
 mul-result : tie.Need-mul-result
 mul-result c =
@@ -38,35 +38,35 @@ sent-bytes-requires : tie.Need-sent-bytes-requires
 sent-bytes-requires c κs =
     let b = c .before .before .before .before in
     let x = b .args in
-    (ands-few (x .s .now) (x .inputs) (x .outputs) (x .gates) (x .ands) (b .pre .0), omega (arith, b .pre .1 .1, c .before .before .if1 .left))
+    (ands-few (x .s .now) (x .z .inputs) (x .z .outputs) (x .z .gates) (x .z .ands) (b .pre .0), omega (arith, b .pre .1 .1, c .before .before .if1 .left))
 
 add-result : tie.Need-add-result
 add-result c =
     let b = c .before .before .before .before .before in
     let x = b .args in
-    let v = sent-few (x .s .now) (x .inputs) (x .outputs) (x .gates) (x .ands) (b .pre .0) (x .n) (x .p) (c .sent-bytes .result) (c .sent-bytes .ensures) in
+    let v = sent-few (x .s .now) (x .z .inputs) (x .z .outputs) (x .z .gates) (x .z .ands) (b .pre .0) (x .n) (x .p) (c .sent-bytes .result) (c .sent-bytes .ensures) in
     omega (arith, b .pre .1 .0 .height, height-small (x .n))
 
 add-result-2 : tie.Need-add-result-2
 add-result-2 c =
     let b = c .before .before .before .before .before in
     let x = b .args in
-    let v = sent-few (x .s .now) (x .inputs) (x .outputs) (x .gates) (x .ands) (b .pre .0) (x .n) (x .p) (c .sent-bytes .result) (c .sent-bytes .ensures) in
+    let v = sent-few (x .s .now) (x .z .inputs) (x .z .outputs) (x .z .gates) (x .z .ands) (b .pre .0) (x .n) (x .p) (c .sent-bytes .result) (c .sent-bytes .ensures) in
     omega (arith, b .pre .1 .0 .height, height-small (x .n))
 
 add-result-3 : tie.Need-add-result-3
 add-result-3 c =
     let b = c .before .before .before .before .before in
     let x = b .args in
-    let v = sent-few (x .s .now) (x .inputs) (x .outputs) (x .gates) (x .ands) (b .pre .0) (x .n) (x .p) (c .sent-bytes .result) (c .sent-bytes .ensures) in
-    let w = broadcasts-few (x .s .now) (x .inputs) (x .outputs) (x .gates) (x .ands) (b .pre .0) in
+    let v = sent-few (x .s .now) (x .z .inputs) (x .z .outputs) (x .z .gates) (x .z .ands) (b .pre .0) (x .n) (x .p) (c .sent-bytes .result) (c .sent-bytes .ensures) in
+    let w = broadcasts-few (x .s .now) (x .z .inputs) (x .z .outputs) (x .z .gates) (x .z .ands) (b .pre .0) in
     omega (arith, b .pre .1 .0 .height, height-small (x .n), b .pre .0 .legal .laid .few-inputs, c .before .oct2 .ensures, c .before .before .oct .ensures)
 
 returns-2 : tie.Need-returns-2
 returns-2 c =
     let b = c .before .before .before .before .before in
     let x = b .args in
-    size-hiding (x .s .now) (x .inputs) (x .outputs) (x .gates) (x .ands) (b .pre .0) (x .n) (x .h) (x .p) (c .sent-bytes .result)
+    size-hiding (x .s .now) (x .z .inputs) (x .z .outputs) (x .z .gates) (x .z .ands) (b .pre .0) (x .n) (x .h) (x .p) (c .sent-bytes .result)
     (c .before .before .oct .result) (c .before .oct2 .result) (b .pre .1 .0) (b .pre .1 .1) (c .before .before .before .if1 .left)
     (c .sent-bytes .ensures) (c .before .before .oct .ensures) (c .before .oct2 .ensures)
 

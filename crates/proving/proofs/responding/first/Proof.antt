@@ -20,11 +20,11 @@ use Rattle.proving.proofs.responding.first.Statement.{statement}
 use Rattle.proving.proofs.responding.first.Tie as tie
 
 abbrev Inv-loop : tie.InvT-loop
-Inv-loop s inputs outputs gates ands m n h witness root onlines₀ tapes₀ memory₀ all₀ j₀ onlines tapes memory all j =
+Inv-loop s z m n h witness root onlines₀ tapes₀ memory₀ all₀ j₀ onlines tapes memory all j =
     (j ≤ m) × ((length onlines ≡ length onlines₀) × ((length tapes ≡ length tapes₀) × ((length memory ≡ length memory₀) × ((all ≡ taken (allCommitmentsInput (flatten (tabulate j (commitmentsAt (circuitOf s) n witness root))))) × (take (j * 32) onlines ≡ flatten (tabulate j (onlineAt (circuitOf s) n witness root)))))))
 
 abbrev μ-loop : tie.MeasureT-loop
-μ-loop s inputs outputs gates ands m n h witness root onlines₀ tapes₀ memory₀ all₀ j₀ onlines tapes memory all j = m - j
+μ-loop s z m n h witness root onlines₀ tapes₀ memory₀ all₀ j₀ onlines tapes memory all j = m - j
 
 start-all-commitments-requires : tie.Need-start-all-commitments-requires Inv-loop μ-loop
 start-all-commitments-requires c κs = tt
@@ -99,9 +99,9 @@ loop-again c =
       (
         same-len-mid a (a + 32 - a) (l .onlines) z k ∙ l .inv .1 .0,
         (
-          d .kept .1 .1 .1 .1 .1 .1 .1 .1 .1 .1 .0 ∙ l .inv .1 .1 .0,
+          d .kept .1 .1 .1 .1 .1 .0 ∙ l .inv .1 .1 .0,
           (
-            d .kept .1 .1 .1 .1 .1 .1 .1 .1 .1 .1 .1 .0 ∙ l .inv .1 .1 .1 .0,
+            d .kept .1 .1 .1 .1 .1 .1 .0 ∙ l .inv .1 .1 .1 .0,
             (
               all-turn (circuitOf (x .s .now)) (x .n) (x .witness .now) (x .root .now) (l .j) (l .all) (l .inv .1 .1 .1 .1 .0) _ _
                   (d .ensures .0 ∙ ap (masterCommitments (circuitOf (x .s .now)) (x .n) (l .j)) (c .before .before .before .before .before .before .before .before .before .before .before .before .before .before .before .before .before .before .before .before .master .ensures)) (c .before .before .before .before .before .before .before .absorb .ensures),

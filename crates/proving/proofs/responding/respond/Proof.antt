@@ -19,11 +19,11 @@ use Rattle.proving.proofs.responding.respond.Statement.{statement}
 use Rattle.proving.proofs.responding.respond.Tie as tie
 
 abbrev Inv-loop : tie.InvT-loop
-Inv-loop s inputs outputs gates ands m n h choices witness root part₀ tapes₀ memory₀ end₀ j₀ part tapes memory end j =
+Inv-loop s z m n h choices witness root part₀ tapes₀ memory₀ end₀ j₀ part tapes memory end j =
     (j ≤ m) × ((length part ≡ length part₀) × ((length tapes ≡ length tapes₀) × ((length memory ≡ length memory₀) × ((end ≡ length (responseOf (circuitOf s) j n witness root (asksIn n choices))) × (part ≡ take end part₀ ++ drop end (responseOf (circuitOf s) m n witness root (asksIn n choices)))))))
 
 abbrev μ-loop : tie.MeasureT-loop
-μ-loop s inputs outputs gates ands m n h choices witness root part₀ tapes₀ memory₀ end₀ j₀ part tapes memory end j = j
+μ-loop s z m n h choices witness root part₀ tapes₀ memory₀ end₀ j₀ part tapes memory end j = j
 
 loop-holds : tie.Need-loop-holds Inv-loop μ-loop
 loop-holds c =
@@ -154,14 +154,14 @@ loop-again c =
     let v = c .before .before .before .before .before .before .stretch in (
       omega (arith, l .inv .0),
       (
-        same-len-mid start (l .end - start) (l .part) (v .last .1 .1 .1 .1 .1 .1 .1 .1 .1 .1 .1 .1 .0) (v .kept .1 .1 .1 .1 .1 .1 .1 .1 .1 .1 .1 .1 .0) ∙ l .inv .1 .0,
+        same-len-mid start (l .end - start) (l .part) (v .last .1 .1 .1 .1 .1 .1 .1 .0) (v .kept .1 .1 .1 .1 .1 .1 .1 .0) ∙ l .inv .1 .0,
         (
-          v .kept .1 .1 .1 .1 .1 .1 .1 .1 .1 .1 .1 .1 .1 .0 ∙ l .inv .1 .1 .0,
+          v .kept .1 .1 .1 .1 .1 .1 .1 .1 .0 ∙ l .inv .1 .1 .0,
           (
-            v .kept .1 .1 .1 .1 .1 .1 .1 .1 .1 .1 .1 .1 .1 .1 .0 ∙ l .inv .1 .1 .1 .0,
+            v .kept .1 .1 .1 .1 .1 .1 .1 .1 .1 .0 ∙ l .inv .1 .1 .1 .0,
             (
               begins b,
-              sent-turn (circuitOf (x .s .now)) (x .n) (x .witness .now) (x .root .now) (asksIn (x .n) (x .choices .now)) (l .j - 1) (l .j) (x .m) (omega (arith, c .before .before .before .before .before .before .before .before .before .before .before .before .before .before .before .before .before .before .loop-test .taken)) (l .inv .0) start (l .end) (x .part .now) (l .part) (whole b) (begins b) (l .inv .1 .1 .1 .1 .0) (l .inv .1 .1 .1 .1 .1) (v .last .1 .1 .1 .1 .1 .1 .1 .1 .1 .1 .1 .1 .0)
+              sent-turn (circuitOf (x .s .now)) (x .n) (x .witness .now) (x .root .now) (asksIn (x .n) (x .choices .now)) (l .j - 1) (l .j) (x .m) (omega (arith, c .before .before .before .before .before .before .before .before .before .before .before .before .before .before .before .before .before .before .loop-test .taken)) (l .inv .0) start (l .end) (x .part .now) (l .part) (whole b) (begins b) (l .inv .1 .1 .1 .1 .0) (l .inv .1 .1 .1 .1 .1) (v .last .1 .1 .1 .1 .1 .1 .1 .0)
                   (v .ensures ∙ ap (λ (i : ℕ). stretchOf (circuitOf (x .s .now)) (x .n) (l .j - 1) (x .witness .now) (masterOf (l .j - 1) (x .root .now)) (askOf (x .n) i)) (c .before .before .before .before .before .before .before .before .before .before .before .before .before .before .before .before .before .asked .ensures)),
             ),
           ),

@@ -23,30 +23,30 @@ slice-aggregate-copy c = sym (ap length (c .before .before .before .master .ensu
 
 slice-relend-prefix-copy : tie.Need-slice-relend-prefix-copy
 slice-relend-prefix-copy c =
-    omega (arith, shut-size (circuitOf (c .before .before .before .before .before .before .before .before .before .before .before .before .args .s .now)) (c .before .before .before .before .before .before .before .before .before .before .before .before .args .n) (c .before .before .before .before .before .before .before .before .before .before .before .before .args .p) (c .before .before .before .before .before .before .before .before .before .before .before .before .args .part .now) (c .before .before .before .before .before .before .before .before .before .before .before .before .pre .1 .1 .1 .1) (c .before .if1 .taken))
+    omega (arith, shut-size (circuitOf (c .before .before .before .before .before .before .before .before .before .before .before .before .args .s .now)) (c .before .before .before .before .before .before .before .before .before .before .before .before .args .inst .parties) (c .before .before .before .before .before .before .before .before .before .before .before .before .args .p) (c .before .before .before .before .before .before .before .before .before .before .before .before .args .part .now) (c .before .before .before .before .before .before .before .before .before .before .before .before .pre .1 .1 .1 .1) (c .before .if1 .taken))
 
 slice-aggregate-copy-2 : tie.Need-slice-aggregate-copy-2
 slice-aggregate-copy-2 c =
-    sym (length-take-le 16 (c .before .before .before .before .before .before .before .before .before .before .before .before .before .args .part .now) (omega (arith, shut-size (circuitOf (c .before .before .before .before .before .before .before .before .before .before .before .before .before .args .s .now)) (c .before .before .before .before .before .before .before .before .before .before .before .before .before .args .n) (c .before .before .before .before .before .before .before .before .before .before .before .before .before .args .p) (c .before .before .before .before .before .before .before .before .before .before .before .before .before .args .part .now) (c .before .before .before .before .before .before .before .before .before .before .before .before .before .pre .1 .1 .1 .1) (c .before .before .if1 .taken))))
+    sym (length-take-le 16 (c .before .before .before .before .before .before .before .before .before .before .before .before .before .args .part .now) (omega (arith, shut-size (circuitOf (c .before .before .before .before .before .before .before .before .before .before .before .before .before .args .s .now)) (c .before .before .before .before .before .before .before .before .before .before .before .before .before .args .inst .parties) (c .before .before .before .before .before .before .before .before .before .before .before .before .before .args .p) (c .before .before .before .before .before .before .before .before .before .before .before .before .before .args .part .now) (c .before .before .before .before .before .before .before .before .before .before .before .before .before .pre .1 .1 .1 .1) (c .before .before .if1 .taken))))
 
 copy-requires : tie.Need-copy-requires
 copy-requires c κs =
-    shut-front (circuitOf (c .before .before .before .before .before .before .before .before .before .before .before .before .before .args .s .now)) (c .before .before .before .before .before .before .before .before .before .before .before .before .before .args .n) (c .before .before .before .before .before .before .before .before .before .before .before .before .before .args .p) (c .before .before .before .before .before .before .before .before .before .before .before .before .before .args .part .now) (c .before .before .before .before .before .before .before .before .before .before .before .before .before .pre .1 .1 .1 .1) (c .before .before .if1 .taken) (c .before .before .before .before .master .last .1 .1 .0) (ap length (c .before .before .before .before .master .ensures) ∙ length-master _ _)
+    shut-front (circuitOf (c .before .before .before .before .before .before .before .before .before .before .before .before .before .args .s .now)) (c .before .before .before .before .before .before .before .before .before .before .before .before .before .args .inst .parties) (c .before .before .before .before .before .before .before .before .before .before .before .before .before .args .p) (c .before .before .before .before .before .before .before .before .before .before .before .before .before .args .part .now) (c .before .before .before .before .before .before .before .before .before .before .before .before .before .pre .1 .1 .1 .1) (c .before .before .if1 .taken) (c .before .before .before .before .master .last .1 .1 .0) (ap length (c .before .before .before .before .master .ensures) ∙ length-master _ _)
 
 sub-copy : tie.Need-sub-copy
 sub-copy c =
-    omega (arith, shut-kept (circuitOf (c .before .before .before .before .before .before .before .before .before .before .before .before .before .before .before .before .args .s .now)) (c .before .before .before .before .before .before .before .before .before .before .before .before .before .before .before .before .args .n) (c .before .before .before .before .before .before .before .before .before .before .before .before .before .before .before .before .args .p) (c .before .before .before .before .before .before .before .before .before .before .before .before .before .before .before .before .args .part .now) (c .before .before .before .before .before .before .before .before .before .before .before .before .before .before .before .before .pre .1 .1 .1 .1) (c .before .before .before .before .before .if1 .taken) (c .before .before .copy .last .1 .0) (ap length (c .before .before .copy .ensures ∙ c .before .before .before .before .before .before .before .master .ensures) ∙ length-master _ _))
+    omega (arith, shut-kept (circuitOf (c .before .before .before .before .before .before .before .before .before .before .before .before .before .before .before .before .args .s .now)) (c .before .before .before .before .before .before .before .before .before .before .before .before .before .before .before .before .args .inst .parties) (c .before .before .before .before .before .before .before .before .before .before .before .before .before .before .before .before .args .p) (c .before .before .before .before .before .before .before .before .before .before .before .before .before .before .before .before .args .part .now) (c .before .before .before .before .before .before .before .before .before .before .before .before .before .before .before .before .pre .1 .1 .1 .1) (c .before .before .before .before .before .if1 .taken) (c .before .before .copy .last .1 .0) (ap length (c .before .before .copy .ensures ∙ c .before .before .before .before .before .before .before .master .ensures) ∙ length-master _ _))
 
 part-copy-start : tie.Need-part-copy-start
 part-copy-start c =
-    omega (arith, shut-kept (circuitOf (c .before .before .before .before .before .before .before .before .before .before .before .before .before .before .before .before .args .s .now)) (c .before .before .before .before .before .before .before .before .before .before .before .before .before .before .before .before .args .n) (c .before .before .before .before .before .before .before .before .before .before .before .before .before .before .before .before .args .p) (c .before .before .before .before .before .before .before .before .before .before .before .before .before .before .before .before .args .part .now) (c .before .before .before .before .before .before .before .before .before .before .before .before .before .before .before .before .pre .1 .1 .1 .1) (c .before .before .before .before .before .if1 .taken) (c .before .before .copy .last .1 .0) (ap length (c .before .before .copy .ensures ∙ c .before .before .before .before .before .before .before .master .ensures) ∙ length-master _ _))
+    omega (arith, shut-kept (circuitOf (c .before .before .before .before .before .before .before .before .before .before .before .before .before .before .before .before .args .s .now)) (c .before .before .before .before .before .before .before .before .before .before .before .before .before .before .before .before .args .inst .parties) (c .before .before .before .before .before .before .before .before .before .before .before .before .before .before .before .before .args .p) (c .before .before .before .before .before .before .before .before .before .before .before .before .before .before .before .before .args .part .now) (c .before .before .before .before .before .before .before .before .before .before .before .before .before .before .before .before .pre .1 .1 .1 .1) (c .before .before .before .before .before .if1 .taken) (c .before .before .copy .last .1 .0) (ap length (c .before .before .copy .ensures ∙ c .before .before .before .before .before .before .before .master .ensures) ∙ length-master _ _))
 
 part-copy-end : tie.Need-part-copy-end
 part-copy-end c = search needs
 
 copy-requires-2 : tie.Need-copy-requires-2
 copy-requires-2 c κs =
-    shut-rest (circuitOf (c .before .before .before .before .before .before .before .before .before .before .before .before .before .before .before .before .before .args .s .now)) (c .before .before .before .before .before .before .before .before .before .before .before .before .before .before .before .before .before .args .n) (c .before .before .before .before .before .before .before .before .before .before .before .before .before .before .before .before .before .args .p) (c .before .before .before .before .before .before .before .before .before .before .before .before .before .before .before .before .before .args .part .now) (c .before .before .before .before .before .before .before .before .before .before .before .before .before .before .before .before .before .pre .1 .1 .1 .1) (c .before .before .before .before .before .before .if1 .taken) (c .before .before .before .copy .last .1 .0) (ap length (c .before .before .before .copy .ensures ∙ c .before .before .before .before .before .before .before .before .master .ensures) ∙ length-master _ _) ∙ sym (ap length (c .before .before .before .before .before .before .before .before .before .before .before .before .before .before .before .before .before .pre .1 .1 .1 .0) ∙ length-online _ _ _ _ _)
+    shut-rest (circuitOf (c .before .before .before .before .before .before .before .before .before .before .before .before .before .before .before .before .before .args .s .now)) (c .before .before .before .before .before .before .before .before .before .before .before .before .before .before .before .before .before .args .inst .parties) (c .before .before .before .before .before .before .before .before .before .before .before .before .before .before .before .before .before .args .p) (c .before .before .before .before .before .before .before .before .before .before .before .before .before .before .before .before .before .args .part .now) (c .before .before .before .before .before .before .before .before .before .before .before .before .before .before .before .before .before .pre .1 .1 .1 .1) (c .before .before .before .before .before .before .if1 .taken) (c .before .before .before .copy .last .1 .0) (ap length (c .before .before .before .copy .ensures ∙ c .before .before .before .before .before .before .before .before .master .ensures) ∙ length-master _ _) ∙ sym (ap length (c .before .before .before .before .before .before .before .before .before .before .before .before .before .before .before .before .before .pre .1 .1 .1 .0) ∙ length-online _ _ _ _ _)
 
 slice-aggregate-send : tie.Need-slice-aggregate-send
 slice-aggregate-send c = sym (ap length (c .before .before .before .master .ensures) ∙ length-master _ _)
@@ -55,7 +55,7 @@ send-requires : tie.Need-send-requires
 send-requires c κs =
     let p = c .before .before .before .before .before .before .before .before .before .before .before .before .before .before .before .pre in
     let x = c .before .before .before .before .before .before .before .before .before .before .before .before .before .before .before .args in
-    (p .0, (p .1 .0, (ap length (c .before .before .before .before .before .before .master .ensures) ∙ length-master _ _, (omega (arith, c .before .before .before .before .if1 .left), hidden-size (circuitOf (x .s .now)) (x .n) (x .p) (x .part .now) (p .1 .1 .1 .1) (c .before .before .before .before .if1 .left)))))
+    (p .0, (p .1 .0, (ap length (c .before .before .before .before .before .before .master .ensures) ∙ length-master _ _, (omega (arith, c .before .before .before .before .if1 .left), hidden-size (circuitOf (x .s .now)) (x .inst .parties) (x .p) (x .part .now) (p .1 .1 .1 .1) (c .before .before .before .before .if1 .left)))))
 
 same-length : tie.Need-same-length
 same-length c = search needs
@@ -65,23 +65,23 @@ returns c =
     let p = c .before .before .before .before .before .before .before .before .before .before .before .before .before .before .before .before .before .before .before .before .pre in
     let x = c .before .before .before .before .before .before .before .before .before .before .before .before .before .before .before .before .before .before .before .before .args in
     let y = c .before .before .before .before .before .before .copy .last .1 .0 in
-    shut-made (circuitOf (x .s .now)) (x .n) (x .p) (x .part .now) (p .1 .1 .1 .1) (c .before .before .before .before .before .before .before .before .before .if1 .taken) y (ap length (c .before .before .before .before .before .before .copy .ensures ∙ c .before .before .before .before .before .before .before .before .before .before .before .master .ensures) ∙ length-master _ _) (x .j) (x .witness .now) (x .root .now) (c .before .before .copy2 .last .1 .0)
+    shut-made (circuitOf (x .s .now)) (x .inst .parties) (x .p) (x .part .now) (p .1 .1 .1 .1) (c .before .before .before .before .before .before .before .before .before .if1 .taken) y (ap length (c .before .before .before .before .before .before .copy .ensures ∙ c .before .before .before .before .before .before .before .before .before .before .before .master .ensures) ∙ length-master _ _) (x .inst .number) (x .witness .now) (x .root .now) (c .before .before .copy2 .last .1 .0)
     (c .before .before .before .before .before .before .copy .ensures ∙ c .before .before .before .before .before .before .before .before .before .before .before .master .ensures) (c .before .before .copy2 .ensures ∙ p .1 .1 .1 .0)
 
 same-length-2 : tie.Need-same-length-2
-same-length-2 c = c .before .before .before .before .before .before .send .kept .1 .1 .1 .1 .1 .1 .1 .1 .1 .1 .1 .0
+same-length-2 c = c .before .before .before .before .before .before .send .kept .1 .1 .1 .1 .1 .1 .0
 
 same-length-3 : tie.Need-same-length-3
-same-length-3 c = c .before .before .before .before .before .before .send .kept .1 .1 .1 .1 .1 .1 .1 .1 .1 .1 .1 .1 .0
+same-length-3 c = c .before .before .before .before .before .before .send .kept .1 .1 .1 .1 .1 .1 .1 .0
 
 same-length-4 : tie.Need-same-length-4
-same-length-4 c = c .before .before .before .before .before .before .send .kept .1 .1 .1 .1 .1 .1 .1 .1 .1 .1 .1 .1 .1 .0
+same-length-4 c = c .before .before .before .before .before .before .send .kept .1 .1 .1 .1 .1 .1 .1 .1 .0
 
 returns-2 : tie.Need-returns-2
 returns-2 c =
     let p = c .before .before .before .before .before .before .before .before .before .before .before .before .before .before .before .before .before .before .before .before .before .before .pre in
     let x = c .before .before .before .before .before .before .before .before .before .before .before .before .before .before .before .before .before .before .before .before .before .before .args in
-    hidden-made (circuitOf (x .s .now)) (x .n) (x .p) (x .part .now) (p .1 .1 .1 .1) (c .before .before .before .before .before .before .before .before .before .before .before .if1 .left) (x .j) (x .witness .now) (x .root .now) (c .before .before .before .before .before .before .before .before .before .before .before .before .before .master .last .1 .1 .0) _ (c .before .before .before .before .before .before .before .before .before .before .before .before .before .master .ensures) (c .before .before .before .before .before .before .send .ensures)
+    hidden-made (circuitOf (x .s .now)) (x .inst .parties) (x .p) (x .part .now) (p .1 .1 .1 .1) (c .before .before .before .before .before .before .before .before .before .before .before .if1 .left) (x .inst .number) (x .witness .now) (x .root .now) (c .before .before .before .before .before .before .before .before .before .before .before .before .before .master .last .1 .1 .0) _ (c .before .before .before .before .before .before .before .before .before .before .before .before .before .master .ensures) (c .before .before .before .before .before .before .send .ensures)
 
 pub stretch-spec : {M : Type 1} → statement M
 stretch-spec =

@@ -52,7 +52,7 @@ array-borrow-prefix-memory c = work-few _ _ _ _ _ (c .before .before .before .be
 slice-aggregate-prove-in-3 : tie.Need-slice-aggregate-prove-in-3
 slice-aggregate-prove-in-3 c =
     let x = c .before .before .before .before .before .before .before .before .before .before .args in
-    sym (front-length 299008 (64 * (x .inputs + x .gates) + 4096) (work-few _ _ _ _ _ (c .before .before .before .before .before .before .before .before .before .before .pre .0)))
+    sym (front-length 299008 (64 * (x .z .inputs + x .z .gates) + 4096) (work-few _ _ _ _ _ (c .before .before .before .before .before .before .before .before .before .before .pre .0)))
 
 prove-in-requires : tie.Need-prove-in-requires
 prove-in-requires c κs =
@@ -61,7 +61,7 @@ prove-in-requires c κs =
     (fronts-lent _ _ _ _ _ (p .0) _ _ (c .before .before .before .before .oct .result) (p .1 .0) (c .before .before .before .before .oct .ensures), (p .1 .1, front-length 1533 (3 * x .tau) (few-choices _ _ _ _ _ _ _ _ _ _ (p .1 .1) (p .1 .0))))
 
 same-length : tie.Need-same-length
-same-length c = c .before .before .before .before .before .prove-in .kept .1 .1 .1 .1 .1 .1 .1 .1 .1 .1 .1 .1 .0
+same-length c = c .before .before .before .before .before .prove-in .kept .1 .1 .1 .1 .1 .1 .1 .1 .1 .0
 
 returns : tie.Need-returns
 returns c = c .before .before .before .before .before .prove-in .ensures
