@@ -131,6 +131,22 @@ fn masked(memory: &[u8], wires: usize, w: usize) -> u8
     memory[16 * wires + 16 * w]
 }
 
+// The product of the masked values of wires a and b.
+fn product(memory: &[u8], wires: usize, a: usize, b: usize) -> u8
+    requires { ⌜ (a < wires) × ((b < wires) × ((wires ≤ 4608) × (64 * wires ≤ length (now memory)))) ⌝ }
+    ensures { λ r. ⌜ r ≡ bitAnd (at (now (memory .entry)) (valueAt wires a)) (at (now (memory .entry)) (valueAt wires b)) ⌝ }
+{
+    masked(memory, wires, a) & masked(memory, wires, b)
+}
+
+// What the broadcasts take of wire w: its masked value, with no party's share of the mask taken off.
+fn taken(memory: &[u8], wires: usize, w: usize) -> u8
+    requires { ⌜ (w < wires) × ((wires ≤ 4608) × (64 * wires ≤ length (now memory))) ⌝ }
+    ensures { λ r. ⌜ r ≡ at (now (memory .entry)) (valueAt wires w) ⌝ }
+{
+    masked(memory, wires, w) ^ mask(memory, 0, w)
+}
+
 // The broadcasts of 8 parties: x and y the masked values, s the product shares, the other shares from places a, b and m on.
 fn said8(memory: &[u8], x: u8, y: u8, s: u64, a: usize, b: usize, m: usize) -> u64
     requires { ⌜ (a + 8 ≤ length (now memory)) × ((b + 8 ≤ length (now memory)) × (m + 8 ≤ length (now memory))) ⌝ }
@@ -155,12 +171,13 @@ fn broadcast8(
     requires { ⌜ Fit wires 8 a b 0 t (now memory) × (last ≡ leAt 8 (now memory) (48 * wires + 16 * t)) ⌝ }
     ensures { λ r. ⌜ (now (memory .exit) ≡ broadcastStep wires 8 p a b t (now (memory .entry))) × (r ≡ maskedProduct wires 8 p a b t (now (memory .entry))) ⌝ }
 {
-    let x = masked(memory, wires, a);
-    let y = masked(memory, wires, b);
+    let xy = product(memory, wires, a, b);
+    let x = taken(memory, wires, a);
+    let y = taken(memory, wires, b);
     let m = 32 * wires + 16 * t;
     let new = unless_hidden8(0, p, last, said8(memory, x, y, last, 16 * a, 16 * b, m));
     bits::write_u64(memory, 48 * wires + 16 * t, new);
-    (x & y) ^ fold(new)
+    xy ^ fold(new)
 }
 
 // The broadcasts of AND gate t by 16 parties; last is the word of the last 8 product shares.
@@ -176,8 +193,9 @@ fn broadcast16(
     requires { ⌜ Fit wires 16 a b 0 t (now memory) × (last ≡ leAt 8 (now memory) (48 * wires + 16 * t + 8)) ⌝ }
     ensures { λ r. ⌜ (now (memory .exit) ≡ broadcastStep wires 16 p a b t (now (memory .entry))) × (r ≡ maskedProduct wires 16 p a b t (now (memory .entry))) ⌝ }
 {
-    let x = masked(memory, wires, a);
-    let y = masked(memory, wires, b);
+    let xy = product(memory, wires, a, b);
+    let x = taken(memory, wires, a);
+    let y = taken(memory, wires, b);
     let s = 48 * wires + 16 * t;
     let m = 32 * wires + 16 * t;
     let first = bits::read_u64(memory, s);
@@ -185,7 +203,7 @@ fn broadcast16(
     let new = said8(memory, x, y, last, 16 * a + 8, 16 * b + 8, m + 8);
     let hi = unless_hidden8(8, p, last, new);
     put(memory, s, lo, hi);
-    (x & y) ^ fold(lo ^ hi)
+    xy ^ fold(lo ^ hi)
 }
 
 // The broadcasts of AND gate t, but for the hidden party's; answers the masked product.
@@ -209,9 +227,9 @@ fn broadcast(
     if n == 8 {
         return broadcast8(memory, wires, p, a, b, t, last);
     }
-    let x = masked(memory, wires, a);
-    let y = masked(memory, wires, b);
-    let mut sum = x & y;
+    let mut sum = product(memory, wires, a, b);
+    let x = taken(memory, wires, a);
+    let y = taken(memory, wires, b);
     let mut i = 0;
     while i < n {
         let old = memory[48 * wires + 16 * t + i];

@@ -1,7 +1,7 @@
 -- `engine::gates::broadcast` meets its contract. The loop's invariant: the first i broadcasts are filled, and the sum has them.
 -- Assumes nothing.
 use native.Mathlib.Omega.{arith}
-use mathlib.Core.Path.{_≡_, refl, _∙_, ap₂}
+use mathlib.Core.Path.{_≡_, refl, _∙_}
 use Prim.Native.Nat.{_-_, _≤_}
 use lib.ListN.{length, length-set}
 use lib.Bits.{bitAnd}
@@ -13,14 +13,14 @@ use Rattle.engine.proofs.gates.broadcast.Statement.{statement}
 use Rattle.engine.proofs.gates.broadcast.Tie as tie
 
 abbrev Inv-loop : tie.InvT-loop
-Inv-loop memory₀ wires n p a b t last x y sum₀ i₀ memory sum i =
+Inv-loop memory₀ wires n p a b t last sum₀ x y i₀ memory sum i =
     (i ≤ n)
     × ((length memory ≡ length memory₀)
     × ((memory ≡ fill (saidAt wires t) (broadcastByte wires p a b t memory₀) i memory₀)
     × (sum ≡ xorBytes (broadcastByte wires p a b t memory₀) (bitAnd (at memory₀ (valueAt wires a)) (at memory₀ (valueAt wires b))) i)))
 
 abbrev μ-loop : tie.MeasureT-loop
-μ-loop memory₀ wires n p a b t last x y sum₀ i₀ memory sum i = n - i
+μ-loop memory₀ wires n p a b t last sum₀ x y i₀ memory sum i = n - i
 
 broadcast16-requires : tie.Need-broadcast16-requires Inv-loop μ-loop
 broadcast16-requires c κs =
@@ -50,22 +50,25 @@ returns-2 c =
     let e : c .before .before .before .before .before .before .before .args .n ≡ 8 = omega arith in
     rw e (c .before .before .broadcast8 .ensures)
 
-masked-requires : tie.Need-masked-requires Inv-loop μ-loop
-masked-requires c κs = omega arith
+product-requires : tie.Need-product-requires Inv-loop μ-loop
+product-requires c κs = omega arith
 
-masked-requires-2 : tie.Need-masked-requires-2 Inv-loop μ-loop
-masked-requires-2 c κs = omega arith
+taken-requires : tie.Need-taken-requires Inv-loop μ-loop
+taken-requires c κs = omega arith
+
+taken-requires-2 : tie.Need-taken-requires-2 Inv-loop μ-loop
+taken-requires-2 c κs = omega arith
 
 loop-holds : tie.Need-loop-holds Inv-loop μ-loop
 loop-holds c =
-    let x = c .before .before .before .before .before .before .before .args in
+    let x = c .before .before .before .before .before .before .before .before .before .args in
     let f = broadcastByte (x .wires) (x .p) (x .a) (x .b) (x .t) (x .memory .now) in (
       omega arith,
       (
         refl,
         (
           fill-none (saidAt (x .wires) (x .t)) f (x .memory .now),
-          ap₂ bitAnd (c .before .before .masked .ensures) (c .masked2 .ensures) ∙ xorBytes-none f _,
+          c .before .before .before .before .product .ensures ∙ xorBytes-none f _,
         ),
       ),
     )
@@ -146,7 +149,7 @@ loop-again : tie.Need-loop-again Inv-loop μ-loop
 loop-again c =
     let l = c .before .before .before .before .before .before .loop in
     let d = c .before .before .before .before .before .before .before in
-    let x = d .before .before .before .before .before .before .before .args in
+    let x = d .before .before .before .before .before .before .before .before .before .args in
     let m = x .memory .now in
     let f = broadcastByte (x .wires) (x .p) (x .a) (x .b) (x .t) m in
     let v = broadcast-turn m (l .memory) (x .wires) (x .n) (x .p) (x .a) (x .b) (x .t) (l .i) _ _ (c .unless-hidden .result)
@@ -156,8 +159,8 @@ loop-again c =
     (omega arith)
     (omega arith)
     (omega arith)
-    (d .before .before .masked .ensures)
-    (d .masked2 .ensures)
+    (d .before .before .taken .ensures)
+    (d .taken2 .ensures)
     (c .unless-hidden .ensures) in (
       omega arith,
       (
@@ -176,7 +179,7 @@ returns-3 : tie.Need-returns-3 Inv-loop μ-loop
 unfolding broadcastStep maskedProduct
 returns-3 c =
     let l = c .before .loop in
-    let e : l .i ≡ c .before .before .before .before .before .before .before .before .before .args .n = omega arith in
+    let e : l .i ≡ c .before .before .before .before .before .before .before .before .before .before .before .args .n = omega arith in
     rw (← e) (l .inv .1 .1)
 
 pub broadcast-spec : {M : Type 1} → statement M
@@ -191,8 +194,9 @@ broadcast-spec =
     broadcast8-requires
     same-length-2
     returns-2
-    masked-requires
-    masked-requires-2
+    product-requires
+    taken-requires
+    taken-requires-2
     loop-holds
     mul-old
     mul-old-2

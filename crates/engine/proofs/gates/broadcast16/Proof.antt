@@ -1,7 +1,7 @@
 -- `engine::gates::broadcast16` meets its contract: the two words have the broadcasts of 8 parties each.
 -- Assumes nothing.
 use native.Mathlib.Omega.{arith}
-use mathlib.Core.Path.{_∙_, ap₂}
+use mathlib.Core.Path.{_∙_, ap}
 use Prim.Native.Nat.{ℕ, _+_, _*_, _<_}
 use lib.ListN.{getD}
 use lib.Bits.{bitXor, bitAnd}
@@ -12,11 +12,14 @@ use borrow.Author.Needs.{needs}
 use Rattle.engine.proofs.gates.broadcast16.Statement.{statement}
 use Rattle.engine.proofs.gates.broadcast16.Tie as tie
 
-masked-requires : tie.Need-masked-requires
-masked-requires c κs = search needs
+product-requires : tie.Need-product-requires
+product-requires c κs = search needs
 
-masked-requires-2 : tie.Need-masked-requires-2
-masked-requires-2 c κs = search needs
+taken-requires : tie.Need-taken-requires
+taken-requires c κs = search needs
+
+taken-requires-2 : tie.Need-taken-requires-2
+taken-requires-2 c κs = search needs
 
 mul-s : tie.Need-mul-s
 mul-s c = search needs
@@ -90,15 +93,16 @@ returns c =
     let hidden1 = said2 .before .before in
     let said1 = hidden1 .before in
     let read = said1 .before .before in
-    let masked2 = read .before .before in
-    let masked1 = masked2 .before .before in
-    let known = masked1 .before .before in
+    let taken2 = read .before .before in
+    let taken1 = taken2 .before .before in
+    let product = taken1 .before .before in
+    let known = product .before .before in
     let x = known .before .args in
     let m = x .memory .now in
     let small : (i : ℕ) → getD m i 0 < 256 = λ i. known .slice-known .given i .fits in
     let f = broadcastByte (x .wires) (x .p) (x .a) (x .b) (x .t) m in
-    let u = masked1 .masked .result in
-    let v = masked2 .masked2 .result in
+    let u = taken1 .taken .result in
+    let v = taken2 .taken2 .result in
     let lo = hidden1 .unless-hidden8 .result in
     let hi = hidden2 .unless-hidden82 .result in
     let s = 48 * x .wires + 16 * x .t in
@@ -110,8 +114,8 @@ returns c =
     (omega arith)
     (omega arith)
     (known .before .pre .0)
-    (masked1 .masked .ensures)
-    (masked2 .masked2 .ensures)
+    (taken1 .taken .ensures)
+    (taken2 .taken2 .ensures)
     (read .read-u64 .ensures)
     (said1 .said8 .ensures)
     (hidden1 .unless-hidden8 .ensures) in
@@ -122,13 +126,13 @@ returns c =
     (omega arith)
     (omega arith)
     (known .before .pre .0)
-    (masked1 .masked .ensures)
-    (masked2 .masked2 .ensures)
+    (taken1 .taken .ensures)
+    (taken2 .taken2 .ensures)
     (known .before .pre .1)
     (said2 .said82 .ensures)
     (hidden2 .unless-hidden82 .ensures) in (
       put .put .ensures ∙ row-stored f lo hi s m low high,
-      ap₂ (λ (y z : ℕ). bitXor (bitAnd y z) (c .fold .result)) (masked1 .masked .ensures) (masked2 .masked2 .ensures)
+      ap (λ (k : ℕ). bitXor k (c .fold .result)) (product .product .ensures)
           ∙ row-summed f lo hi (bitAnd (at m (valueAt (x .wires) (x .a))) (at m (valueAt (x .wires) (x .b)))) (c .fold .result) low high (c .fold .ensures),
     )
 
@@ -136,8 +140,9 @@ pub broadcast16-spec : {M : Type 1} → statement M
 broadcast16-spec =
     tie.close
     (tie.spec
-    masked-requires
-    masked-requires-2
+    product-requires
+    taken-requires
+    taken-requires-2
     mul-s
     mul-s-2
     add-s

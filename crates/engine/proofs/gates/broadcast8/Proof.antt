@@ -1,7 +1,7 @@
 -- `engine::gates::broadcast8` meets its contract: the word has the broadcasts of 8 parties.
 -- Assumes nothing.
 use native.Mathlib.Omega.{arith}
-use mathlib.Core.Path.{_∙_, ap₂}
+use mathlib.Core.Path.{_∙_, ap}
 use Prim.Native.Nat.{ℕ, _+_, _*_, _<_}
 use lib.ListN.{getD}
 use lib.Bits.{bitXor, bitAnd}
@@ -12,11 +12,14 @@ use borrow.Author.Needs.{needs}
 use Rattle.engine.proofs.gates.broadcast8.Statement.{statement}
 use Rattle.engine.proofs.gates.broadcast8.Tie as tie
 
-masked-requires : tie.Need-masked-requires
-masked-requires c κs = search needs
+product-requires : tie.Need-product-requires
+product-requires c κs = search needs
 
-masked-requires-2 : tie.Need-masked-requires-2
-masked-requires-2 c κs = search needs
+taken-requires : tie.Need-taken-requires
+taken-requires c κs = search needs
+
+taken-requires-2 : tie.Need-taken-requires-2
+taken-requires-2 c κs = search needs
 
 mul-m : tie.Need-mul-m
 mul-m c = search needs
@@ -63,15 +66,16 @@ returns c =
     let write = c .before .before .before in
     let hidden = write .before .before in
     let said = hidden .before in
-    let masked2 = said .before .before in
-    let masked1 = masked2 .before .before in
-    let known = masked1 .before .before in
+    let taken2 = said .before .before in
+    let taken1 = taken2 .before .before in
+    let product = taken1 .before .before in
+    let known = product .before .before in
     let x = known .before .args in
     let m = x .memory .now in
     let small : (i : ℕ) → getD m i 0 < 256 = λ i. known .slice-known .given i .fits in
     let f = broadcastByte (x .wires) (x .p) (x .a) (x .b) (x .t) m in
-    let u = masked1 .masked .result in
-    let v = masked2 .masked2 .result in
+    let u = taken1 .taken .result in
+    let v = taken2 .taken2 .result in
     let new = hidden .unless-hidden8 .result in
     let s = 48 * x .wires + 16 * x .t in
     let k = 32 * x .wires + 16 * x .t in
@@ -82,13 +86,13 @@ returns c =
     (omega arith)
     (omega arith)
     (known .before .pre .0)
-    (masked1 .masked .ensures)
-    (masked2 .masked2 .ensures)
+    (taken1 .taken .ensures)
+    (taken2 .taken2 .ensures)
     (known .before .pre .1)
     (said .said8 .ensures)
     (hidden .unless-hidden8 .ensures) in (
       write .write-u64 .ensures ∙ word-stored f new s m holds,
-      ap₂ (λ (y z : ℕ). bitXor (bitAnd y z) (c .fold .result)) (masked1 .masked .ensures) (masked2 .masked2 .ensures)
+      ap (λ (k : ℕ). bitXor k (c .fold .result)) (product .product .ensures)
           ∙ word-summed f new (bitAnd (at m (valueAt (x .wires) (x .a))) (at m (valueAt (x .wires) (x .b)))) (c .fold .result) holds (c .fold .ensures),
     )
 
@@ -96,8 +100,9 @@ pub broadcast8-spec : {M : Type 1} → statement M
 broadcast8-spec =
     tie.close
     (tie.spec
-    masked-requires
-    masked-requires-2
+    product-requires
+    taken-requires
+    taken-requires-2
     mul-m
     mul-m-2
     add-m
