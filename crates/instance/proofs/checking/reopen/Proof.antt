@@ -75,10 +75,10 @@ slice-aggregate-commit-2 c =
     prefix-taken (32 * x .inst .parties) (32 * x .inst .parties) (c .before .before .before .before .before .before .before .before .before .before .before .before .before .before .before .before .before .before .before .master-seeds .last .1 .1 .0) (drop (32 * x .inst .parties) (replicate 512 0)) (kept-prefix (32 * x .inst .parties) 512 (c .before .before .before .before .before .before .before .before .before .before .before .before .before .before .before .before .before .before .before .master-seeds .last .1 .1 .0) (omega (arith, tree-parties _ _ (c .before .before .before .before .before .before .before .before .before .before .before .before .before .before .before .before .before .before .before .before .before .before .before .before .before .before .pre .0 .tree) .few)) (c .before .before .before .before .before .before .before .before .before .before .before .before .before .before .before .before .before .before .before .master-seeds .kept .1 .1 .0)) (omega arith)
 
 array-share-prefix-corrections : tie.Need-array-share-prefix-corrections
-array-share-prefix-corrections c = prefix-inside (c .before .before .before .before .before .before .before .before .before .before .before .before .before .before .before .before .before .before .before .before .before .oct .result) (c .before .before .before .before .before .before .before .before .before .before .before .before .before .before .before .before .before .before .before .before .before .oct .result) (c .before .before .before .before .before .prepare-in .last .1 .1 .1 .1 .0) (drop (c .before .before .before .before .before .before .before .before .before .before .before .before .before .before .before .before .before .before .before .before .before .oct .result) (replicate 512 0)) (kept-prefix (c .before .before .before .before .before .before .before .before .before .before .before .before .before .before .before .before .before .before .before .before .before .oct .result) 512 (c .before .before .before .before .before .prepare-in .last .1 .1 .1 .1 .0) (omega (arith, c .before .before .before .before .before .before .before .before .before .before .before .before .before .before .before .before .before .before .before .before .before .oct .ensures, ands-low _ _ _ _ _ (c .before .before .before .before .before .before .before .before .before .before .before .before .before .before .before .before .before .before .before .before .before .before .before .before .before .before .pre .0 .known), c .before .before .before .before .before .before .before .before .before .before .before .before .before .before .before .before .before .before .before .before .before .before .before .before .before .before .pre .0 .known .legal .laid .few-gates)) (c .before .before .before .before .before .prepare-in .kept .1 .1 .1 .1 .0)) (omega arith)
+array-share-prefix-corrections c = prefix-inside _ (c .before .before .before .before .before .before .before .before .before .before .before .before .before .before .before .before .before .before .before .before .before .oct .result) (c .before .before .before .before .before .prepare-in .last .1 .1 .1 .1 .0) (drop (c .before .before .before .before .before .before .before .before .before .before .before .before .before .before .before .before .before .before .before .before .before .oct .result) (replicate 512 0)) (kept-prefix (c .before .before .before .before .before .before .before .before .before .before .before .before .before .before .before .before .before .before .before .before .before .oct .result) 512 (c .before .before .before .before .before .prepare-in .last .1 .1 .1 .1 .0) (omega (arith, c .before .before .before .before .before .before .before .before .before .before .before .before .before .before .before .before .before .before .before .before .before .oct .ensures, ands-low _ _ _ _ _ (c .before .before .before .before .before .before .before .before .before .before .before .before .before .before .before .before .before .before .before .before .before .before .before .before .before .before .pre .0 .known), c .before .before .before .before .before .before .before .before .before .before .before .before .before .before .before .before .before .before .before .before .before .before .before .before .before .before .pre .0 .known .legal .laid .few-gates)) (c .before .before .before .before .before .prepare-in .kept .1 .1 .1 .1 .0)) (omega arith)
 
 slice-aggregate-commit-3 : tie.Need-slice-aggregate-commit-3
-slice-aggregate-commit-3 c = prefix-taken (c .before .before .before .before .before .before .before .before .before .before .before .before .before .before .before .before .before .before .before .before .before .before .oct .result) (c .before .before .before .before .before .before .before .before .before .before .before .before .before .before .before .before .before .before .before .before .before .before .oct .result) (c .before .before .before .before .before .before .prepare-in .last .1 .1 .1 .1 .0) (drop (c .before .before .before .before .before .before .before .before .before .before .before .before .before .before .before .before .before .before .before .before .before .before .oct .result) (replicate 512 0)) (kept-prefix (c .before .before .before .before .before .before .before .before .before .before .before .before .before .before .before .before .before .before .before .before .before .before .oct .result) 512 (c .before .before .before .before .before .before .prepare-in .last .1 .1 .1 .1 .0) (omega (arith, c .before .before .before .before .before .before .before .before .before .before .before .before .before .before .before .before .before .before .before .before .before .before .oct .ensures, ands-low _ _ _ _ _ (c .before .before .before .before .before .before .before .before .before .before .before .before .before .before .before .before .before .before .before .before .before .before .before .before .before .before .before .pre .0 .known), c .before .before .before .before .before .before .before .before .before .before .before .before .before .before .before .before .before .before .before .before .before .before .before .before .before .before .before .pre .0 .known .legal .laid .few-gates)) (c .before .before .before .before .before .before .prepare-in .kept .1 .1 .1 .1 .0)) (omega arith)
+slice-aggregate-commit-3 c = prefix-taken _ (c .before .before .before .before .before .before .before .before .before .before .before .before .before .before .before .before .before .before .before .before .before .before .oct .result) (c .before .before .before .before .before .before .prepare-in .last .1 .1 .1 .1 .0) (drop (c .before .before .before .before .before .before .before .before .before .before .before .before .before .before .before .before .before .before .before .before .before .before .oct .result) (replicate 512 0)) (kept-prefix (c .before .before .before .before .before .before .before .before .before .before .before .before .before .before .before .before .before .before .before .before .before .before .oct .result) 512 (c .before .before .before .before .before .before .prepare-in .last .1 .1 .1 .1 .0) (omega (arith, c .before .before .before .before .before .before .before .before .before .before .before .before .before .before .before .before .before .before .before .before .before .before .oct .ensures, ands-low _ _ _ _ _ (c .before .before .before .before .before .before .before .before .before .before .before .before .before .before .before .before .before .before .before .before .before .before .before .before .before .before .before .pre .0 .known), c .before .before .before .before .before .before .before .before .before .before .before .before .before .before .before .before .before .before .before .before .before .before .before .before .before .before .before .pre .0 .known .legal .laid .few-gates)) (c .before .before .before .before .before .before .prepare-in .kept .1 .1 .1 .1 .0)) (omega arith)
 
 commit-requires : tie.Need-commit-requires
 commit-requires c κs =
