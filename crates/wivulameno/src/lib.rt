@@ -1,6 +1,7 @@
 // The C interface, built as the static library libwivulameno.a; its header is include/wivulameno.h.
 // Each function returns 0 for success, or the number of a refusal. No logic of its own.
 ghost use mathlib.Core.Path.{_≡_};
+ghost use mathlib.Core.Bool.{cond};
 ghost use mathlib.Core.List.{[], _∷_};
 ghost use lib.ListN.{length};
 ghost use Rattle.circuit.specs.Operations.{readOp, evaluateOp};
@@ -210,6 +211,15 @@ pub extern "C" fn wv_stock(page: &mut [u8], root: &[u8]) -> u32
     }
 }
 
+// Puts a root that is given into the lent one; where none is given, the lent root stays as it was.
+fn put_given(given: bool, drawn: [u8; 16], root: &mut [u8; 16])
+    ensures { λ _. ⌜ now (root .exit) ≡ cond given drawn (now (root .entry)) ⌝ }
+{
+    if given {
+        *root = drawn;
+    }
+}
+
 // Draws a root from the shelf's page; count is that of the host's log. The lent root stays as it was on a refusal.
 #[no_mangle]
 pub extern "C" fn wv_draw(page: &mut [u8], count: u64, root: &mut [u8; 16]) -> u32
@@ -217,13 +227,16 @@ pub extern "C" fn wv_draw(page: &mut [u8], count: u64, root: &mut [u8; 16]) -> u
 {
     let d = shelf::draw(page, count);
     let a = d.answer;
+    let drawn = d.root;
     match a {
         shelf::Answer::Accepted => {
-            let drawn = d.root;
-            *root = drawn;
+            put_given(true, drawn, root);
             0
         }
-        shelf::Answer::Refused(k) => refusal::number(k),
+        shelf::Answer::Refused(k) => {
+            put_given(false, drawn, root);
+            refusal::number(k)
+        }
     }
 }
 
