@@ -51,6 +51,10 @@ unfoldable pub padded : ℕ → ℕ → Sponge → Sponge
 padded rate first s =
     record { lanes = permuted (xorByte (xorByte (s .lanes) (s .fill) first) (rate - 1) 0x80); fill = 0 }
 
+-- the byte at the fill, beside the sponge after it
+abbrev pub givenByte : Sponge → Squeezed
+givenByte s = record { sponge = record { lanes = s .lanes; fill = s .fill + 1 }; byte = byteAt (s .lanes) (s .fill) }
+
 -- one byte is given out, beside the sponge after it
 unfoldable pub squeezeByte : ℕ → Sponge → Squeezed
 squeezeByte rate s =

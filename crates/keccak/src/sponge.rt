@@ -3,7 +3,7 @@
 ghost use mathlib.Core.Path.{_≡_};
 ghost use Prim.Native.Nat.{_+_, _≤_, _<_, _%_, min};
 ghost use lib.ListN.{length};
-ghost use Rattle.keccak.specs.Steps.{empty, turned, absorbByte, absorbs, padded, squeezeByte, Given};
+ghost use Rattle.keccak.specs.Steps.{empty, turned, absorbByte, absorbs, padded, givenByte, squeezeByte, Given};
 use crate::state::byte_at;
 use crate::state::xor_byte;
 use crate::state::xor_lanes;
@@ -133,16 +133,33 @@ impl Sponge {
         self
     }
 
+    // The byte at the fill, and the sponge after it.
+    fn give(self) -> Squeezed
+        requires { ⌜ self .fill < 200 ⌝ }
+        ensures { λ r. ⌜ r ≡ givenByte self ⌝ }
+    {
+        let l = self.lanes;
+        let at = self.fill;
+        let b = byte_at(&l, at);
+        Squeezed {
+            sponge: Sponge {
+                lanes: l,
+                fill: at + 1,
+            },
+            byte: b,
+        }
+    }
+
     // Gives out one byte.
     pub fn squeeze_byte(self, rate: usize) -> Squeezed
         requires { ⌜ (0 < rate) × ((rate < 200) × (self .fill ≤ rate)) ⌝ }
         ensures { λ r. ⌜ r ≡ squeezeByte rate self ⌝ }
     {
-        let mut s = self.turn(rate);
-        let at = s.fill;
-        let b = byte_at(&s.lanes, at);
-        s.fill = at + 1;
-        Squeezed { sponge: s, byte: b }
+        let at = self.fill;
+        if at == rate {
+            return self.turn(rate).give();
+        }
+        self.give()
     }
 
     // Gives out bytes one by one.

@@ -3,17 +3,27 @@
 use native.Mathlib.Omega.{arith}
 use native.Mathlib.Nat.{mod-lt}
 use native.Mathlib.Numerals.{add-one}
-use mathlib.Core.Path.{_≡_, refl, sym, ap, _∙_}
+use mathlib.Core.Path.{_≡_, refl, sym, ap, ap₂, _∙_}
 use mathlib.Core.Bool.{Bool, true, false}
 use mathlib.Core.List.{List, [], _∷_, _++_, append-assoc, append-nil}
 use Prim.Native.Nat.{ℕ, zero, suc, _+_, _-_, _*_, _%_, _≤_, _<_}
 use lib.ListN.{length, getD, set, take, drop, replicate, length-replicate, length-append, length-drop, drop-of-length-le}
 use lib.Seq.{sets, sets-eq, length-sets, length-take-le, take-at, take-suc, drop-cons, take-all, set-split, append-snoc}
 use Rattle.bits.specs.Bytes.{leAt, leBytes}
-use Rattle.bits.proofs.Little.{sets-append, length-leBytes}
+use Rattle.bits.proofs.Little.{sets-append, length-leBytes, leBytes-lt}
+use Rattle.keccak.specs.declared.sponge.Sponge.{Sponge}
+use Rattle.keccak.specs.declared.sponge.Squeezed.{Squeezed}
 use Rattle.keccak.specs.Sponge.{shake256}
-use Rattle.seeds.specs.Inputs.{challengeInput}
+use Rattle.keccak.specs.Steps.{padded, squeezeByte, squeezes, squeezed}
+use Rattle.keccak.proofs.Absorbing.{Bytes}
+use Rattle.keccak.proofs.Steps.{squeezes-length, squeezed-room}
+use Rattle.keccak.proofs.Squeezing.{shake256-steps}
+use Rattle.seeds.specs.Inputs.{boundOf, challengeInput}
 use Rattle.seeds.specs.Challenge.{choose, drawn, chosenFrom, partiesOf, beside, instances, hiddenParties, streamOf, challengeOf}
+use Rattle.seeds.specs.declared.choice.Number.{Number}
+use Rattle.seeds.specs.Steps.{ready, numberFrom}
+use Rattle.seeds.proofs.Hashes.{bytes-append, bytes-one}
+use Rattle.seeds.proofs.Streams.{byte-at, number-at, after-byte, after-number, rest-at}
 
 -- one more flag is passed, which leaves what is to be done at b
 passed : (f : List Bool) (i left left′ x : ℕ) (b : Bool) → i < length f → getD f i false ≡ b
@@ -174,6 +184,48 @@ module _ (f : List Bool) (n : ℕ) (bytes : List ℕ) where
       let e : c ≡ length bytes = sym (omega (arith, rw d at (w .left))) in
       sym (append-nil (take (3 * c) out) ∙ take-all (3 * c) out (omega (arith, w .kept))) ∙ rw d at (w .so-far)
 
+-- the same, each party by the next byte of a sponge
+module _ (f : List Bool) (n : ℕ) (s₀ : Sponge) where
+  abbrev bytes : List ℕ
+  bytes = squeezes 136 (length (chosenFrom 0 f)) s₀
+
+  pub record Chosen (out : List ℕ) (s : Sponge) (c i : ℕ) : Type 0 where
+    pub written : Written f n bytes out c i
+    pub after : s ≡ squeezed 136 c s₀
+
+  pub chosen-none : (out : List ℕ) → length out ≡ 3 * length (chosenFrom 0 f) → Chosen out s₀ 0 0
+  unfolding squeezed
+  chosen-none out k =
+      let l : length bytes ≡ length (chosenFrom 0 f) = squeezes-length 136 (length (chosenFrom 0 f)) s₀ in
+      record { written = written-none f n bytes out (k ∙ ap (λ (y : ℕ). 3 * y) (sym l)) (sym l); after = refl }
+
+  pub chosen-room : (out : List ℕ) (s : Sponge) (c i : ℕ) → s₀ .fill ≤ 136 → Chosen out s c i → s .fill ≤ 136
+  chosen-room out s c i h w = rw (w .after) (squeezed-room 136 (omega arith) c s₀ h)
+
+  pub chosen-kept : (out : List ℕ) (s : Sponge) (c i : ℕ) → Chosen out s c i → length out ≡ 3 * length (chosenFrom 0 f)
+  chosen-kept out s c i w = w .written .kept ∙ ap (λ (y : ℕ). 3 * y) (squeezes-length 136 (length (chosenFrom 0 f)) s₀)
+
+  pub chosen-left : (out : List ℕ) (s : Sponge) (c i : ℕ) → Chosen out s c i → i < length f → getD f i false ≡ true → 3 * c + 3 ≤ 3 * length (chosenFrom 0 f)
+  chosen-left out s c i w h e = let l = some-left f n bytes out c i (w .written) h e in omega (arith, squeezes-length 136 (length (chosenFrom 0 f)) s₀)
+
+  pub chosen-pass : (out : List ℕ) (s : Sponge) (c i : ℕ) → Chosen out s c i → i < length f → getD f i false ≡ false → Chosen out s c (i + 1)
+  chosen-pass out s c i w h e = record { written = written-pass f n bytes out c i (w .written) h e; after = w .after }
+
+  pub chosen-more : (out out′ : List ℕ) (s : Sponge) (q : Squeezed) (c i : ℕ) → Chosen out s c i → i < length f → getD f i false ≡ true
+      → q ≡ squeezeByte 136 s → out′ ≡ sets out (3 * c) (leBytes 2 i ++ (q .byte % n ∷ [])) → Chosen out′ (q .sponge) (c + 1) (i + 1)
+  chosen-more out out′ s q c i w h e g o =
+      let l = some-left f n bytes out c i (w .written) h e in
+      let k : c < length (chosenFrom 0 f) = omega (arith, squeezes-length 136 (length (chosenFrom 0 f)) s₀) in
+      let b : q .byte ≡ getD bytes c 0 =
+      ap (λ (z : Squeezed). z .byte) g ∙ (ap (λ (z : Sponge). squeezeByte 136 z .byte) (w .after) ∙ sym (byte-at (length (chosenFrom 0 f)) c s₀ k)) in
+      record {
+        written = written-more f n bytes out out′ c i (w .written) h e (o ∙ ap (λ (y : ℕ). sets out (3 * c) (leBytes 2 i ++ (y % n ∷ []))) b);
+        after = ap (λ (z : Squeezed). z .sponge) g ∙ after-byte c s₀ s (w .after);
+      }
+
+  pub chosen-all : (out : List ℕ) (s : Sponge) (c i : ℕ) → Chosen out s c i → length f ≤ i → out ≡ beside (chosenFrom 0 f) (partiesOf n bytes)
+  chosen-all out s c i w h = written-all f n bytes out c i (w .written) h
+
 -- the first m of n copies
 pub take-same : {A : Type 0} (m n : ℕ) (x : A) → m ≤ n → take m (replicate n x) ≡ replicate m x
 take-same zero n x h = refl
@@ -187,18 +239,56 @@ length-same m n x h = ap length (take-same m n x h) ∙ length-replicate m x
 pub all-free : (m n : ℕ) → m ≤ n → take m (replicate n false) ≡ replicate (length (take m (replicate n false))) false
 all-free m n h = take-same m n false h ∙ ap (λ (k : ℕ). replicate k false) (sym (length-same m n false h))
 
--- the bytes after the draws
-pub tail-is : (k : ℕ) (s : List ℕ) → take (length s - k) (drop k s) ≡ drop k s
-tail-is k s = take-all (length s - k) (drop k s) (rw length-drop (omega arith))
+-- t draws from the stream of a sponge
+module _ (M tau : ℕ) (s₀ : Sponge) where
+  -- the stream
+  abbrev S : List ℕ
+  S = squeezes 136 (9 * tau) s₀
 
--- the challenge, from the flags and the bytes after the draws
-pub chosen-is : (M tau n : ℕ) (s : List ℕ) (f : List Bool) (o : List ℕ) → f ≡ drawn M s tau
-    → o ≡ beside (chosenFrom 0 f) (partiesOf n (take (length s - 8 * tau) (drop (8 * tau) s)))
-    → o ≡ beside (instances M tau s) (hiddenParties tau n s)
-unfolding instances hiddenParties
-chosen-is M tau n s f o e q = q ∙ rw (tail-is (8 * tau) s, e)
+  -- one draw more, by the next 8 bytes
+  pub draw-more : (t : ℕ) (s : Sponge) (q : Number) (f f′ : List Bool) → t < tau → s ≡ squeezed 136 (8 * t) s₀ → f ≡ drawn M S t
+      → q ≡ numberFrom s → f′ ≡ choose (q .value % (M - t)) f → f′ ≡ drawn M S (t + 1)
+  unfolding numberFrom
+  draw-more t s q f f′ w a e n g =
+      let v : q .value ≡ leAt 8 S (8 * t) =
+      ap (λ (z : Number). z .value) n ∙ (ap (λ (z : Sponge). leAt 8 (squeezes 136 8 z) 0) a ∙ sym (number-at (9 * tau) (8 * t) s₀ (omega arith))) in
+      g ∙ (ap₂ (λ (x : ℕ) (z : List Bool). choose (x % (M - t)) z) v e ∙ drawn-more M S t)
 
-pub challenge-is : (M tau n m : ℕ) (h g s o : List ℕ) → s ≡ shake256 (challengeInput h g) m → m ≡ 9 * tau
-    → o ≡ beside (instances M tau s) (hiddenParties tau n s) → o ≡ challengeOf M tau n h g
-unfolding challengeOf streamOf
-challenge-is M tau n m h g s o e k q = q ∙ rw (e, k)
+  -- the sponge after it
+  pub draw-after : (t : ℕ) (s : Sponge) (q : Number) → s ≡ squeezed 136 (8 * t) s₀ → q ≡ numberFrom s → q .sponge ≡ squeezed 136 (8 * (t + 1)) s₀
+  unfolding numberFrom
+  draw-after t s q a n = ap (λ (z : Number). z .sponge) n ∙ after-number t s₀ s a
+
+  -- the instances are chosen by the first 8 tau bytes, their parties by the bytes after these
+  pub chosen-is : (n : ℕ) (s : Sponge) (f : List Bool) (o : List ℕ) → tau ≤ M → f ≡ drawn M S tau → s ≡ squeezed 136 (8 * tau) s₀
+      → o ≡ beside (chosenFrom 0 f) (partiesOf n (squeezes 136 (length (chosenFrom 0 f)) s))
+      → o ≡ beside (instances M tau S) (hiddenParties tau n S)
+  unfolding instances hiddenParties
+  chosen-is n s f o w e a q =
+      let nine : 9 * tau ≡ 8 * tau + tau = omega arith in
+      let len : length (chosenFrom 0 f) ≡ tau = ap (λ (z : List Bool). length (chosenFrom 0 z)) e ∙ length-instances M S tau w in
+      let rest : drop (8 * tau) S ≡ squeezes 136 tau (squeezed 136 (8 * tau) s₀) =
+      ap (λ (k : ℕ). drop (8 * tau) (squeezes 136 k s₀)) nine ∙ rest-at (8 * tau) tau s₀ in
+      let bytes : squeezes 136 (length (chosenFrom 0 f)) s ≡ drop (8 * tau) S = ap₂ (squeezes 136) len a ∙ sym rest in
+      q ∙ ap₂ (λ (z : List Bool) (y : List ℕ). beside (chosenFrom 0 z) (partiesOf n y)) e bytes
+
+-- the challenge's input is bytes
+bytes-challenge : (h m : List ℕ) → Bytes h → Bytes m → Bytes (challengeInput h m)
+unfolding challengeInput boundOf
+bytes-challenge h m p q =
+    bytes-append ((6 ∷ []) ++ h) (leBytes 2 (length m) ++ m) (bytes-append (6 ∷ []) h (bytes-one 6 (omega arith)) p)
+    (bytes-append (leBytes 2 (length m)) m (leBytes-lt 2 (length m)) q)
+
+-- the challenge, from the sponge that has taken in its input
+pub challenge-is : (M tau n : ℕ) (h g : List ℕ) (s : Sponge) (o : List ℕ) → Bytes h → Bytes g → s ≡ ready (challengeInput h g)
+    → o ≡ beside (instances M tau (squeezes 136 (9 * tau) s)) (hiddenParties tau n (squeezes 136 (9 * tau) s)) → o ≡ challengeOf M tau n h g
+unfolding challengeOf streamOf ready
+challenge-is M tau n h g s o p q e k =
+    let t : squeezes 136 (9 * tau) s ≡ shake256 (challengeInput h g) (9 * tau) =
+    ap (squeezes 136 (9 * tau)) e ∙ shake256-steps (challengeInput h g) (9 * tau) (bytes-challenge h g p q) in
+    k ∙ ap (λ (z : List ℕ). beside (instances M tau z) (hiddenParties tau n z)) t
+
+-- before the first byte of the challenge's stream
+pub ready-room : (M : List ℕ) (s : Sponge) → s ≡ ready M → s .fill ≤ 136
+unfolding ready padded
+ready-room M s e = rw e (omega arith)

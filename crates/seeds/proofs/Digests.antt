@@ -11,7 +11,7 @@ use Rattle.bits.specs.Bytes.{leBytes, rowOf}
 use Rattle.bits.proofs.Little.{leBytes-lt}
 use Rattle.bits.proofs.Rows.{row-lt}
 use Rattle.keccak.specs.declared.sponge.Sponge.{Sponge}
-use Rattle.keccak.specs.Steps.{empty, absorbs}
+use Rattle.keccak.specs.Steps.{empty, absorbByte, absorbs}
 use Rattle.keccak.specs.Sponge.{sha3-256}
 use Rattle.keccak.proofs.Absorbing.{Bytes}
 use Rattle.keccak.proofs.Steps.{absorbs-append, absorbs-room}
@@ -19,7 +19,7 @@ use Rattle.keccak.proofs.Squeezing.{sha3-256-steps}
 use Rattle.seeds.specs.Inputs.{commitmentInput, ownCorrections, commitmentsInput, onlineInput, allCommitmentsInput, allOnlineInput, transcriptInput}
 use Rattle.seeds.specs.Derive.{commitmentOf}
 use Rattle.seeds.specs.Digest.{taken, given, transcriptOf}
-use Rattle.seeds.proofs.Hashes.{bytes-append, bytes-one, empty-room}
+use Rattle.seeds.proofs.Hashes.{bytes-append, bytes-one, empty-room, took-tag}
 
 -- there is room for the next byte
 pub taken-room : (M : List ℕ) → taken M .fill < 136
@@ -31,10 +31,14 @@ pub taken-append : (M N : List ℕ) → absorbs 136 (taken M) N ≡ taken (M ++ 
 unfolding taken
 taken-append M N = sym (absorbs-append 136 M N empty)
 
--- the first part
-pub taken-first : (M : List ℕ) (s r : Sponge) → s ≡ empty → r ≡ absorbs 136 s M → r ≡ taken M
+-- the tag is the first byte
+pub taken-tag : (t : ℕ) (s r : Sponge) → s ≡ empty → r ≡ absorbByte 136 s t → r ≡ taken (t ∷ [])
 unfolding taken
-taken-first M s r e q = q ∙ ap (λ (t : Sponge). absorbs 136 t M) e
+taken-tag t s r e q = took-tag 136 t s r e q .all
+
+-- what has taken in M has room for the next byte
+pub room-of : (M : List ℕ) (s : Sponge) → s ≡ taken M → s .fill < 136
+room-of M s e = rw e (taken-room M)
 
 -- one part more
 pub taken-more : (M N : List ℕ) (s r : Sponge) → s ≡ taken M → r ≡ absorbs 136 s N → r ≡ taken (M ++ N)

@@ -1,10 +1,13 @@
 -- The hash of an input in parts.
 -- Assumes nothing.
 use native.Mathlib.Omega.{arith}
+use mathlib.Core.Path.{_≡_, sym, ap, _∙_}
 use mathlib.Core.List.{List, [], _∷_, _++_}
 use Prim.Native.Nat.{ℕ, zero, suc, _<_}
-use Rattle.keccak.specs.Steps.{empty}
+use Rattle.keccak.specs.declared.sponge.Sponge.{Sponge}
+use Rattle.keccak.specs.Steps.{empty, absorbByte, absorbs}
 use Rattle.keccak.proofs.Absorbing.{Bytes}
+use Rattle.keccak.proofs.Steps.{absorbs-append, absorbs-room}
 
 -- two strings of bytes make one
 pub bytes-append : (a b : List ℕ) → Bytes a → Bytes b → Bytes (a ++ b)
@@ -21,3 +24,21 @@ empty-room r h = h
 pub bytes-one : (x : ℕ) → x < 256 → Bytes (x ∷ [])
 bytes-one x h zero = h
 bytes-one x h (suc i) = omega arith
+
+-- the sponge has taken in M
+pub record Took (rate : ℕ) (M : List ℕ) (s : Sponge) : Type 0 where
+  pub all : s ≡ absorbs rate empty M
+
+module _ (rate : ℕ) where
+  -- the tag is the first byte
+  pub took-tag : (t : ℕ) (s r : Sponge) → s ≡ empty → r ≡ absorbByte rate s t → Took rate (t ∷ []) r
+  unfolding absorbs
+  took-tag t s r e q = record { all = q ∙ ap (λ (z : Sponge). absorbByte rate z t) e }
+
+  -- one part more
+  pub took-more : {M : List ℕ} {s : Sponge} (N : List ℕ) (r : Sponge) → Took rate M s → r ≡ absorbs rate s N → Took rate (M ++ N) r
+  took-more {M} N r k q = record { all = q ∙ (ap (λ (z : Sponge). absorbs rate z N) (k .all) ∙ sym (absorbs-append rate M N empty)) }
+
+  -- there is room for the next byte
+  pub took-room : {M : List ℕ} {s : Sponge} → 0 < rate → Took rate M s → s .fill < rate
+  took-room {M} some k = rw (k .all) (absorbs-room rate some M empty (empty-room rate some))

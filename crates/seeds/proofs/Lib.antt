@@ -3,6 +3,7 @@ pub mod Hashes
 pub mod Nodes
 pub mod Lengths
 pub mod Opening
+pub mod Streams
 pub mod Choosing
 pub mod Instances
 pub mod Digests

@@ -53,6 +53,10 @@ allOnlineInput digests = (10 ∷ []) ++ digests
 unfoldable pub transcriptInput : List ℕ → List ℕ → List ℕ
 transcriptInput h h′ = (11 ∷ []) ++ h ++ h′
 
+-- "message length u16, message": what the challenge is bound to beside h*
+unfoldable pub boundOf : List ℕ → List ℕ
+boundOf message = leBytes 2 (length message) ++ message
+
 -- 6: the challenge, from h* and the message
 unfoldable pub challengeInput : List ℕ → List ℕ → List ℕ
-challengeInput hstar message = (6 ∷ []) ++ hstar ++ leBytes 2 (length message) ++ message
+challengeInput hstar message = 6 ∷ hstar ++ boundOf message

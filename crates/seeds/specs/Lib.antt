@@ -3,4 +3,5 @@ pub mod Tree
 pub mod Derive
 pub mod Challenge
 pub mod Digest
+pub mod Steps
 pub mod Operations

@@ -12,32 +12,34 @@ use keccak::sponge::Sponge;
 pub fn start_commitments(j: u32) -> Sponge
     ensures { λ r. ⌜ r ≡ taken (commitmentsInput j []) ⌝ }
 {
-    let head = [7u8, (j % 256) as u8, (j / 256 % 256) as u8];
-    Sponge::new().absorb(SHA3_256_RATE, &head)
+    let head = [(j % 256) as u8, (j / 256 % 256) as u8];
+    Sponge::new()
+        .absorb_byte(SHA3_256_RATE, 7)
+        .absorb(SHA3_256_RATE, &head)
 }
 
 // Starts h'_j, which takes in the masked inputs and all broadcast rows of instance j.
 pub fn start_online(j: u32) -> Sponge
     ensures { λ r. ⌜ r ≡ taken (onlineInput j [] []) ⌝ }
 {
-    let head = [8u8, (j % 256) as u8, (j / 256 % 256) as u8];
-    Sponge::new().absorb(SHA3_256_RATE, &head)
+    let head = [(j % 256) as u8, (j / 256 % 256) as u8];
+    Sponge::new()
+        .absorb_byte(SHA3_256_RATE, 8)
+        .absorb(SHA3_256_RATE, &head)
 }
 
 // Starts h, which takes in all h_j.
 pub fn start_all_commitments() -> Sponge
     ensures { λ r. ⌜ r ≡ taken (allCommitmentsInput []) ⌝ }
 {
-    let head = [9u8];
-    Sponge::new().absorb(SHA3_256_RATE, &head)
+    Sponge::new().absorb_byte(SHA3_256_RATE, 9)
 }
 
 // Starts h', which takes in all h'_j.
 pub fn start_all_online() -> Sponge
     ensures { λ r. ⌜ r ≡ taken (allOnlineInput []) ⌝ }
 {
-    let head = [10u8];
-    Sponge::new().absorb(SHA3_256_RATE, &head)
+    Sponge::new().absorb_byte(SHA3_256_RATE, 10)
 }
 
 // The digest of what the sponge has taken in.
@@ -55,9 +57,8 @@ pub fn finish(s: Sponge) -> [u8; 32]
 pub fn transcript(h: &[u8], online: &[u8]) -> [u8; 32]
     ensures { λ r. ⌜ r ≡ transcriptOf (now (h .entry)) (now (online .entry)) ⌝ }
 {
-    let head = [11u8];
     let s = Sponge::new()
-        .absorb(SHA3_256_RATE, &head)
+        .absorb_byte(SHA3_256_RATE, 11)
         .absorb(SHA3_256_RATE, h)
         .absorb(SHA3_256_RATE, online);
     finish(s)

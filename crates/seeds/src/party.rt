@@ -14,8 +14,8 @@ pub fn master(j: u32, root: &[u8], out: &mut [u8])
     requires { ⌜ length (now out) ≡ 16 ⌝ }
     ensures { λ _. ⌜ now (out .exit) ≡ masterOf j (now (root .entry)) ⌝ }
 {
-    let head = [5, (j % 256) as u8, (j / 256 % 256) as u8];
-    shake128(&head, root, out);
+    let head = [(j % 256) as u8, (j / 256 % 256) as u8];
+    shake128(5, &head, root, out);
 }
 
 // The seed of party i and its r, from its leaf.
@@ -23,8 +23,8 @@ pub fn seed_row(j: u32, i: u32, leaf: &[u8], out: &mut [u8])
     requires { ⌜ length (now out) ≡ 32 ⌝ }
     ensures { λ _. ⌜ now (out .exit) ≡ seedRow j i (now (leaf .entry)) ⌝ }
 {
-    let head = [3, (j % 256) as u8, (j / 256 % 256) as u8, (i % 256) as u8];
-    shake128(&head, leaf, out);
+    let head = [(j % 256) as u8, (j / 256 % 256) as u8, (i % 256) as u8];
+    shake128(3, &head, leaf, out);
 }
 
 // Clears every bit from bit k on.
@@ -43,8 +43,8 @@ fn clear_from(s: &mut [u8], k: usize)
 pub fn tape(j: u32, i: u32, seed: &[u8], k: usize, row: &mut [u8])
     ensures { λ _. ⌜ now (row .exit) ≡ tapeRow j i (now (seed .entry)) k (length (now (row .entry))) ⌝ }
 {
-    let head = [4, (j % 256) as u8, (j / 256 % 256) as u8, (i % 256) as u8];
-    shake128(&head, seed, row);
+    let head = [(j % 256) as u8, (j / 256 % 256) as u8, (i % 256) as u8];
+    shake128(4, &head, seed, row);
     clear_from(row, k);
 }
 
@@ -53,10 +53,11 @@ pub fn commitment(j: u32, n: u32, i: u32, rows: &[u8], corrections: &[u8]) -> [u
     requires { ⌜ (i < 256) × (i * 32 + 32 ≤ length (now rows)) ⌝ }
     ensures { λ r. ⌜ r ≡ commitmentOf j n i (now (rows .entry)) (now (corrections .entry)) ⌝ }
 {
-    let head = [1u8, (j % 256) as u8, (j / 256 % 256) as u8, (i % 256) as u8];
+    let head = [(j % 256) as u8, (j / 256 % 256) as u8, (i % 256) as u8];
     let row = bits::row(rows, 32, i as usize);
     let own = if i + 1 == n { corrections.len() } else { 0 };
     let s = Sponge::new()
+        .absorb_byte(SHA3_256_RATE, 1)
         .absorb(SHA3_256_RATE, &head)
         .absorb(SHA3_256_RATE, &row[..16])
         .absorb(SHA3_256_RATE, &corrections[..own]);

@@ -13,13 +13,12 @@ pub fn children(j: u32, k: u32, value: &[u8], out: &mut [u8])
     ensures { λ _. ⌜ now (out .exit) ≡ «children-of» j k (now (value .entry)) ⌝ }
 {
     let head = [
-        2,
         (j % 256) as u8,
         (j / 256 % 256) as u8,
         (k % 256) as u8,
         (k / 256 % 256) as u8,
     ];
-    shake128(&head, value, out);
+    shake128(2, &head, value, out);
 }
 
 // The leaves h levels below node k.

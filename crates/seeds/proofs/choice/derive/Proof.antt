@@ -1,40 +1,52 @@
--- `seeds::choice::derive` meets its contract: as much of the lent stream as is needed.
+-- `seeds::choice::derive` meets its contract: the sponge of the stream, then what follows from it.
 -- Assumes nothing.
-use Rattle.seeds.proofs.Choosing.{length-same}
+use mathlib.Core.Bool.{false}
+use Rattle.keccak.specs.Steps.{squeezes}
+use Rattle.seeds.specs.Challenge.{beside, instances, hiddenParties}
+use Rattle.seeds.proofs.Choosing.{length-same, all-free, challenge-is, ready-room}
 use native.Mathlib.Omega.{arith}
-use mathlib.Core.Path.{sym}
-use Prim.Native.Nat.{_*_}
+use mathlib.Core.Path.{sym, ap, _∙_}
+use Prim.Native.Nat.{ℕ, _*_}
 use borrow.Author.Needs.{needs}
 use Rattle.seeds.proofs.choice.derive.Statement.{statement}
 use Rattle.seeds.proofs.choice.derive.Tie as tie
 
-mul-len : tie.Need-mul-len
-mul-len c = search needs
+stream-requires : tie.Need-stream-requires
+stream-requires c κs = search needs
 
-array-borrow-prefix-stream : tie.Need-array-borrow-prefix-stream
-array-borrow-prefix-stream c = search needs
+array-borrow-prefix-flags : tie.Need-array-borrow-prefix-flags
+array-borrow-prefix-flags c = search needs
 
-slice-aggregate-derive-with : tie.Need-slice-aggregate-derive-with
-slice-aggregate-derive-with c = sym (length-same (9 * c .before .before .before .before .args .tau) 4599 0 (omega (arith, c .before .before .before .before .pre .0, c .before .before .before .before .pre .1 .0)))
+slice-aggregate-choose-with : tie.Need-slice-aggregate-choose-with
+slice-aggregate-choose-with c = sym (length-same (c .before .before .before .before .before .args .m) 512 false (c .before .before .before .before .before .pre .0))
 
-derive-with-requires : tie.Need-derive-with-requires
-derive-with-requires c κs =
-    let p = c .before .before .before .before .before .pre in
-    (p .0, (p .1 .0, (p .1 .1 .0, (length-same (9 * c .before .before .before .before .before .args .tau) 4599 0 (omega (arith, p .0, p .1 .0)), p .1 .1 .1))))
+choose-with-requires : tie.Need-choose-with-requires
+choose-with-requires c κs =
+    let x = c .before .before .before .before .before .before .args in
+    let p = c .before .before .before .before .before .before .pre in
+    let n = length-same (x .m) 512 false (p .0) in
+    (ready-room _ _ (c .before .before .stream .ensures), (omega (arith, n, p .0), (omega (arith, n, p .1 .0), (p .1 .1 .0, (p .1 .1 .1, all-free (x .m) 512 (p .0))))))
 
 same-length : tie.Need-same-length
 same-length c = search needs
 
 returns : tie.Need-returns
-returns c = search needs
+returns c =
+    let x = c .before .before .before .before .before .before .before .before .before .before .args in
+    let n = length-same (x .m) 512 false (c .before .before .before .before .before .before .before .before .before .before .pre .0) in
+    let s = c .before .before .before .before .before .before .stream .result in
+    challenge-is (x .m) (x .tau) (x .n) (x .hstar .now) (x .message .now) s (c .before .before .before .choose-with .last .1 .1 .1 .1 .0)
+    (λ i. c .before .before .before .before .before .before .before .before .before .shared-slice-known .given i .fits) (λ i. c .before .before .before .before .before .before .before .before .shared-slice-known2 .given i .fits)
+    (c .before .before .before .before .before .before .stream .ensures)
+    (c .before .before .before .choose-with .ensures ∙ ap (λ (M : ℕ). beside (instances M (x .tau) (squeezes 136 (9 * x .tau) s)) (hiddenParties (x .tau) (x .n) (squeezes 136 (9 * x .tau) s))) n)
 
 pub derive-spec : {M : Type 1} → statement M
 derive-spec =
     tie.close
     (tie.spec
-    mul-len
-    array-borrow-prefix-stream
-    slice-aggregate-derive-with
-    derive-with-requires
+    stream-requires
+    array-borrow-prefix-flags
+    slice-aggregate-choose-with
+    choose-with-requires
     same-length
     returns)

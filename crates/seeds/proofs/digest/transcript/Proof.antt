@@ -1,9 +1,8 @@
 -- `seeds::digest::transcript` meets its contract: tag, h and h' taken in one after the other are their concatenation.
 -- Assumes nothing.
-use mathlib.Core.List.{[], _∷_}
-use Rattle.keccak.proofs.Steps.{absorbs-room}
+use mathlib.Core.List.{[], _∷_, _++_}
 use Rattle.seeds.proofs.Hashes.{empty-room}
-use Rattle.seeds.proofs.Digests.{taken-first, transcript-is}
+use Rattle.seeds.proofs.Digests.{taken-tag, taken-more, room-of, transcript-is}
 use native.Mathlib.Omega.{arith}
 use mathlib.Core.Path.{refl}
 use borrow.Author.Needs.{needs}
@@ -13,36 +12,40 @@ use Rattle.seeds.proofs.digest.transcript.Tie as tie
 new-requires : tie.Need-new-requires
 new-requires c κs = search needs
 
-slice-aggregate-absorb : tie.Need-slice-aggregate-absorb
-slice-aggregate-absorb c = search needs
+absorb-byte-requires : tie.Need-absorb-byte-requires
+absorb-byte-requires c κs = (omega arith, rw (c .new .ensures) (empty-room 136 (omega arith)))
 
 absorb-requires : tie.Need-absorb-requires
-absorb-requires c κs = (omega arith, (refl, rw (c .before .new .ensures) (empty-room 136 (omega arith))))
+absorb-requires c κs = (omega arith, (refl, room-of (11 ∷ []) _ (taken-tag 11 _ _ (c .before .new .ensures) (c .absorb-byte .ensures))))
 
 absorb-requires-2 : tie.Need-absorb-requires-2
-absorb-requires-2 c κs = (omega arith, (refl, rw (c .absorb .ensures) (absorbs-room 136 (omega arith) _ _ (rw (c .before .before .new .ensures) (empty-room 136 (omega arith))))))
-
-absorb-requires-3 : tie.Need-absorb-requires-3
-absorb-requires-3 c κs = (omega arith, (refl, rw (c .absorb2 .ensures) (absorbs-room 136 (omega arith) _ _ (rw (c .before .absorb .ensures) (absorbs-room 136 (omega arith) _ _ (rw (c .before .before .before .new .ensures) (empty-room 136 (omega arith))))))))
+absorb-requires-2 c κs =
+    let x = c .before .before .before .before .before .args in
+    let a = taken-tag 11 _ _ (c .before .before .new .ensures) (c .before .absorb-byte .ensures) in
+    (omega arith, (refl, room-of ((11 ∷ []) ++ x .h .now) _ (taken-more (11 ∷ []) (x .h .now) _ _ a (c .absorb .ensures))))
 
 finish-requires : tie.Need-finish-requires
-finish-requires c κs = rw (c .absorb3 .ensures) (absorbs-room 136 (omega arith) _ _ (rw (c .before .absorb2 .ensures) (absorbs-room 136 (omega arith) _ _ (rw (c .before .before .absorb .ensures) (absorbs-room 136 (omega arith) _ _ (rw (c .before .before .before .before .new .ensures) (empty-room 136 (omega arith))))))))
+finish-requires c κs =
+    let x = c .before .before .before .before .before .before .args in
+    let a = taken-tag 11 _ _ (c .before .before .before .new .ensures) (c .before .before .absorb-byte .ensures) in
+    let b = taken-more (11 ∷ []) (x .h .now) _ _ a (c .before .absorb .ensures) in
+    room-of (((11 ∷ []) ++ x .h .now) ++ x .online .now) _ (taken-more ((11 ∷ []) ++ x .h .now) (x .online .now) _ _ b (c .absorb2 .ensures))
 
 returns : tie.Need-returns
 returns c =
-    let x = c .before .before .before .before .before .before .before .before .args in
-    transcript-is (x .h .now) (x .online .now) (c .finish .result) (c .before .before .before .absorb .result) (c .before .before .absorb2 .result) (c .before .absorb3 .result)
-    (λ i. c .before .before .before .before .before .before .before .shared-slice-known .given i .fits) (λ i. c .before .before .before .before .before .before .shared-slice-known2 .given i .fits)
-    (taken-first (11 ∷ []) (c .before .before .before .before .before .new .result) (c .before .before .before .absorb .result) (c .before .before .before .before .before .new .ensures) (c .before .before .before .absorb .ensures)) (c .before .before .absorb2 .ensures) (c .before .absorb3 .ensures) (c .finish .ensures)
+    let x = c .before .before .before .before .before .before .before .args in
+    let a = taken-tag 11 _ _ (c .before .before .before .before .new .ensures) (c .before .before .before .absorb-byte .ensures) in
+    transcript-is (x .h .now) (x .online .now) (c .finish .result) (c .before .before .before .absorb-byte .result) (c .before .before .absorb .result) (c .before .absorb2 .result)
+    (λ i. c .before .before .before .before .before .before .shared-slice-known .given i .fits) (λ i. c .before .before .before .before .before .shared-slice-known2 .given i .fits)
+    a (c .before .before .absorb .ensures) (c .before .absorb2 .ensures) (c .finish .ensures)
 
 pub transcript-spec : {M : Type 1} → statement M
 transcript-spec =
     tie.close
     (tie.spec
     new-requires
-    slice-aggregate-absorb
+    absorb-byte-requires
     absorb-requires
     absorb-requires-2
-    absorb-requires-3
     finish-requires
     returns)
