@@ -12,6 +12,7 @@ use Rattle.circuit.specs.File.{circuitOf}
 use Rattle.circuit.specs.Operations.{refusal, success}
 use Rattle.circuit.proofs.Answered.{fell, held}
 use Rattle.seeds.specs.declared.Answer.{Answer}
+use Rattle.seeds.specs.Inputs.{boundOf}
 use Rattle.seeds.specs.Challenge.{challengeOf}
 use Rattle.seeds.specs.Operations.{outcome, challengeOp}
 use Rattle.instance.specs.Instance.{Asked}
@@ -60,7 +61,7 @@ module _ (c : Circuit) (y proof : List ℕ) (M n : ℕ) (ask : ℕ → Asked) wh
 module _ (s : List ℕ) (M tau n : ℕ) (message proof lent choices : List ℕ) (r : Answer) (head : Headed M tau n message proof) (room : length lent ≡ 3 * tau)
     (done : outcome r choices ≡ challengeOp M tau n (headerHstar proof) message lent) where
   -- they are those of the challenge
-  choices-are : choices ≡ challengeOf M tau n (headerHstar proof) message
+  choices-are : choices ≡ challengeOf M tau n (headerHstar proof) (boundOf message)
   choices-are =
       challenge-done M tau n (headerHstar proof) message lent choices r done (headed-counts M tau n message proof head)
       (headed-parties M tau n message proof head) (hstar-length proof (head .good)) (head .short) room

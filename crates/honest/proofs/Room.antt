@@ -16,6 +16,7 @@ use Rattle.parties.specs.Parties.{heightOf, isPartyCount}
 use Rattle.parties.proofs.Counts.{sizes}
 use Rattle.circuit.specs.Circuit.{Circuit}
 use Rattle.mpc.specs.Tapes.{andsOf}
+use Rattle.seeds.specs.Inputs.{boundOf}
 use Rattle.seeds.specs.Challenge.{streamOf, instances, hiddenParties, Sound}
 use Rattle.seeds.specs.Operations.{areCounts}
 use Rattle.seeds.proofs.Challenges.{challenge-sound}
@@ -113,9 +114,9 @@ unfolding challenged proofRoom
 challenge-fits c M tau n hstar message h i =
     let height : heightOf n ≡ 0 → ⊥ = has-height n i in
     let fit : Fit M tau = counts-fit M tau h in
-    let is : List ℕ = instances M tau (streamOf tau hstar message) in
-    let ps : List ℕ = hiddenParties tau n (streamOf tau hstar message) in
-    let s : Sound M tau n is ps = challenge-sound M tau n hstar message (omega (arith, fit .below)) (omega (arith, sizes n height .some)) in
+    let is : List ℕ = instances M tau (streamOf tau hstar (boundOf message)) in
+    let ps : List ℕ = hiddenParties tau n (streamOf tau hstar (boundOf message)) in
+    let s : Sound M tau n is ps = challenge-sound M tau n hstar (boundOf message) (omega (arith, fit .below)) (omega (arith, sizes n height .some)) in
     let t : length is ≡ tau = s .count in
     let b : stretchStart c n (asked is ps) M + 48 * tau ≤ 38 + 48 * M + tau * longest c n height =
     rw t at (start-most c n height is ps (t ∙ sym (s .paired)) M) in

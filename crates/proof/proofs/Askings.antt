@@ -11,6 +11,7 @@ use lib.ListN.{length, getD}
 use Rattle.bits.specs.Bytes.{leBytes}
 use Rattle.parties.specs.Parties.{isPartyCount}
 use Rattle.seeds.specs.declared.Answer.{Answer}
+use Rattle.seeds.specs.Inputs.{boundOf}
 use Rattle.seeds.specs.Challenge.{streamOf, instances, hiddenParties, beside, challengeOf, Ascending, more}
 use Rattle.seeds.specs.Operations.{Outcome, outcome, areCounts, challengeOp}
 use Rattle.seeds.proofs.Challenges.{challenge-sound}
@@ -56,30 +57,30 @@ party-beside n (i ∷ is) (p ∷ ps) h j = go (eqb (i % 256 + 256 * (i / 256 % 2
 -- M instances of which tau are chosen, by n parties
 module _ (M tau n : ℕ) (hstar message : List ℕ) (counts : areCounts M tau ≡ true) (some : 0 < n) where
   -- the bytes of a challenge ask what it asks
-  pub asks-challenged : (j : ℕ) → asksIn n (challengeOf M tau n hstar message) j ≡ challenged M tau n hstar message j
+  pub asks-challenged : (j : ℕ) → asksIn n (challengeOf M tau n hstar (boundOf message)) j ≡ challenged M tau n hstar message j
   unfolding challengeOf challenged
   asks-challenged j =
       let fit : Fit M tau = counts-fit M tau counts in
-      let s = challenge-sound M tau n hstar message (omega (arith, fit .below)) some in
-      asks-beside n M 0 (instances M tau (streamOf tau hstar message)) (hiddenParties tau n (streamOf tau hstar message)) (omega (arith, fit .most))
+      let s = challenge-sound M tau n hstar (boundOf message) (omega (arith, fit .below)) some in
+      asks-beside n M 0 (instances M tau (streamOf tau hstar (boundOf message))) (hiddenParties tau n (streamOf tau hstar (boundOf message))) (omega (arith, fit .most))
       (s .ascending) (s .hidden) j
 
   -- of all instances
-  pub asks-same : asksIn n (challengeOf M tau n hstar message) ≡ challenged M tau n hstar message
+  pub asks-same : asksIn n (challengeOf M tau n hstar (boundOf message)) ≡ challenged M tau n hstar message
   asks-same = fun-ext asks-challenged
 
   -- no party beyond n is named
-  pub asking-challenge : Asking n (challengeOf M tau n hstar message)
+  pub asking-challenge : Asking n (challengeOf M tau n hstar (boundOf message))
   unfolding challengeOf
   asking-challenge =
       let fit : Fit M tau = counts-fit M tau counts in
-      let s = challenge-sound M tau n hstar message (omega (arith, fit .below)) some in
-      record { parties = party-beside n (instances M tau (streamOf tau hstar message)) (hiddenParties tau n (streamOf tau hstar message)) (s .hidden) }
+      let s = challenge-sound M tau n hstar (boundOf message) (omega (arith, fit .below)) some in
+      record { parties = party-beside n (instances M tau (streamOf tau hstar (boundOf message))) (hiddenParties tau n (streamOf tau hstar (boundOf message))) (s .hidden) }
 
 -- the operation, where its tests pass
 challenge-passed : (M tau n : ℕ) (hstar message lent : List ℕ) → areCounts M tau ≡ true → isPartyCount n ≡ true → length hstar ≡ 32
     → length message ≤ 4096 → length lent ≡ 3 * tau
-    → challengeOp M tau n hstar message lent ≡ record { number = 0; buffer = challengeOf M tau n hstar message }
+    → challengeOp M tau n hstar message lent ≡ record { number = 0; buffer = challengeOf M tau n hstar (boundOf message) }
 unfolding challengeOp
 challenge-passed M tau n hstar message lent counts parties size few room =
     rw (counts, parties, eq-eqb (length hstar) 32 size, le-leb (length message) 4096 few, eq-eqb (length lent) (3 * tau) room)
@@ -87,6 +88,6 @@ challenge-passed M tau n hstar message lent counts parties size few room =
 -- what it leaves then
 pub challenge-done : (M tau n : ℕ) (hstar message lent left : List ℕ) (r : Answer) → outcome r left ≡ challengeOp M tau n hstar message lent
     → areCounts M tau ≡ true → isPartyCount n ≡ true → length hstar ≡ 32 → length message ≤ 4096 → length lent ≡ 3 * tau
-    → left ≡ challengeOf M tau n hstar message
+    → left ≡ challengeOf M tau n hstar (boundOf message)
 challenge-done M tau n hstar message lent left r e counts parties size few room =
     ap (λ (o : Outcome). o .buffer) (e ∙ challenge-passed M tau n hstar message lent counts parties size few room)

@@ -7,7 +7,7 @@ use lib.Dec.{eqb}
 use Rattle.bits.specs.Bits.{tabulate}
 use Rattle.keccak.specs.Sponge.{sha3-256}
 use Rattle.circuit.specs.Circuit.{Circuit}
-use Rattle.seeds.specs.Inputs.{allCommitmentsInput, allOnlineInput}
+use Rattle.seeds.specs.Inputs.{allCommitmentsInput, allOnlineInput, boundOf}
 use Rattle.seeds.specs.Derive.{masterOf}
 use Rattle.seeds.specs.Digest.{transcriptOf}
 use Rattle.seeds.specs.Challenge.{streamOf, instances, hiddenParties}
@@ -32,7 +32,7 @@ asked (i ∷ is) (p ∷ ps) j = cond (eqb i j) (hiding p) (asked is ps j)
 -- Round 2: the challenge, from the first message and the message to be signed
 unfoldable pub challenged : ℕ → ℕ → ℕ → List ℕ → List ℕ → ℕ → Asked
 challenged M tau n hstar message =
-    asked (instances M tau (streamOf tau hstar message)) (hiddenParties tau n (streamOf tau hstar message))
+    asked (instances M tau (streamOf tau hstar (boundOf message))) (hiddenParties tau n (streamOf tau hstar (boundOf message)))
 
 -- Round 3: the response
 unfoldable pub responseOf : Circuit → ℕ → ℕ → List ℕ → List ℕ → (ℕ → Asked) → List ℕ

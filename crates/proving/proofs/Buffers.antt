@@ -14,6 +14,7 @@ use Rattle.parties.specs.Parties.{heightOf}
 use Rattle.circuit.specs.Circuit.{Circuit}
 use Rattle.circuit.specs.File.{circuitOf}
 use Rattle.circuit.specs.declared.Sizes.{Sizes}
+use Rattle.seeds.specs.Inputs.{boundOf}
 use Rattle.seeds.specs.Challenge.{challengeOf}
 use Rattle.seeds.specs.Digest.{transcriptOf}
 use Rattle.seeds.specs.Operations.{outcome, challengeOp}
@@ -160,7 +161,7 @@ module _ (s : List ℕ) (sizes : Sizes) (M tau n h : ℕ) (w message root B : Li
     length-first = ap length eh ∙ length-hstar c M n w root
 
     -- they are the challenge
-    choices-right : ch ≡ challengeOf M tau n hs message
+    choices-right : ch ≡ challengeOf M tau n hs (boundOf message)
     choices-right = challenge-done M tau n hs message lent ch r er (t .counts) (tree .parties) length-first (t .short) fits
 
     -- they ask what the challenge asks

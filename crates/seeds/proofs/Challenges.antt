@@ -9,7 +9,7 @@ use Prim.Native.Nat.{ℕ, zero, suc, _+_, _*_, _≤_, _<_}
 use lib.ListN.{length, getD, drop, length-drop, length-append}
 use Rattle.bits.specs.Bytes.{leBytes}
 use Rattle.bits.proofs.Little.{length-leBytes}
-use Rattle.seeds.specs.Challenge.{drawn, chosenFrom, partiesOf, streamOf, instances, hiddenParties, beside, challengeOf, Ascending, none, more, Sound}
+use Rattle.seeds.specs.Challenge.{drawn, chosenFrom, partiesOf, streamOf, instances, hiddenParties, beside, challengeOf, Ascending, none, more, Sound, ChallengeSound, ChallengeLength}
 use Rattle.keccak.proofs.Lengths.{length-shake256}
 use Rattle.seeds.proofs.Choosing.{length-drawn, length-instances}
 
@@ -45,11 +45,10 @@ length-beside (i ∷ is) (p ∷ ps) e =
     length-append (leBytes 2 i) (p ∷ beside is ps) ∙ omega (arith, length-leBytes 2 i, length-beside is ps (omega arith))
 
 -- a challenge has tau instances below M, ascending and all different, each with a hidden party below n
-pub challenge-sound : (M tau n : ℕ) (hstar message : List ℕ) → tau ≤ M → 0 < n
-    → Sound M tau n (instances M tau (streamOf tau hstar message)) (hiddenParties tau n (streamOf tau hstar message))
+pub challenge-sound : ChallengeSound
 unfolding instances hiddenParties streamOf
-challenge-sound M tau n hstar message w h =
-    let s : List ℕ = streamOf tau hstar message in
+challenge-sound M tau n hstar bound w h =
+    let s : List ℕ = streamOf tau hstar bound in
     let l : length s ≡ 9 * tau = length-shake256 _ (9 * tau) in
     record {
       count = length-instances M s tau w;
@@ -58,9 +57,9 @@ challenge-sound M tau n hstar message w h =
       hidden = parties-below n (drop (8 * tau) s) h;
     }
 
-pub length-challenge : (M tau n : ℕ) (hstar message : List ℕ) → tau ≤ M → 0 < n → length (challengeOf M tau n hstar message) ≡ 3 * tau
+pub length-challenge : ChallengeLength
 unfolding challengeOf
-length-challenge M tau n hstar message w h =
-    let s : List ℕ = streamOf tau hstar message in
-    let k = challenge-sound M tau n hstar message w h in
+length-challenge M tau n hstar bound w h =
+    let s : List ℕ = streamOf tau hstar bound in
+    let k = challenge-sound M tau n hstar bound w h in
     length-beside (instances M tau s) (hiddenParties tau n s) (k .count ∙ sym (k .paired)) ∙ ap (λ (y : ℕ). 3 * y) (k .count)

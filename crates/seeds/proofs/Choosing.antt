@@ -273,11 +273,14 @@ module _ (M tau : ℕ) (s₀ : Sponge) where
       q ∙ ap₂ (λ (z : List Bool) (y : List ℕ). beside (chosenFrom 0 z) (partiesOf n y)) e bytes
 
 -- the challenge's input is bytes
-bytes-challenge : (h m : List ℕ) → Bytes h → Bytes m → Bytes (challengeInput h m)
-unfolding challengeInput boundOf
-bytes-challenge h m p q =
-    bytes-append ((6 ∷ []) ++ h) (leBytes 2 (length m) ++ m) (bytes-append (6 ∷ []) h (bytes-one 6 (omega arith)) p)
-    (bytes-append (leBytes 2 (length m)) m (leBytes-lt 2 (length m)) q)
+bytes-challenge : (h g : List ℕ) → Bytes h → Bytes g → Bytes (challengeInput h g)
+unfolding challengeInput
+bytes-challenge h g p q = bytes-append ((6 ∷ []) ++ h) g (bytes-append (6 ∷ []) h (bytes-one 6 (omega arith)) p) q
+
+-- and so is what it is bound to
+pub bytes-bound : (m : List ℕ) → Bytes m → Bytes (boundOf m)
+unfolding boundOf
+bytes-bound m q = bytes-append (leBytes 2 (length m)) m (leBytes-lt 2 (length m)) q
 
 -- the challenge, from the sponge that has taken in its input
 pub challenge-is : (M tau n : ℕ) (h g : List ℕ) (s : Sponge) (o : List ℕ) → Bytes h → Bytes g → s ≡ ready (challengeInput h g)

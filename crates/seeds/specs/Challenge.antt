@@ -34,9 +34,9 @@ unfoldable pub partiesOf : ℕ → List ℕ → List ℕ
 partiesOf n [] = []
 partiesOf n (b ∷ bytes) = b % n ∷ partiesOf n bytes
 
--- the stream: 8 bytes for each draw, and one for each hidden party
+-- the stream from h* and what the challenge is bound to: 8 bytes for each draw, and one for each hidden party
 unfoldable pub streamOf : ℕ → List ℕ → List ℕ → List ℕ
-streamOf tau hstar message = shake256 (challengeInput hstar message) (9 * tau)
+streamOf tau hstar bound = shake256 (challengeInput hstar bound) (9 * tau)
 
 -- the chosen instances, ascending
 unfoldable pub instances : ℕ → ℕ → List ℕ → List ℕ
@@ -54,8 +54,8 @@ beside (i ∷ is) (p ∷ ps) = leBytes 2 i ++ (p ∷ beside is ps)
 
 -- "A challenge is the chosen instances, ascending, each with its hidden party."
 unfoldable pub challengeOf : ℕ → ℕ → ℕ → List ℕ → List ℕ → List ℕ
-challengeOf M tau n hstar message =
-    let stream : List ℕ = streamOf tau hstar message in
+challengeOf M tau n hstar bound =
+    let stream : List ℕ = streamOf tau hstar bound in
     beside (instances M tau stream) (hiddenParties tau n stream)
 
 -- instances from lo on and below hi, ascending, so that no two are alike
@@ -69,3 +69,13 @@ pub record Sound (M tau n : ℕ) (is ps : List ℕ) : Type 0 where
   pub ascending : Ascending M 0 is
   pub paired : length ps ≡ tau
   pub hidden : (k : ℕ) → getD ps k 0 < n
+
+-- "A challenge is the chosen instances, ascending, each with its hidden party": tau of M instances and n parties
+abbrev pub ChallengeSound : Type 0
+ChallengeSound =
+    (M tau n : ℕ) (hstar bound : List ℕ) → tau ≤ M → 0 < n
+    → Sound M tau n (instances M tau (streamOf tau hstar bound)) (hiddenParties tau n (streamOf tau hstar bound))
+
+-- as bytes it has 3 for each chosen instance
+abbrev pub ChallengeLength : Type 0
+ChallengeLength = (M tau n : ℕ) (hstar bound : List ℕ) → tau ≤ M → 0 < n → length (challengeOf M tau n hstar bound) ≡ 3 * tau

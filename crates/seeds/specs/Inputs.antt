@@ -57,6 +57,6 @@ transcriptInput h h′ = (11 ∷ []) ++ h ++ h′
 unfoldable pub boundOf : List ℕ → List ℕ
 boundOf message = leBytes 2 (length message) ++ message
 
--- 6: the challenge, from h* and the message
+-- 6: the challenge, from h* and what it is bound to
 unfoldable pub challengeInput : List ℕ → List ℕ → List ℕ
-challengeInput hstar message = 6 ∷ hstar ++ boundOf message
+challengeInput hstar bound = 6 ∷ hstar ++ bound

@@ -12,6 +12,7 @@ use Rattle.refusal.specs.declared.Refusal.the-variants.{BufferLength, Parameter
 use Rattle.parties.specs.Parties.{heightOf, isPartyCount}
 use Rattle.seeds.specs.declared.Answer.{Answer}
 use Rattle.seeds.specs.declared.Answer.the-variants.{Done, Refused}
+use Rattle.seeds.specs.Inputs.{boundOf}
 use Rattle.seeds.specs.Tree.{leavesBelow, siblingsBelow}
 use Rattle.seeds.specs.Challenge.{challengeOf}
 
@@ -73,4 +74,4 @@ challengeOp M tau n hstar message lent =
     (unless (isPartyCount n) Parameter lent
     (unless (eqb (length hstar) 32) BufferLength lent
     (unless (leb (length message) maxMessage) BufferLength lent
-    (unless (eqb (length lent) (3 * tau)) BufferLength lent (record { number = 0; buffer = challengeOf M tau n hstar message })))))
+    (unless (eqb (length lent) (3 * tau)) BufferLength lent (record { number = 0; buffer = challengeOf M tau n hstar (boundOf message) })))))

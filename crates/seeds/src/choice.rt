@@ -35,7 +35,7 @@ fn absorb_bound(sponge: Sponge, message: &[u8]) -> Sponge
 
 // The sponge that is ready to give out the stream.
 fn stream(hstar: &[u8], message: &[u8]) -> Sponge
-    ensures { λ r. ⌜ r ≡ ready (challengeInput (now (hstar .entry)) (now (message .entry))) ⌝ }
+    ensures { λ r. ⌜ r ≡ ready (challengeInput (now (hstar .entry)) (boundOf (now (message .entry)))) ⌝ }
 {
     let s = Sponge::new()
         .absorb_byte(SHAKE256_RATE, 6)
@@ -140,7 +140,7 @@ fn choose_with(tau: usize, n: u8, sponge: Sponge, flags: &mut [bool], out: &mut 
 // The challenge of tau among m instances and n parties.
 pub(crate) fn derive(m: usize, tau: usize, n: u8, hstar: &[u8], message: &[u8], out: &mut [u8])
     requires { ⌜ (m ≤ 512) × ((tau < m) × ((0 < n) × (length (now out) ≡ 3 * tau))) ⌝ }
-    ensures { λ _. ⌜ now (out .exit) ≡ challengeOf m tau n (now (hstar .entry)) (now (message .entry)) ⌝ }
+    ensures { λ _. ⌜ now (out .exit) ≡ challengeOf m tau n (now (hstar .entry)) (boundOf (now (message .entry))) ⌝ }
 {
     let s = stream(hstar, message);
     let mut flags = [false; 512];

@@ -2,8 +2,9 @@
 -- Assumes nothing.
 use mathlib.Core.Bool.{false}
 use Rattle.keccak.specs.Steps.{squeezes}
+use Rattle.seeds.specs.Inputs.{boundOf}
 use Rattle.seeds.specs.Challenge.{beside, instances, hiddenParties}
-use Rattle.seeds.proofs.Choosing.{length-same, all-free, challenge-is, ready-room}
+use Rattle.seeds.proofs.Choosing.{length-same, all-free, challenge-is, bytes-bound, ready-room}
 use native.Mathlib.Omega.{arith}
 use mathlib.Core.Path.{sym, ap, _∙_}
 use Prim.Native.Nat.{ℕ, _*_}
@@ -35,8 +36,8 @@ returns c =
     let x = c .before .before .before .before .before .before .before .before .before .before .args in
     let n = length-same (x .m) 512 false (c .before .before .before .before .before .before .before .before .before .before .pre .0) in
     let s = c .before .before .before .before .before .before .stream .result in
-    challenge-is (x .m) (x .tau) (x .n) (x .hstar .now) (x .message .now) s (c .before .before .before .choose-with .last .1 .1 .1 .1 .0)
-    (λ i. c .before .before .before .before .before .before .before .before .before .shared-slice-known .given i .fits) (λ i. c .before .before .before .before .before .before .before .before .shared-slice-known2 .given i .fits)
+    challenge-is (x .m) (x .tau) (x .n) (x .hstar .now) (boundOf (x .message .now)) s (c .before .before .before .choose-with .last .1 .1 .1 .1 .0)
+    (λ i. c .before .before .before .before .before .before .before .before .before .shared-slice-known .given i .fits) (bytes-bound (x .message .now) (λ i. c .before .before .before .before .before .before .before .before .shared-slice-known2 .given i .fits))
     (c .before .before .before .before .before .before .stream .ensures)
     (c .before .before .before .choose-with .ensures ∙ ap (λ (M : ℕ). beside (instances M (x .tau) (squeezes 136 (9 * x .tau) s)) (hiddenParties (x .tau) (x .n) (squeezes 136 (9 * x .tau) s))) n)
 
