@@ -26,7 +26,7 @@ use Rattle.bits.proofs.Xor.{xor-false}
 use Rattle.permutation.specs.Permutation.{StateArray, rounds, fromString, lane, lanes, laneBytes, toString, keccakF}
 use Rattle.keccak.specs.Sponge.{xorInto, absorbBlocks, squeezeBlocks, padding, sponge, sha3-256, shake128, shake256}
 use Rattle.keccak.proofs.Lengths.{length-absorb}
-use Rattle.keccak.specs.Bitstrings.{zeros, xorBits, fromBitString, Lane, Plane, toBitString, KECCAK-p, pad10*1, blockOf, absorb, squeeze, SPONGE, KECCAK, SHA3-256, SHAKE128, SHAKE256, h2b, b2h}
+use Rattle.keccak.specs.Bitstrings.{zeros, xorBits, fromBitString, Lane, Plane, toBitString, KECCAK-p, pad10*1, blockOf, absorb, squeeze, SPONGE, KECCAK, SHA3-256, SHAKE128, SHAKE256, h2b, b2h, SHA3-256-on-bytes, SHAKE128-on-bytes, SHAKE256-on-bytes, PadMultiple, TurnsEnough}
 
 -- ---- lists given place by place
 
@@ -426,24 +426,24 @@ module _ (suffix : List Bool) (short : length suffix ≤ 6) (first : ℕ) (made 
 -- ---- the three functions
 
 -- SHA3-256 on bytes
-pub sha3-256-bits : (M : List ℕ) → sha3-256 M ≡ b2h (SHA3-256 (h2b M))
+pub sha3-256-bits : SHA3-256-on-bytes
 unfolding sha3-256 SHA3-256 KECCAK fromBits
 sha3-256-bits M = sponge-bits (false ∷ true ∷ []) (omega arith) 0x06 refl 136 (omega arith) (omega arith) M 32
 
 -- SHAKE128 on bytes, d of them
-pub shake128-bits : (M : List ℕ) (d : ℕ) → shake128 M d ≡ b2h (SHAKE128 (h2b M) (8 * d))
+pub shake128-bits : SHAKE128-on-bytes
 unfolding shake128 SHAKE128 KECCAK fromBits
 shake128-bits M d = sponge-bits (true ∷ true ∷ true ∷ true ∷ []) (omega arith) 0x1f refl 168 (omega arith) (omega arith) M d
 
 -- SHAKE256 on bytes, d of them
-pub shake256-bits : (M : List ℕ) (d : ℕ) → shake256 M d ≡ b2h (SHAKE256 (h2b M) (8 * d))
+pub shake256-bits : SHAKE256-on-bytes
 unfolding shake256 SHAKE256 KECCAK fromBits
 shake256-bits M d = sponge-bits (true ∷ true ∷ true ∷ true ∷ []) (omega arith) 0x1f refl 136 (omega arith) (omega arith) M d
 
 -- ---- where the definitions on bit strings say a line of the standard otherwise: the difference modulo x, the number of turns
 
 -- Algorithm 9's output: m + len(P) is a multiple of x
-pub pad-multiple : (x m : ℕ) → 0 < x → (m + length (pad10*1 x m)) % x ≡ 0
+pub pad-multiple : PadMultiple
 unfolding pad10*1
 pad-multiple x m h =
     let a = (m + 2) % x in
@@ -467,9 +467,9 @@ module _ (f : List Bool → List Bool) (r d : ℕ) (room : (S : List Bool) → r
       ap (cond (leb d (length Z')) (take d Z'))
       (more-turns n m (omega arith) Z' (f S) (room S) (omega (arith, length-append Z (take r S), length-take-le r S k)))
 
-  -- d / r + 1 turns are enough
-  pub turns-enough : (m : ℕ) → 0 < r → d / r + 1 ≤ m → (S : List Bool) → r ≤ length S → squeeze f r d m [] S ≡ squeeze f r d (d / r + 1) [] S
-  turns-enough m h l S k = more-turns (d / r + 1) m l [] S k (omega (arith, lt-div-mul-add {a = d} h))
+-- d / r + 1 turns are enough
+pub turns-enough : TurnsEnough
+turns-enough f r d room m h l S k = more-turns f r d room (d / r + 1) m l [] S k (omega (arith, lt-div-mul-add {a = d} h))
 
 -- a lane has 64 bits
 length-Lane : (A : StateArray) (i j : ℕ) → length (Lane A i j) ≡ 64

@@ -1,16 +1,18 @@
 -- FIPS 202 on bit strings, in the standard's own order: the string of a state array, KECCAK-p[1600, 24], the sponge construction,
 -- pad10*1, KECCAK[c], SHA3-256, SHAKE128 and SHAKE256, and the conversion from and to byte strings.
 -- A bit string is the list of its bits, X || Y is X ++ Y, and len(X) is length X. The width b is 1600, so w = 64 and l = 6.
--- The step mappings and the rounds on state arrays are Permutation's.
+-- The step mappings and the rounds on state arrays are Permutation's. The statements of the theorems stand at the end.
 -- Assumes nothing.
 use mathlib.Core.Bool.{Bool, true, false, cond}
 use mathlib.Core.List.{List, [], _∷_, _++_, zipWith}
-use Prim.Native.Nat.{ℕ, zero, suc, _+_, _-_, _*_, _/_, _%_}
+use mathlib.Core.Path.{_≡_}
+use Prim.Native.Nat.{ℕ, zero, suc, _+_, _-_, _*_, _/_, _%_, _≤_, _<_}
 use lib.Dec.{leb}
 use lib.ListN.{length, getD, take, drop, replicate}
 use Rattle.bits.specs.Bits.{tabulate, pack, unpack}
 use Rattle.bits.specs.Xor.{_⊕_}
 use Rattle.permutation.specs.Permutation.{StateArray, rounds}
+use Rattle.keccak.specs.Sponge.{sha3-256, shake128, shake256}
 
 -- 2.3: 0^s, the string of s zeros
 abbrev pub zeros : ℕ → List Bool
@@ -97,3 +99,27 @@ h2b H = unpack (8 * length H) H
 -- B.1, Algorithm 11: b2h(S) as bytes; byte i is the sum of T[8i + j] 2^j for j < 8, where T = S || 0^(-n mod 8), n = len(S)
 unfoldable pub b2h : List Bool → List ℕ
 b2h S = pack S
+
+-- ---- the statements of the theorems: the functions on byte strings of Sponge.antt are the standard's on bit strings
+
+-- SHA3-256, on the bytes of every message
+abbrev pub SHA3-256-on-bytes : Type 0
+SHA3-256-on-bytes = (M : List ℕ) → sha3-256 M ≡ b2h (SHA3-256 (h2b M))
+
+-- SHAKE128, on the bytes of every message, d bytes of output
+abbrev pub SHAKE128-on-bytes : Type 0
+SHAKE128-on-bytes = (M : List ℕ) (d : ℕ) → shake128 M d ≡ b2h (SHAKE128 (h2b M) (8 * d))
+
+-- SHAKE256, on the bytes of every message, d bytes of output
+abbrev pub SHAKE256-on-bytes : Type 0
+SHAKE256-on-bytes = (M : List ℕ) (d : ℕ) → shake256 M d ≡ b2h (SHAKE256 (h2b M) (8 * d))
+
+-- Algorithm 9's output: m + len(P) is a multiple of x
+abbrev pub PadMultiple : Type 0
+PadMultiple = (x m : ℕ) → 0 < x → (m + length (pad10*1 x m)) % x ≡ 0
+
+-- Algorithm 8: more than d / r + 1 turns of steps 8 to 10 change nothing
+abbrev pub TurnsEnough : Type 0
+TurnsEnough =
+    (f : List Bool → List Bool) (r d : ℕ) → ((S : List Bool) → r ≤ length (f S))
+    → (m : ℕ) → 0 < r → d / r + 1 ≤ m → (S : List Bool) → r ≤ length S → squeeze f r d m [] S ≡ squeeze f r d (d / r + 1) [] S

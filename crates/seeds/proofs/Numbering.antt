@@ -16,7 +16,7 @@ use Rattle.bits.proofs.Numbers.{lt-or-le}
 use Rattle.bits.proofs.Rows.{row-inside}
 use Rattle.parties.specs.Parties.{heightOf, isPartyCount}
 use Rattle.parties.proofs.Counts.{height-pow, count-no}
-use Rattle.seeds.specs.Tree.{leftChild, rightChild, nodeValue, leavesBelow}
+use Rattle.seeds.specs.Tree.{leftChild, rightChild, nodeValue, leavesBelow, NodeChildren, LeafNode, LeafOfParty}
 use Rattle.seeds.proofs.Lengths.{length-left, length-right, length-leaves}
 
 -- nodes 2k and 2k + 1 are the children of node k
@@ -28,6 +28,9 @@ module _ (j : ℕ) (m : List ℕ) (d k : ℕ) where
   pub node-right : nodeValue j m (suc d) (2 * k + 1) ≡ rightChild j k (nodeValue j m d k)
   unfolding nodeValue
   node-right = let e : (2 * k + 1) / 2 ≡ k = omega arith in rw (ne-eqb ((2 * k + 1) % 2) 0 (λ q. omega arith), e)
+
+pub node-children : NodeChildren
+node-children = record { left = node-left; right = node-right }
 
 -- a node h levels below node c, which is a child of the node with value v, is h + 1 levels below that
 node-below : (j : ℕ) (v : List ℕ) (h c x : ℕ) → 2 ^ h * c ≤ x → x < 2 ^ h * c + 2 ^ h
@@ -95,15 +98,13 @@ leaf-below j (suc h) k i v l w =
     (lt-or-le i (2 ^ h))
 
 -- leaf i of a tree of height h is node 2 ^ h + i
-pub leaf-node : (j h i : ℕ) (master : List ℕ) → length master ≡ 16 → i < 2 ^ h
-    → rowOf (leavesBelow j h 1 master) 16 i ≡ nodeValue j master h (2 ^ h + i)
+pub leaf-node : LeafNode
 leaf-node j h i master l w =
     let e : 2 ^ h * 1 ≡ 2 ^ h = omega arith in
     leaf-below j h 1 i master l w ∙ ap (λ (x : ℕ). nodeValue j master h (x + i)) e
 
 -- "Leaf i is node n + i"
-pub leaf-of-party : (j n i : ℕ) (master : List ℕ) → isPartyCount n ≡ true → length master ≡ 16 → i < n
-    → rowOf (leavesBelow j (heightOf n) 1 master) 16 i ≡ nodeValue j master (heightOf n) (n + i)
+pub leaf-of-party : LeafOfParty
 leaf-of-party j n i master t l w =
     let e : 2 ^ heightOf n ≡ n = height-pow n (λ q. let f : false ≡ true = sym (count-no n q) ∙ t in let z : _≡_ {A = ℕ} 0 1 = cc in omega arith) in
     leaf-node j (heightOf n) i master l (omega arith) ∙ ap (λ (x : ℕ). nodeValue j master (heightOf n) (x + i)) e

@@ -12,7 +12,7 @@ use lib.Seq.{length-take-le, take-at, drop-at, take-append-le, drop-append-le, t
 use Rattle.bits.specs.Bytes.{rowOf}
 use Rattle.bits.proofs.Numbers.{lt-or-le}
 use Rattle.bits.proofs.Rows.{row-length, row-getD}
-use Rattle.seeds.specs.Tree.{leftChild, rightChild, leavesBelow, siblingsBelow, openedBelow, hide}
+use Rattle.seeds.specs.Tree.{leftChild, rightChild, leavesBelow, siblingsBelow, openedBelow, hide, Opening, OpeningRows}
 use Rattle.seeds.proofs.Lengths.{length-left, length-right, length-leaves}
 
 -- the hidden leaf is among the first, or among the others
@@ -71,8 +71,7 @@ hide-row p i l w x other =
     ∙ (hide-other p l (i * 16 + k) w (apart p i k k16 other) ∙ sym (row-getD l 16 i k a k16)))
 
 -- the leaves that follow from the opening of all but p are the leaves, with zeros at leaf p
-pub opening : (j h k p : ℕ) (v : List ℕ) → length v ≡ 16 → p < 2 ^ h
-    → openedBelow j h k p (siblingsBelow j h k p v) ≡ hide p (leavesBelow j h k v)
+pub opening : Opening
 unfolding openedBelow siblingsBelow leavesBelow
 opening j zero k p v l w = opening-leaf p v l w
 opening j (suc h) k p v l w =
@@ -95,8 +94,7 @@ opening j (suc h) k p v l w =
     (lt-or-le p (2 ^ h))
 
 -- the same, at the row of every other leaf
-pub opening-rows : (j h k p i : ℕ) (v : List ℕ) → length v ≡ 16 → p < 2 ^ h → i < 2 ^ h → (i ≡ p → ⊥)
-    → rowOf (openedBelow j h k p (siblingsBelow j h k p v)) 16 i ≡ rowOf (leavesBelow j h k v) 16 i
+pub opening-rows : OpeningRows
 opening-rows j h k p i v l w x other =
     let n : length (leavesBelow j h k v) ≡ 16 * 2 ^ h = length-leaves j h k v l in
     ap (λ (s : List ℕ). rowOf s 16 i) (opening j h k p v l w) ∙ hide-row p i (leavesBelow j h k v) (omega arith) (omega arith) other
