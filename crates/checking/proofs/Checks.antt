@@ -12,8 +12,8 @@ use Rattle.circuit.specs.File.{circuitOf}
 use Rattle.circuit.specs.Operations.{refusal, success}
 use Rattle.circuit.proofs.Answered.{fell, held}
 use Rattle.seeds.specs.declared.Answer.{Answer}
-use Rattle.seeds.specs.Inputs.{boundOf}
-use Rattle.seeds.specs.Challenge.{challengeOf}
+use Rattle.hashing.specs.Inputs.{boundOf}
+use Rattle.choice.specs.Challenge.{challengeOf}
 use Rattle.seeds.specs.Operations.{outcome, challengeOp}
 use Rattle.instance.specs.Instance.{Asked}
 use Rattle.proof.specs.Protocol.{challenged}

@@ -9,8 +9,8 @@ use Rattle.bits.specs.Bits.{tabulate}
 use Rattle.keccak.proofs.Absorbing.{Bytes}
 use Rattle.circuit.specs.Circuit.{Circuit}
 use Rattle.mpc.specs.Showing.{rowsOf}
-use Rattle.seeds.specs.Inputs.{commitmentsInput, onlineInput}
-use Rattle.seeds.proofs.Hashes.{bytes-append}
+use Rattle.hashing.specs.Inputs.{commitmentsInput, onlineInput}
+use Rattle.hashing.proofs.Hashes.{bytes-append}
 use Rattle.instance.specs.Instance.{Asked, opened, hiding, commitmentsDigest, onlineDigest, commitmentsOf, masterSeeds, masterCorrections, masterCommitments}
 use Rattle.instance.specs.Stretch.{stretchBytes, maskedPart}
 use Rattle.instance.specs.Opened.{openedCommitments, openedRun, stretchCommitments, stretchOnline}

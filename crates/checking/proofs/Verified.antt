@@ -15,10 +15,10 @@ use Rattle.keccak.specs.Sponge.{sha3-256}
 use Rattle.keccak.proofs.Absorbing.{Bytes}
 use Rattle.keccak.proofs.Steps.{squeezes-length}
 use Rattle.circuit.specs.Circuit.{Circuit}
-use Rattle.seeds.specs.Inputs.{allCommitmentsInput, allOnlineInput}
-use Rattle.seeds.specs.Digest.{taken, given, transcriptOf}
-use Rattle.seeds.proofs.Digests.{taken-more, taken-room, given-taken}
-use Rattle.seeds.proofs.Hashes.{bytes-append, bytes-one}
+use Rattle.hashing.specs.Inputs.{allCommitmentsInput, allOnlineInput}
+use Rattle.hashing.specs.Digest.{taken, given, transcriptOf}
+use Rattle.hashing.proofs.Digests.{taken-more, taken-room, given-taken}
+use Rattle.hashing.proofs.Hashes.{bytes-append, bytes-one}
 use Rattle.instance.specs.Instance.{Asked, hiding, masterCommitments}
 use Rattle.instance.specs.Stretch.{stretchBytes}
 use Rattle.instance.specs.Opened.{stretchCommitments, stretchOnline, stretchUnused, stretchOutput}

@@ -20,10 +20,10 @@ use mpc::tests::both;
 use proof::HEADER_BYTES;
 use proof::asking::asked;
 use proof::asking::stretch_bytes;
-use seeds::digest::finish;
-use seeds::digest::start_all_commitments;
-use seeds::digest::start_all_online;
-use seeds::digest::transcript;
+use hashing::finish;
+use hashing::start_all_commitments;
+use hashing::start_all_online;
+use hashing::transcript;
 
 // Whether all replays gave y, and the recomputed h*.
 pub struct Verdict {

@@ -7,8 +7,8 @@ use Prim.Native.Nat.{ℕ, suc, _≤_, _<_}
 use native.Mathlib.Omega.{arith}
 use lib.Dec.{eqb}
 use lib.ListN.{getD}
-use Rattle.seeds.specs.Inputs.{boundOf}
-use Rattle.seeds.proofs.Challenges.{challenge-sound}
+use Rattle.hashing.specs.Inputs.{boundOf}
+use Rattle.choice.proofs.Challenges.{challenge-sound}
 use Rattle.instance.specs.Instance.{Asked, hiding}
 use Rattle.proof.specs.Protocol.{asked, challenged}
 

@@ -18,7 +18,7 @@ use Rattle.circuit.specs.Circuit.{Circuit, evaluate}
 use Rattle.circuit.specs.Operations.{success}
 use Rattle.mpc.specs.Operations.{holds}
 use Rattle.hiding.specs.Hiding.{Witness}
-use Rattle.seeds.specs.Derive.{masterOf}
+use Rattle.party.specs.Derive.{masterOf}
 use Rattle.seeds.specs.Operations.{areCounts}
 use Rattle.seeds.proofs.Instances.{Fit, counts-fit}
 use Rattle.instance.specs.Instance.{Asked, masterCommitments, masterOnline, stretchOf}

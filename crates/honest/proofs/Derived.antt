@@ -17,10 +17,10 @@ use Rattle.keccak.proofs.Lengths.{length-shake128}
 use Rattle.circuit.specs.Circuit.{Circuit}
 use Rattle.mpc.specs.Tapes.{rowBytes, tapeRow, usedBits, unusedRows}
 use Rattle.hiding.specs.Hiding.{Tapes}
-use Rattle.seeds.specs.Derive.{seedRow, clearFrom}
-use Rattle.seeds.specs.Derive as derive
-use Rattle.seeds.proofs.Hashes.{bytes-append}
-use Rattle.seeds.proofs.Clearing.{length-tape, tape-unused}
+use Rattle.party.specs.Derive.{seedRow, clearFrom}
+use Rattle.party.specs.Derive as derive
+use Rattle.hashing.proofs.Hashes.{bytes-append}
+use Rattle.party.proofs.Clearing.{length-tape, tape-unused}
 use Rattle.instance.specs.Instance.{seedsOf, seedOf, tapesOf}
 use Rattle.honest.proofs.Passing.{and-true}
 

@@ -16,9 +16,9 @@ use Rattle.bits.proofs.Numbers.{lt-or-le, eq-or-ne}
 use Rattle.bits.proofs.Rows.{row-inside}
 use Rattle.parties.specs.Parties.{heightOf}
 use Rattle.parties.proofs.Counts.{height-pow}
-use Rattle.seeds.specs.Tree.{leftChild, rightChild, nodeValue, leavesBelow, openedBelow}
-use Rattle.seeds.proofs.Lengths.{length-leaves, length-opened}
-use Rattle.seeds.proofs.Numbering.{row-first, row-second, leaf-below}
+use Rattle.tree.specs.Tree.{leftChild, rightChild, nodeValue, leavesBelow, openedBelow}
+use Rattle.tree.proofs.Lengths.{length-leaves, length-opened}
+use Rattle.tree.proofs.Numbering.{row-first, row-second, leaf-below}
 use Rattle.honest.specs.Response.{Chosen}
 use Rattle.honest.specs.Verification.{valueBeside, openedLeaf}
 

@@ -24,11 +24,11 @@ use Rattle.hiding.proofs.Rows.{length-withRow, row-here, row-other}
 use Rattle.hiding.proofs.Shown.{row-all}
 use Rattle.hiding.proofs.RunLaws.{run-evaluates}
 use Rattle.hiding.proofs.Replay.{replay-runs}
-use Rattle.seeds.specs.Inputs.{ownCorrections, commitmentInput}
-use Rattle.seeds.specs.Tree.{leavesBelow}
-use Rattle.seeds.specs.Derive.{seedRow, commitmentOf}
-use Rattle.seeds.specs.Derive as derive
-use Rattle.seeds.proofs.Opening.{opening-rows}
+use Rattle.hashing.specs.Inputs.{ownCorrections, commitmentInput}
+use Rattle.tree.specs.Tree.{leavesBelow}
+use Rattle.party.specs.Derive.{seedRow, commitmentOf}
+use Rattle.party.specs.Derive as derive
+use Rattle.tree.proofs.Opening.{opening-rows}
 use Rattle.instance.specs.Instance.{hiding, leavesOf, tapesOf, commitmentsDigest, onlineDigest, commitmentsOf, masterSeeds, masterTapes, masterCorrections, masterCommitments, masterRun, masterMasked, masterOnline, sentCorrections, stretchOf}
 use Rattle.instance.specs.Stretch.{correctionsPart, commitmentPart, maskedPart, rowPart}
 use Rattle.instance.specs.Opened.{openedSeeds, openedCommitments, openedShowing, openedRun, stretchUnused}

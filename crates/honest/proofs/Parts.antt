@@ -17,9 +17,9 @@ use Rattle.circuit.specs.Circuit.{Circuit}
 use Rattle.mpc.specs.Tapes.{andsOf}
 use Rattle.mpc.specs.Showing.{correctionBits, maskedInputs, rowBits}
 use Rattle.hiding.proofs.Shown.{length-corrections, length-honest}
-use Rattle.seeds.specs.Tree.{siblingsBelow}
-use Rattle.seeds.specs.Derive.{commitmentOf}
-use Rattle.seeds.proofs.Lengths.{length-siblings}
+use Rattle.tree.specs.Tree.{siblingsBelow}
+use Rattle.party.specs.Derive.{commitmentOf}
+use Rattle.tree.proofs.Lengths.{length-siblings}
 use Rattle.instance.specs.Instance.{Asked, opened, hiding, onlineDigest, masterSeeds, masterTapes, masterCorrections, masterRun, masterMasked, masterOnline, sentCorrections, stretchOf}
 use Rattle.instance.specs.Stretch.{correctionBytes, stretchBytes, sentMaster, sentOnline, siblingsPart, correctionsPart, commitmentPart, maskedPart, rowPart}
 use Rattle.honest.proofs.Places.{middle}

@@ -19,8 +19,8 @@ use Rattle.circuit.specs.Circuit.{Circuit}
 use Rattle.circuit.specs.File.{legal, readCircuit}
 use Rattle.mpc.specs.Run.{Transcript}
 use Rattle.mpc.specs.Tapes.{andsOf}
-use Rattle.seeds.specs.Inputs.{commitmentsInput, onlineInput, allCommitmentsInput, allOnlineInput}
-use Rattle.seeds.specs.Digest.{transcriptOf}
+use Rattle.hashing.specs.Inputs.{commitmentsInput, onlineInput, allCommitmentsInput, allOnlineInput}
+use Rattle.hashing.specs.Digest.{transcriptOf}
 use Rattle.seeds.specs.Operations.{areCounts}
 use Rattle.seeds.proofs.Instances.{Fit, counts-fit}
 use Rattle.instance.specs.Instance.{Asked, opened, hiding}

@@ -16,10 +16,10 @@ use Rattle.parties.specs.Parties.{heightOf, isPartyCount}
 use Rattle.parties.proofs.Counts.{sizes}
 use Rattle.circuit.specs.Circuit.{Circuit}
 use Rattle.mpc.specs.Tapes.{andsOf}
-use Rattle.seeds.specs.Inputs.{boundOf}
-use Rattle.seeds.specs.Challenge.{streamOf, instances, hiddenParties, Sound}
+use Rattle.hashing.specs.Inputs.{boundOf}
+use Rattle.choice.specs.Challenge.{streamOf, instances, hiddenParties, Sound}
 use Rattle.seeds.specs.Operations.{areCounts}
-use Rattle.seeds.proofs.Challenges.{challenge-sound}
+use Rattle.choice.proofs.Challenges.{challenge-sound}
 use Rattle.seeds.proofs.Instances.{Fit, counts-fit}
 use Rattle.instance.specs.Instance.{Asked, opened, hiding}
 use Rattle.proof.specs.Protocol.{asked, challenged, firstMessage}

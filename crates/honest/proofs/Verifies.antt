@@ -22,11 +22,11 @@ use Rattle.circuit.specs.Circuit.{Circuit}
 use Rattle.mpc.specs.Run.{Transcript}
 use Rattle.mpc.specs.Tapes.{andsOf, rowBytes, usedBits}
 use Rattle.mpc.specs.Showing.{rowsOf, hidden, replayOf}
-use Rattle.seeds.specs.Inputs.{commitmentsInput, onlineInput}
-use Rattle.seeds.specs.Tree.{leavesBelow, openedBelow}
-use Rattle.seeds.specs.Derive.{commitmentOf, tapeRow}
-use Rattle.seeds.proofs.Clearing.{length-tape}
-use Rattle.seeds.proofs.Numbering.{leaf-of-party}
+use Rattle.hashing.specs.Inputs.{commitmentsInput, onlineInput}
+use Rattle.tree.specs.Tree.{leavesBelow, openedBelow}
+use Rattle.party.specs.Derive.{commitmentOf, tapeRow}
+use Rattle.party.proofs.Clearing.{length-tape}
+use Rattle.tree.proofs.Numbering.{leaf-of-party}
 use Rattle.instance.specs.Instance.{hiding, leavesOf, seedsOf, tapesOf, commitmentsDigest, onlineDigest, commitmentsOf, masterSeeds, masterTapes, masterCorrections, masterCommitments}
 use Rattle.instance.specs.Stretch.{stretchBytes, siblingsPart, correctionsPart, commitmentPart, maskedPart, rowPart}
 use Rattle.instance.specs.Opened.{openedSeeds, openedCommitments, openedShowing, openedRun}

@@ -8,8 +8,8 @@ use lib.ListN.{length, take, drop}
 use Rattle.keccak.proofs.Lengths.{length-shake128, length-sha3-256}
 use Rattle.parties.specs.Parties.{isPartyCount}
 use Rattle.circuit.specs.Circuit.{Circuit}
-use Rattle.seeds.specs.Derive.{masterOf}
-use Rattle.seeds.specs.Digest.{transcriptOf}
+use Rattle.party.specs.Derive.{masterOf}
+use Rattle.hashing.specs.Digest.{transcriptOf}
 use Rattle.seeds.specs.Operations.{areCounts}
 use Rattle.instance.specs.Instance.{Asked, stretchOf}
 use Rattle.proof.specs.Protocol.{hstarOf, firstMessage, challenged, responseOf}

@@ -14,9 +14,9 @@ use Rattle.circuit.specs.Circuit.{Circuit}
 use Rattle.mpc.specs.Run.{Transcript}
 use Rattle.mpc.specs.Tapes.{andsOf, rowBytes, usedBits}
 use Rattle.mpc.specs.Showing.{correctionBits, rowBits, hidden, replayOf}
-use Rattle.seeds.specs.Inputs.{commitmentInput, commitmentsInput, onlineInput, allCommitmentsInput, allOnlineInput, transcriptInput}
-use Rattle.seeds.specs.Tree.{leftChild, rightChild, nodeValue}
-use Rattle.seeds.specs.Derive.{seedRow, tapeRow}
+use Rattle.hashing.specs.Inputs.{commitmentInput, commitmentsInput, onlineInput, allCommitmentsInput, allOnlineInput, transcriptInput}
+use Rattle.tree.specs.Tree.{leftChild, rightChild, nodeValue}
+use Rattle.party.specs.Derive.{seedRow, tapeRow}
 use Rattle.instance.specs.Instance.{Asked}
 use Rattle.honest.specs.Response.{Unchosen, Chosen, unchosen, chosen, Response, answered}
 

@@ -20,7 +20,7 @@ use Rattle.circuit.specs.File.{circuitOf}
 use Rattle.mpc.specs.Tapes.{andsOf, withRow}
 use Rattle.mpc.specs.Lent.{Known, Parties}
 use Rattle.mpc.proofs.Opened.{sized, circuit-inputs, circuit-outputs, circuit-ands, circuit-row}
-use Rattle.seeds.specs.Tree.{openedBelow}
+use Rattle.tree.specs.Tree.{openedBelow}
 use Rattle.instance.specs.Instance.{hiding, seedsOf, tapesOf}
 use Rattle.instance.specs.Stretch.{correctionBytes, stretchBytes, siblingsPart, correctionsPart, commitmentPart, maskedPart, rowPart}
 use Rattle.instance.specs.Opened.{openedSeeds, openedShowing, stretchUnused}

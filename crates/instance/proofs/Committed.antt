@@ -20,11 +20,11 @@ use Rattle.keccak.specs.Steps.{turned, byteAt, absorbs, padded, squeezeByte, sq
 use Rattle.keccak.specs.Sponge.{sha3-256}
 use Rattle.keccak.proofs.Absorbing.{Bytes}
 use Rattle.keccak.proofs.Lengths.{length-sha3-256}
-use Rattle.seeds.specs.Inputs.{commitmentInput, ownCorrections, commitmentsInput}
-use Rattle.seeds.specs.Derive.{commitmentOf}
-use Rattle.seeds.specs.Digest.{taken, given}
-use Rattle.seeds.proofs.Hashes.{bytes-append, bytes-one}
-use Rattle.seeds.proofs.Digests.{taken-more, taken-room, given-taken}
+use Rattle.hashing.specs.Inputs.{commitmentInput, ownCorrections, commitmentsInput}
+use Rattle.party.specs.Derive.{commitmentOf}
+use Rattle.hashing.specs.Digest.{taken, given}
+use Rattle.hashing.proofs.Hashes.{bytes-append, bytes-one}
+use Rattle.hashing.proofs.Digests.{taken-more, taken-room, given-taken}
 use Rattle.instance.specs.Instance.{commitmentsDigest}
 use Rattle.instance.proofs.Seeded.{flatten-more}
 

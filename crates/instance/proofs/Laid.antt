@@ -18,8 +18,8 @@ use Rattle.circuit.specs.File.{circuitOf}
 use Rattle.engine.specs.Memory.{packed}
 use Rattle.mpc.specs.Lent.{Known, Parties}
 use Rattle.mpc.proofs.Opened.{sized, circuit-inputs, circuit-outputs, circuit-ands, ands-low}
-use Rattle.seeds.specs.Derive.{commitmentOf}
-use Rattle.seeds.specs.Tree.{siblingsBelow}
+use Rattle.party.specs.Derive.{commitmentOf}
+use Rattle.tree.specs.Tree.{siblingsBelow}
 use Rattle.instance.specs.Instance.{hiding, masterSeeds, masterTapes, masterCorrections, masterRun, masterMasked, sentCorrections, stretchOf}
 use Rattle.instance.specs.Stretch.{correctionBytes, stretchBytes}
 use Rattle.instance.specs.Worked.{worked, Tree}

@@ -21,7 +21,7 @@ use Rattle.mpc.specs.Tapes.{andsOf}
 use Rattle.mpc.specs.Showing.{correctionBits, Showing, rowsOf, replayOf}
 use Rattle.mpc.specs.Lent.{Known, Parties}
 use Rattle.mpc.proofs.Agreement.{replay-rows-agree, replay-output-agrees}
-use Rattle.seeds.specs.Derive.{commitmentOf}
+use Rattle.party.specs.Derive.{commitmentOf}
 use Rattle.instance.specs.Instance.{hiding, tapesOf, commitmentsDigest, onlineDigest, commitmentsOf, masterSeeds, masterTapes, masterCorrections, masterCommitments}
 use Rattle.instance.specs.Stretch.{stretchBytes, correctionsPart, commitmentPart}
 use Rattle.instance.specs.Opened.{openedSeeds, openedCommitments, openedShowing, openedRun, stretchCommitments, stretchOnline, stretchOutput}

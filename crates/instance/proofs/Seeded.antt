@@ -20,9 +20,9 @@ use Rattle.circuit.specs.File.{circuitOf}
 use Rattle.mpc.specs.Tapes.{rowBytes, usedBits}
 use Rattle.mpc.specs.Lent.{Known}
 use Rattle.mpc.proofs.Opened.{sized, circuit-inputs, circuit-ands, circuit-row}
-use Rattle.seeds.specs.Tree.{leavesBelow}
-use Rattle.seeds.specs.Derive.{seedRow}
-use Rattle.seeds.specs.Derive as derive
+use Rattle.tree.specs.Tree.{leavesBelow}
+use Rattle.party.specs.Derive.{seedRow}
+use Rattle.party.specs.Derive as derive
 use Rattle.instance.specs.Instance.{leavesOf, seedsOf, masterSeeds, seedOf, tapesOf}
 use Rattle.instance.specs.Worked.{Tree}
 

@@ -26,7 +26,7 @@ use Rattle.mpc.specs.Lent.{Known, Parties}
 use Rattle.mpc.proofs.Agreement.{show-corrections-agree, show-row-agrees, show-rows-agree}
 use Rattle.mpc.proofs.Opened.{sized, circuit-outputs, circuit-ands, ands-low, room}
 use Rattle.mpc.proofs.Asks.{ands-few}
-use Rattle.seeds.specs.Derive.{commitmentOf}
+use Rattle.party.specs.Derive.{commitmentOf}
 use Rattle.instance.specs.Instance.{tapesOf, commitmentsDigest, onlineDigest, commitmentsOf, masterSeeds, masterTapes, masterCorrections, masterCommitments, masterRun, masterMasked, masterOnline}
 use Rattle.instance.specs.Worked.{broughtIn, worked, Tree}
 

@@ -25,10 +25,10 @@ use Rattle.engine.specs.Steps.{walked, spoken, outputValues}
 use Rattle.mpc.specs.Showing as shown
 use Rattle.mpc.specs.Lent.{Known, Parties}
 use Rattle.mpc.proofs.Agreement.{masked-agrees}
-use Rattle.seeds.specs.Inputs.{onlineInput}
-use Rattle.seeds.specs.Digest.{taken, given}
-use Rattle.seeds.proofs.Hashes.{bytes-append, bytes-one}
-use Rattle.seeds.proofs.Digests.{taken-more, online-more, given-taken}
+use Rattle.hashing.specs.Inputs.{onlineInput}
+use Rattle.hashing.specs.Digest.{taken, given}
+use Rattle.hashing.proofs.Hashes.{bytes-append, bytes-one}
+use Rattle.hashing.proofs.Digests.{taken-more, online-more, given-taken}
 use Rattle.instance.specs.Instance.{onlineDigest}
 use Rattle.instance.specs.Worked.{broughtIn, worked, replayedGates, replayed, replayedValues}
 use Rattle.mpc.proofs.Opened.{sized}

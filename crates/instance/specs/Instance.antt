@@ -14,10 +14,10 @@ use Rattle.circuit.specs.Circuit.{Circuit}
 use Rattle.mpc.specs.Run.{Transcript}
 use Rattle.mpc.specs.Tapes.{rowBytes, usedBits}
 use Rattle.mpc.specs.Showing.{correctionBits, maskedInputs, honestRun, rowBits, rowsOf}
-use Rattle.seeds.specs.Inputs.{commitmentsInput, onlineInput}
-use Rattle.seeds.specs.Tree.{leavesBelow, siblingsBelow}
-use Rattle.seeds.specs.Derive.{seedRow, commitmentOf}
-use Rattle.seeds.specs.Derive as derive
+use Rattle.hashing.specs.Inputs.{commitmentsInput, onlineInput}
+use Rattle.tree.specs.Tree.{leavesBelow, siblingsBelow}
+use Rattle.party.specs.Derive.{seedRow, commitmentOf}
+use Rattle.party.specs.Derive as derive
 
 -- "Leaf i is node n + i": the n leaves of instance j
 unfoldable pub leavesOf : ℕ → ℕ → List ℕ → List ℕ

@@ -12,8 +12,8 @@ use Rattle.circuit.specs.Circuit.{Circuit}
 use Rattle.mpc.specs.Run.{Transcript}
 use Rattle.mpc.specs.Tapes.{andsOf}
 use Rattle.mpc.specs.Showing.{rowsOf, hidden, Showing, replayOf}
-use Rattle.seeds.specs.Tree.{openedBelow}
-use Rattle.seeds.specs.Derive.{commitmentOf}
+use Rattle.tree.specs.Tree.{openedBelow}
+use Rattle.party.specs.Derive.{commitmentOf}
 use Rattle.instance.specs.Instance.{Asked, opened, hiding, seedsOf, tapesOf, commitmentsDigest, onlineDigest, masterCommitments}
 use Rattle.instance.specs.Stretch.{sentMaster, sentOnline, siblingsPart, correctionsPart, commitmentPart, maskedPart, rowPart}
 

@@ -6,13 +6,13 @@ ghost use Prim.Native.Nat.{_*_, _≤_};
 ghost use lib.Dec.{eqb};
 ghost use lib.ListN.{length};
 ghost use Rattle.bits.specs.Bits.{tabulate};
-ghost use Rattle.seeds.specs.Derive.{commitmentOf};
+ghost use Rattle.party.specs.Derive.{commitmentOf};
 ghost use Rattle.instance.specs.Instance.{commitmentsDigest};
 use crate::Instance;
 use keccak::SHA3_256_RATE;
-use seeds::digest::finish;
-use seeds::digest::start_commitments;
-use seeds::party::commitment;
+use hashing::finish;
+use hashing::start_commitments;
+use party::commitment;
 
 // h_j over the commitments of n parties; `theirs` stands for party p's (n for none).
 pub fn commit(inst: Instance, p: u32, theirs: &[u8], seeds: &[u8], corrections: &[u8]) -> [u8; 32]

@@ -5,16 +5,16 @@ ghost use lib.ListN.{length};
 ghost use Rattle.bits.specs.Bits.{oct};
 ghost use Rattle.circuit.specs.File.{circuitOf};
 ghost use Rattle.mpc.specs.Lent.{Known, TapesFit};
-ghost use Rattle.seeds.specs.Tree.{openedBelow};
+ghost use Rattle.tree.specs.Tree.{openedBelow};
 ghost use Rattle.instance.specs.Instance.{seedsOf, masterSeeds, tapesOf};
 ghost use Rattle.instance.specs.Worked.{Tree};
 use crate::Instance;
 use circuit::Sizes;
 use mpc::tests::used_bits;
-use seeds::party::seed_row;
-use seeds::party::tape;
-use seeds::tree::leaves_below;
-use seeds::tree::opened_below;
+use party::seed_row;
+use party::tape;
+use tree::leaves_below;
+use tree::opened_below;
 
 // The seed and r of each of n parties, from the leaves.
 pub fn seed_rows(inst: Instance, leaves: &[u8], seeds: &mut [u8])

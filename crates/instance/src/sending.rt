@@ -19,8 +19,8 @@ use crate::working::work;
 use bits::copy;
 use circuit::Sizes;
 use engine::memory::pack;
-use seeds::party::commitment;
-use seeds::tree::siblings_below;
+use party::commitment;
+use tree::siblings_below;
 
 // Runs instance j on the witness from its master: its seeds, corrections and masked inputs, and its work memory.
 pub fn from_master(

@@ -19,9 +19,9 @@ use engine::memory::load_tapes;
 use engine::memory::mask_inputs;
 use engine::memory::pack;
 use engine::memory::unpack;
+use hashing::finish;
+use hashing::start_online;
 use keccak::SHA3_256_RATE;
-use seeds::digest::finish;
-use seeds::digest::start_online;
 
 // Runs the circuit on the witness, its corrections made, and packs the masked inputs.
 pub fn work(

@@ -11,9 +11,9 @@ use Rattle.parties.specs.Parties.{heightOf, isPartyCount}
 use Rattle.circuit.specs.Circuit.{ands}
 use Rattle.circuit.specs.File.{legal, withinLimits, rightLength, goodRecord, goodRecords, walks, goodChain, chainFrom, gateAt, gatesInOrder, readsWritten, goodOutputs, goodWires, circuitOf, readCircuit}
 use Rattle.circuit.specs.Operations.{success}
-use Rattle.seeds.specs.Challenge.{streamOf, instances, hiddenParties, Ascending, more, Sound}
+use Rattle.choice.specs.Challenge.{streamOf, instances, hiddenParties, Ascending, more, Sound}
 use Rattle.seeds.specs.Operations.{areCounts}
-use Rattle.seeds.proofs.Challenges.{challenge-sound}
+use Rattle.choice.proofs.Challenges.{challenge-sound}
 use Rattle.proof.specs.Protocol.{firstMessage, asked, challenged}
 use Rattle.proof.specs.File.{proofBytes, proofRoom}
 use Rattle.proof.specs.Prove.{proveOp}

@@ -13,7 +13,7 @@ use Rattle.circuit.specs.File.{circuitOf}
 use Rattle.circuit.specs.Operations.{Answer, refusal, success, readOp}
 use Rattle.mpc.specs.Showing.{Showing}
 use Rattle.mpc.specs.Operations.{Outcome, done, prepareOp, runOp, showOp}
-use Rattle.seeds.specs.Challenge.{streamOf, hiddenParties}
+use Rattle.choice.specs.Challenge.{streamOf, hiddenParties}
 use Rattle.proof.specs.Protocol.{firstMessage, asked}
 use Rattle.proof.specs.File.{proofBytes}
 use Rattle.proof.specs.Prove.{proveOp}

@@ -11,10 +11,10 @@ use lib.ListN.{length, getD}
 use Rattle.bits.specs.Bytes.{leBytes}
 use Rattle.parties.specs.Parties.{isPartyCount}
 use Rattle.seeds.specs.declared.Answer.{Answer}
-use Rattle.seeds.specs.Inputs.{boundOf}
-use Rattle.seeds.specs.Challenge.{streamOf, instances, hiddenParties, beside, challengeOf, Ascending, more}
+use Rattle.hashing.specs.Inputs.{boundOf}
+use Rattle.choice.specs.Challenge.{streamOf, instances, hiddenParties, beside, challengeOf, Ascending, more}
 use Rattle.seeds.specs.Operations.{Outcome, outcome, areCounts, challengeOp}
-use Rattle.seeds.proofs.Challenges.{challenge-sound}
+use Rattle.choice.proofs.Challenges.{challenge-sound}
 use Rattle.seeds.proofs.Instances.{Fit, counts-fit}
 use Rattle.instance.specs.Instance.{hiding}
 use Rattle.proof.specs.Protocol.{asked, challenged}

@@ -9,7 +9,7 @@ use Rattle.bits.proofs.Little.{leBytes-lt}
 use Rattle.permutation.specs.Permutation.{rounds, fromString, lanes, laneBytes, toString, keccakF}
 use Rattle.keccak.specs.Sponge.{xorInto, absorbBlocks, squeezeBlocks, padding, sponge, sha3-256, shake128, shake256}
 use Rattle.keccak.proofs.Absorbing.{Bytes}
-use Rattle.seeds.proofs.Hashes.{bytes-append}
+use Rattle.hashing.proofs.Hashes.{bytes-append}
 
 -- the string of lanes
 lanes-bytes : (l : List ℕ) → Bytes (laneBytes l)

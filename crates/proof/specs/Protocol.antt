@@ -7,10 +7,10 @@ use lib.Dec.{eqb}
 use Rattle.bits.specs.Bits.{tabulate}
 use Rattle.keccak.specs.Sponge.{sha3-256}
 use Rattle.circuit.specs.Circuit.{Circuit}
-use Rattle.seeds.specs.Inputs.{allCommitmentsInput, allOnlineInput, boundOf}
-use Rattle.seeds.specs.Derive.{masterOf}
-use Rattle.seeds.specs.Digest.{transcriptOf}
-use Rattle.seeds.specs.Challenge.{streamOf, instances, hiddenParties}
+use Rattle.hashing.specs.Inputs.{allCommitmentsInput, allOnlineInput, boundOf}
+use Rattle.party.specs.Derive.{masterOf}
+use Rattle.hashing.specs.Digest.{transcriptOf}
+use Rattle.choice.specs.Challenge.{streamOf, instances, hiddenParties}
 use Rattle.instance.specs.Instance.{Asked, opened, hiding, masterCommitments, masterOnline, stretchOf}
 
 -- "9: h over (9, all h_j). 10: h' over (10, all h'_j). 11: h* over (11, h, h')", of M instances

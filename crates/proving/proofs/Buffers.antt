@@ -14,9 +14,9 @@ use Rattle.parties.specs.Parties.{heightOf}
 use Rattle.circuit.specs.Circuit.{Circuit}
 use Rattle.circuit.specs.File.{circuitOf}
 use Rattle.circuit.specs.declared.Sizes.{Sizes}
-use Rattle.seeds.specs.Inputs.{boundOf}
-use Rattle.seeds.specs.Challenge.{challengeOf}
-use Rattle.seeds.specs.Digest.{transcriptOf}
+use Rattle.hashing.specs.Inputs.{boundOf}
+use Rattle.choice.specs.Challenge.{challengeOf}
+use Rattle.hashing.specs.Digest.{transcriptOf}
 use Rattle.seeds.specs.Operations.{outcome, challengeOp}
 use Rattle.seeds.specs.declared.Answer.{Answer}
 use Rattle.seeds.proofs.Instances.{counts-fit}

@@ -16,11 +16,11 @@ use Rattle.keccak.proofs.Steps.{squeezes-length}
 use Rattle.keccak.proofs.Lengths.{length-sha3-256}
 use Rattle.circuit.specs.Circuit.{Circuit}
 use Rattle.mpc.specs.Showing.{rowsOf}
-use Rattle.seeds.specs.Inputs.{commitmentsInput, onlineInput, allCommitmentsInput, allOnlineInput}
-use Rattle.seeds.specs.Derive.{masterOf}
-use Rattle.seeds.specs.Digest.{taken, given, transcriptOf}
-use Rattle.seeds.proofs.Hashes.{bytes-append, bytes-one}
-use Rattle.seeds.proofs.Digests.{taken-more, taken-room, given-taken, all-online-more}
+use Rattle.hashing.specs.Inputs.{commitmentsInput, onlineInput, allCommitmentsInput, allOnlineInput}
+use Rattle.party.specs.Derive.{masterOf}
+use Rattle.hashing.specs.Digest.{taken, given, transcriptOf}
+use Rattle.hashing.proofs.Hashes.{bytes-append, bytes-one}
+use Rattle.hashing.proofs.Digests.{taken-more, taken-room, given-taken, all-online-more}
 use Rattle.instance.specs.Instance.{commitmentsDigest, onlineDigest, commitmentsOf, masterSeeds, masterCorrections, masterCommitments, masterRun, masterMasked, masterOnline}
 use Rattle.instance.specs.Worked.{Lent}
 use Rattle.instance.proofs.Seeded.{flatten-more}

@@ -13,7 +13,7 @@ use Rattle.bits.proofs.Rows.{row-inside, row-tabulate}
 use Rattle.bits.proofs.Numbers.{lt-or-le}
 use Rattle.parties.specs.Parties.{heightOf}
 use Rattle.circuit.specs.Circuit.{Circuit}
-use Rattle.seeds.specs.Derive.{masterOf}
+use Rattle.party.specs.Derive.{masterOf}
 use Rattle.instance.specs.Instance.{Asked, opened, hiding, masterOnline, stretchOf}
 use Rattle.instance.specs.Stretch.{stretchBytes}
 use Rattle.instance.specs.Worked.{Tree}

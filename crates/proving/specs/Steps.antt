@@ -10,7 +10,7 @@ use Rattle.circuit.specs.Circuit.{Circuit}
 use Rattle.circuit.specs.File.{circuitOf}
 use Rattle.circuit.specs.declared.Sizes.{Sizes}
 use Rattle.mpc.specs.Lent.{WitnessFits}
-use Rattle.seeds.specs.Derive.{masterOf}
+use Rattle.party.specs.Derive.{masterOf}
 use Rattle.seeds.specs.Operations.{maxInstances, maxMessage, areCounts}
 use Rattle.instance.specs.Instance.{masterOnline}
 use Rattle.proof.specs.File.{headerBytes, proofBytes, proofRoom}

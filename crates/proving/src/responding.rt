@@ -4,7 +4,7 @@ ghost use Prim.Native.Nat.{_+_, _*_, _≤_};
 ghost use lib.ListN.{length, take};
 ghost use Rattle.circuit.specs.File.{circuitOf};
 ghost use Rattle.mpc.specs.Lent.{WitnessFits};
-ghost use Rattle.seeds.specs.Derive.{masterOf};
+ghost use Rattle.party.specs.Derive.{masterOf};
 ghost use Rattle.seeds.specs.Operations.{maxInstances};
 ghost use Rattle.instance.specs.Instance.{masterOnline, stretchOf};
 ghost use Rattle.instance.specs.Stretch.{stretchBytes};
@@ -20,11 +20,11 @@ use instance::sending::send;
 use keccak::SHA3_256_RATE;
 use proof::asking::asked;
 use proof::asking::stretch_bytes;
-use seeds::digest::finish;
-use seeds::digest::start_all_commitments;
-use seeds::digest::start_all_online;
-use seeds::digest::transcript;
-use seeds::party::master;
+use hashing::finish;
+use hashing::start_all_commitments;
+use hashing::start_all_online;
+use hashing::transcript;
+use party::master;
 
 // Round 1: h*, from the digests of all m instances; `onlines` takes the h'_j, one after the other.
 pub(crate) fn first(

@@ -1,12 +1,1 @@
-pub mod Copies
-pub mod Hashes
-pub mod Nodes
-pub mod Lengths
-pub mod Opening
-pub mod Streams
-pub mod Choosing
 pub mod Instances
-pub mod Digests
-pub mod Challenges
-pub mod Clearing
-pub mod Numbering

@@ -12,9 +12,9 @@ use Rattle.refusal.specs.declared.Refusal.the-variants.{BufferLength, Parameter
 use Rattle.parties.specs.Parties.{heightOf, isPartyCount}
 use Rattle.seeds.specs.declared.Answer.{Answer}
 use Rattle.seeds.specs.declared.Answer.the-variants.{Done, Refused}
-use Rattle.seeds.specs.Inputs.{boundOf}
-use Rattle.seeds.specs.Tree.{leavesBelow, siblingsBelow}
-use Rattle.seeds.specs.Challenge.{challengeOf}
+use Rattle.hashing.specs.Inputs.{boundOf}
+use Rattle.tree.specs.Tree.{leavesBelow, siblingsBelow}
+use Rattle.choice.specs.Challenge.{challengeOf}
 
 -- an operation's outcome: 0 or the refusal's number, and the lent buffer
 pub record Outcome : Type 0 where

@@ -1,13 +1,6 @@
-// Seeds and digests of document 01: the tree of an instance, what follows from a leaf, the challenge.
+// The operations on seeds of document 01: expand a tree, open it, derive a challenge.
 ghost use mathlib.Core.Path.{_≡_};
 ghost use Rattle.seeds.specs.Operations.{outcome, areCounts, expandOp, openOp, challengeOp};
-
-mod choice;
-pub mod digest;
-mod hash;
-pub mod party;
-pub mod tree;
-
 use choice::derive;
 use parties::height;
 use refusal::Refusal;

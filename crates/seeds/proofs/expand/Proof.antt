@@ -1,7 +1,7 @@
 -- `seeds::expand` meets its contract: each refusal in order, and the leaves.
 -- Assumes nothing.
 use mathlib.Core.List.{List}
-use Rattle.seeds.specs.Tree.{leavesBelow}
+use Rattle.tree.specs.Tree.{leavesBelow}
 use borrow.Author.Tests.{lt-leb, le-leb, eq-eqb, ne-eqb}
 use Rattle.seeds.specs.Operations.{expandOp}
 use Rattle.parties.proofs.Counts.{sizes, count-yes, count-no}

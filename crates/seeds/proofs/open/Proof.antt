@@ -1,7 +1,7 @@
 -- `seeds::open` meets its contract: each refusal in order, and the siblings.
 -- Assumes nothing.
 use mathlib.Core.List.{List}
-use Rattle.seeds.specs.Tree.{siblingsBelow}
+use Rattle.tree.specs.Tree.{siblingsBelow}
 use borrow.Author.Tests.{lt-leb, le-leb, lt-ltb, le-ltb, eq-eqb, ne-eqb}
 use Rattle.parties.specs.Parties.{heightOf}
 use Rattle.seeds.specs.Operations.{openOp}

@@ -8,8 +8,8 @@ use native.Mathlib.Omega.{arith}
 use lib.ListN.{length}
 use Rattle.bits.specs.Bits.{tabulate}
 use Rattle.circuit.specs.File.{circuitOf}
-use Rattle.seeds.specs.Inputs.{allCommitmentsInput, allOnlineInput}
-use Rattle.seeds.specs.Digest.{taken}
+use Rattle.hashing.specs.Inputs.{allCommitmentsInput, allOnlineInput}
+use Rattle.hashing.specs.Digest.{taken}
 use Rattle.instance.specs.Opened.{stretchCommitments, stretchOnline, stretchOutput}
 use Rattle.proof.specs.Asks.{askOf, asksIn}
 use Rattle.proof.specs.File.{stretchStart}

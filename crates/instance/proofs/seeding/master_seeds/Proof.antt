@@ -4,7 +4,7 @@ use mathlib.Core.Path.{sym, _∙_}
 use native.Mathlib.Omega.{arith}
 use lib.ListN.{length-replicate}
 use Prim.Native.Nat.{ℕ}
-use Rattle.seeds.specs.Tree.{leavesBelow}
+use Rattle.tree.specs.Tree.{leavesBelow}
 use Rattle.instance.proofs.Seeded.{tree-few, front, front-leaves, tree-small, written-fits, written-length, seeds-made, master-made}
 use Rattle.instance.proofs.seeding.master_seeds.Statement.{statement}
 use Rattle.instance.proofs.seeding.master_seeds.Tie as tie

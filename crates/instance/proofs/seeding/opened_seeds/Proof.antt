@@ -4,7 +4,7 @@ use mathlib.Core.Path.{sym, _∙_}
 use native.Mathlib.Omega.{arith}
 use lib.ListN.{length-replicate}
 use Prim.Native.Nat.{ℕ}
-use Rattle.seeds.specs.Tree.{openedBelow}
+use Rattle.tree.specs.Tree.{openedBelow}
 use Rattle.instance.proofs.Seeded.{tree-few, tree-leaves, front, front-leaves, tree-small, written-fits, written-length, seeds-made}
 use Rattle.instance.proofs.seeding.opened_seeds.Statement.{statement}
 use Rattle.instance.proofs.seeding.opened_seeds.Tie as tie

@@ -11,7 +11,7 @@ use Rattle.bits.proofs.Rows.{row-fits}
 use Rattle.circuit.specs.File.{circuitOf}
 use Rattle.mpc.specs.Tapes.{rowBytes, usedBits}
 use Rattle.mpc.proofs.Opened.{ands-low}
-use Rattle.seeds.specs.Derive.{tapeRow}
+use Rattle.party.specs.Derive.{tapeRow}
 use Rattle.instance.specs.Instance.{seedOf}
 use Rattle.instance.proofs.Seeded.{part-length, rows-none, rows-turn, seed-fits, tape-made, tapes-end}
 use Rattle.instance.proofs.seeding.tape_rows.Statement.{statement}

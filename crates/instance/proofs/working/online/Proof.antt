@@ -7,9 +7,9 @@ use Prim.Native.Nat.{ℕ, _-_, _≤_}
 use lib.ListN.{length, length-replicate}
 use Rattle.bits.specs.Bits.{tabulate}
 use Rattle.engine.specs.Memory.{saidAt, packed}
-use Rattle.seeds.specs.Inputs.{onlineInput}
-use Rattle.seeds.specs.Digest.{taken}
-use Rattle.seeds.proofs.Digests.{taken-room}
+use Rattle.hashing.specs.Inputs.{onlineInput}
+use Rattle.hashing.specs.Digest.{taken}
+use Rattle.hashing.proofs.Digests.{taken-room}
 use Rattle.instance.proofs.Works.{part-length, put-inside, put-taken, put-length, online-begins, online-turn, online-ends}
 use Rattle.instance.proofs.working.online.Statement.{statement}
 use Rattle.instance.proofs.working.online.Tie as tie

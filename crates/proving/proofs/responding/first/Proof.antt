@@ -8,9 +8,9 @@ use borrow.Rule.Slice.PartMut.{same-len-mid}
 use lib.ListN.{length, take}
 use Rattle.bits.specs.Bits.{tabulate}
 use Rattle.circuit.specs.File.{circuitOf}
-use Rattle.seeds.specs.Inputs.{allCommitmentsInput, allOnlineInput}
-use Rattle.seeds.specs.Digest.{taken}
-use Rattle.seeds.proofs.Digests.{taken-more}
+use Rattle.hashing.specs.Inputs.{allCommitmentsInput, allOnlineInput}
+use Rattle.hashing.specs.Digest.{taken}
+use Rattle.hashing.proofs.Digests.{taken-more}
 use Rattle.instance.specs.Instance.{masterCommitments, masterOnline}
 use Rattle.instance.proofs.Seeded.{part-length, rows-none, rows-turn}
 use Rattle.honest.proofs.Written.{length-master}

@@ -8,7 +8,7 @@ use Prim.Native.Nat.{ℕ, _+_, _-_, _*_, _≤_}
 use borrow.Rule.Slice.PartMut.{same-len-mid, mid-len}
 use lib.ListN.{length, take, drop}
 use Rattle.circuit.specs.File.{circuitOf}
-use Rattle.seeds.specs.Derive.{masterOf}
+use Rattle.party.specs.Derive.{masterOf}
 use Rattle.instance.specs.Instance.{stretchOf}
 use Rattle.proof.specs.Protocol.{responseOf}
 use Rattle.proof.specs.Asks.{askOf, asksIn}

@@ -1,0 +1,148 @@
+// The challenge: its stream, the instances that it chooses, and their hidden parties.
+// The stream is given out byte by byte by a sponge, which is handed on after each byte.
+ghost use mathlib.Core.Path.{_≡_};
+ghost use mathlib.Core.Bool.{false};
+ghost use mathlib.Core.List.{[], _∷_, _++_};
+ghost use lib.Seq.{sets};
+ghost use Rattle.bits.specs.Bytes.{leBytes};
+ghost use Prim.Native.Nat.{_+_, _*_, _≤_, _<_};
+ghost use lib.ListN.{length, replicate};
+ghost use Rattle.keccak.specs.Steps.{absorbs, squeezes, squeezed};
+ghost use Rattle.hashing.specs.Inputs.{boundOf, challengeInput};
+ghost use Rattle.choice.specs.Challenge.{choose as «choose-at», drawn, chosenFrom, partiesOf, instances, hiddenParties, beside, challengeOf};
+ghost use Rattle.choice.specs.Steps.{ready, numberFrom};
+use keccak::SHAKE_FIRST;
+use keccak::SHAKE256_RATE;
+use keccak::sponge::Sponge;
+
+// A number given out, and the sponge after it.
+struct Number {
+    sponge: Sponge,
+    value: u64,
+}
+
+// Takes in what the challenge is bound to: the message's length as u16, and the message.
+fn absorb_bound(sponge: Sponge, message: &[u8]) -> Sponge
+    requires { ⌜ sponge .fill < 136 ⌝ }
+    ensures { λ r. ⌜ r ≡ absorbs 136 sponge (boundOf (now (message .entry))) ⌝ }
+{
+    let n = message.len();
+    let size = [(n % 256) as u8, (n / 256 % 256) as u8];
+    sponge
+        .absorb(SHAKE256_RATE, &size)
+        .absorb(SHAKE256_RATE, message)
+}
+
+// The sponge that is ready to give out the stream.
+fn stream(hstar: &[u8], message: &[u8]) -> Sponge
+    ensures { λ r. ⌜ r ≡ ready (challengeInput (now (hstar .entry)) (boundOf (now (message .entry)))) ⌝ }
+{
+    let s = Sponge::new()
+        .absorb_byte(SHAKE256_RATE, 6)
+        .absorb(SHAKE256_RATE, hstar);
+    absorb_bound(s, message).pad(SHAKE256_RATE, SHAKE_FIRST)
+}
+
+// The next 8 bytes as a number.
+fn next_number(sponge: Sponge) -> Number
+    requires { ⌜ sponge .fill ≤ 136 ⌝ }
+    ensures { λ r. ⌜ r ≡ numberFrom sponge ⌝ }
+{
+    let mut s = sponge;
+    let mut bytes = [0u8; 8];
+    let mut i = 0;
+    while i < 8 {
+        let given = s.squeeze_byte(SHAKE256_RATE);
+        bytes[i] = given.byte;
+        s = given.sponge;
+        i += 1;
+    }
+    Number {
+        sponge: s,
+        value: bits::read_u64(&bytes, 0),
+    }
+}
+
+// Chooses the instance at place x among those not yet chosen, ascending.
+fn choose(flags: &mut [bool], x: usize)
+    ensures { λ _. ⌜ now (flags .exit) ≡ «choose-at» x (now (flags .entry)) ⌝ }
+{
+    let mut left = x;
+    let mut i = 0;
+    while i < flags.len() {
+        if !flags[i] {
+            if left == 0 {
+                flags[i] = true;
+                return;
+            }
+            left -= 1;
+        }
+        i += 1;
+    }
+}
+
+// Makes tau draws from the stream: the flags of the chosen instances. Hands back the sponge after them.
+fn draw(tau: usize, sponge: Sponge, flags: &mut [bool]) -> Sponge
+    requires { ⌜ (sponge .fill ≤ 136) × ((tau ≤ length (now flags)) × (now flags ≡ replicate (length (now flags)) false)) ⌝ }
+    ensures flags { λ _. ⌜ now (flags .exit) ≡ drawn (length (now (flags .entry))) (squeezes 136 (9 * tau) sponge) tau ⌝ }
+    ensures sponge { λ r. ⌜ r ≡ squeezed 136 (8 * tau) sponge ⌝ }
+{
+    let m = flags.len();
+    let mut s = sponge;
+    let mut t = 0;
+    while t < tau {
+        let number = next_number(s);
+        let x = number.value % ((m - t) as u64);
+        choose(flags, x as usize);
+        s = number.sponge;
+        t += 1;
+    }
+    s
+}
+
+// Writes an instance as u16 and its hidden party as u8.
+fn write_choice(out: &mut [u8], at: usize, i: usize, p: u8)
+    requires { ⌜ (at + 3 ≤ length (now out)) × (i < 65536) ⌝ }
+    ensures { λ _. ⌜ now (out .exit) ≡ sets (now (out .entry)) at (leBytes 2 i ++ (p ∷ [])) ⌝ }
+{
+    bits::write_u16(out, at, i as u16);
+    out[at + 2] = p;
+}
+
+// Writes the chosen instances, ascending, each with its hidden party by the stream's next byte.
+fn write_chosen(flags: &[bool], n: u8, sponge: Sponge, out: &mut [u8])
+    requires { ⌜ (sponge .fill ≤ 136) × ((0 < n) × ((length (now flags) ≤ 65536) × (length (now out) ≡ 3 * length (chosenFrom 0 (now flags))))) ⌝ }
+    ensures { λ _. ⌜ now (out .exit) ≡ beside (chosenFrom 0 (now (flags .entry))) (partiesOf n (squeezes 136 (length (chosenFrom 0 (now (flags .entry)))) sponge)) ⌝ }
+{
+    let mut s = sponge;
+    let mut c = 0;
+    let mut i = 0;
+    while i < flags.len() {
+        if flags[i] {
+            let given = s.squeeze_byte(SHAKE256_RATE);
+            write_choice(out, 3 * c, i, given.byte % n);
+            s = given.sponge;
+            c += 1;
+        }
+        i += 1;
+    }
+}
+
+// The chosen instances with their hidden parties, from the stream; the flags are lent, none of them set.
+fn choose_with(tau: usize, n: u8, sponge: Sponge, flags: &mut [bool], out: &mut [u8])
+    requires { ⌜ (sponge .fill ≤ 136) × ((length (now flags) ≤ 512) × ((tau ≤ length (now flags)) × ((0 < n) × ((length (now out) ≡ 3 * tau) × (now flags ≡ replicate (length (now flags)) false))))) ⌝ }
+    ensures { λ _. ⌜ now (out .exit) ≡ beside (instances (length (now (flags .entry))) tau (squeezes 136 (9 * tau) sponge)) (hiddenParties tau n (squeezes 136 (9 * tau) sponge)) ⌝ }
+{
+    let s = draw(tau, sponge, flags);
+    write_chosen(flags, n, s, out);
+}
+
+// The challenge of tau among m instances and n parties.
+pub fn derive(m: usize, tau: usize, n: u8, hstar: &[u8], message: &[u8], out: &mut [u8])
+    requires { ⌜ (m ≤ 512) × ((tau < m) × ((0 < n) × (length (now out) ≡ 3 * tau))) ⌝ }
+    ensures { λ _. ⌜ now (out .exit) ≡ challengeOf m tau n (now (hstar .entry)) (boundOf (now (message .entry))) ⌝ }
+{
+    let s = stream(hstar, message);
+    let mut flags = [false; 512];
+    choose_with(tau, n, s, &mut flags[..m], out);
+}

@@ -1,0 +1,30 @@
+-- What follows from the root, a leaf and a seed. Document 01, "Seeds and digests".
+-- Assumes nothing.
+use mathlib.Core.List.{List, [], _∷_}
+use Prim.Native.Nat.{ℕ, _-_, _%_, _^_, min}
+use lib.ListN.{take, drop}
+use Rattle.bits.specs.Bytes.{rowOf}
+use Rattle.keccak.specs.Sponge.{shake128, sha3-256}
+use Rattle.hashing.specs.Inputs.{masterInput, leafInput, tapeInput, commitmentInput}
+
+-- "the master of j is 16 bytes of SHAKE128(5, j, root)"
+unfoldable pub masterOf : ℕ → List ℕ → List ℕ
+masterOf j root = shake128 (masterInput j root) 16
+
+-- "SHAKE128(3, j, i, leaf) gives seed (16) and r (16)": the seed, then r
+unfoldable pub seedRow : ℕ → ℕ → List ℕ → List ℕ
+seedRow j i leaf = shake128 (leafInput j i leaf) 32
+
+-- the bytes with every bit from bit k on cleared
+unfoldable pub clearFrom : ℕ → List ℕ → List ℕ
+clearFrom k [] = []
+clearFrom k (x ∷ s) = x % 2 ^ min k 8 ∷ clearFrom (k - 8) s
+
+-- "the tape row is SHAKE128(4, j, i, seed), unused bits cleared": a row of len bytes, of which the first k bits are used
+unfoldable pub tapeRow : ℕ → ℕ → List ℕ → ℕ → ℕ → List ℕ
+tapeRow j i seed k len = clearFrom k (shake128 (tapeInput j i seed) len)
+
+-- "com = SHA3-256(1, j, i, seed, corrections if i = n − 1, r)", the seed and r being row i of the flat buffer of rows
+unfoldable pub commitmentOf : ℕ → ℕ → ℕ → List ℕ → List ℕ → List ℕ
+commitmentOf j n i rows corrections =
+    sha3-256 (commitmentInput j n i (take 16 (rowOf rows 32 i)) corrections (drop 16 (rowOf rows 32 i)))

@@ -1,0 +1,65 @@
+// What a party has in an instance: its seed and r from its leaf, its tape row from its seed, its commitment.
+ghost use mathlib.Core.Path.{_≡_};
+ghost use Prim.Native.Nat.{_+_, _*_, _≤_, _<_};
+ghost use lib.ListN.{length};
+ghost use Rattle.party.specs.Derive.{masterOf, seedRow, clearFrom, tapeRow, commitmentOf};
+use bits::clear;
+use hashing::finish;
+use hashing::shake128;
+use keccak::SHA3_256_RATE;
+use keccak::sponge::Sponge;
+
+// The master of instance j, from the root.
+pub fn master(j: u32, root: &[u8], out: &mut [u8])
+    requires { ⌜ length (now out) ≡ 16 ⌝ }
+    ensures { λ _. ⌜ now (out .exit) ≡ masterOf j (now (root .entry)) ⌝ }
+{
+    let head = [(j % 256) as u8, (j / 256 % 256) as u8];
+    shake128(5, &head, root, out);
+}
+
+// The seed of party i and its r, from its leaf.
+pub fn seed_row(j: u32, i: u32, leaf: &[u8], out: &mut [u8])
+    requires { ⌜ length (now out) ≡ 32 ⌝ }
+    ensures { λ _. ⌜ now (out .exit) ≡ seedRow j i (now (leaf .entry)) ⌝ }
+{
+    let head = [(j % 256) as u8, (j / 256 % 256) as u8, (i % 256) as u8];
+    shake128(3, &head, leaf, out);
+}
+
+// Clears every bit from bit k on.
+fn clear_from(s: &mut [u8], k: usize)
+    ensures { λ _. ⌜ now (s .exit) ≡ clearFrom k (now (s .entry)) ⌝ }
+{
+    let at = k / 8;
+    if at < s.len() {
+        s[at] = s[at] % (1u8 << ((k % 8) as u8));
+        let next = at + 1;
+        clear(&mut s[next..]);
+    }
+}
+
+// The tape row of party i, from its seed: the first k bits are used.
+pub fn tape(j: u32, i: u32, seed: &[u8], k: usize, row: &mut [u8])
+    ensures { λ _. ⌜ now (row .exit) ≡ tapeRow j i (now (seed .entry)) k (length (now (row .entry))) ⌝ }
+{
+    let head = [(j % 256) as u8, (j / 256 % 256) as u8, (i % 256) as u8];
+    shake128(4, &head, seed, row);
+    clear_from(row, k);
+}
+
+// The commitment of party i of n; row i of the rows is its seed and its r.
+pub fn commitment(j: u32, n: u32, i: u32, rows: &[u8], corrections: &[u8]) -> [u8; 32]
+    requires { ⌜ (i < 256) × (i * 32 + 32 ≤ length (now rows)) ⌝ }
+    ensures { λ r. ⌜ r ≡ commitmentOf j n i (now (rows .entry)) (now (corrections .entry)) ⌝ }
+{
+    let head = [(j % 256) as u8, (j / 256 % 256) as u8, (i % 256) as u8];
+    let row = bits::row(rows, 32, i as usize);
+    let own = if i + 1 == n { corrections.len() } else { 0 };
+    let s = Sponge::new()
+        .absorb_byte(SHA3_256_RATE, 1)
+        .absorb(SHA3_256_RATE, &head)
+        .absorb(SHA3_256_RATE, &row[..16])
+        .absorb(SHA3_256_RATE, &corrections[..own]);
+    finish(s.absorb(SHA3_256_RATE, &row[16..]))
+}
