@@ -18,11 +18,10 @@ use Rattle.circuit.specs.Circuit.{Circuit, evaluate}
 use Rattle.circuit.specs.Operations.{success}
 use Rattle.mpc.specs.Operations.{holds}
 use Rattle.hiding.specs.Hiding.{Witness}
-use Rattle.party.specs.Derive.{masterOf}
 use Rattle.seeds.specs.Operations.{areCounts}
 use Rattle.seeds.proofs.Instances.{Fit, counts-fit}
 use Rattle.instance.specs.Instance.{Asked, masterCommitments, masterOnline, stretchOf}
-use Rattle.proof.specs.Protocol.{hstarOf, firstMessage, challenged}
+use Rattle.proof.specs.Protocol.{hstarOf, mastersOf, firstMessage, challenged}
 use Rattle.proof.specs.File.{headerM, headerTau, headerN, headerHstar, goodHeader}
 use Rattle.proof.specs.Prove.{proofOf, witnesses}
 use Rattle.instance.specs.Opened.{openedRun}
@@ -51,17 +50,17 @@ unfolding checkLegal
 legal-accepts c y message proof M tau n h eM et en eh a b d e = rw (a, b, d, eM, et, en, eh) e
 
 -- an honest proof, from a witness of y and with counts in their limits
-module _ (c : Circuit) (M tau n : ℕ) (witness message root y : List ℕ) (hw : Witness c witness) (hy : pack (evaluate c (bitAt witness)) ≡ y)
+module _ (c : Circuit) (M tau n : ℕ) (witness message : List ℕ) (masters : ℕ → List ℕ) (sizes : (j : ℕ) → length (masters j) ≡ 16) (y : List ℕ) (hw : Witness c witness) (hy : pack (evaluate c (bitAt witness)) ≡ y)
     (counts : areCounts M tau ≡ true) (parties : isPartyCount n ≡ true) where
   -- its first message, its challenge, and the proof
   abbrev hstar : List ℕ
-  hstar = firstMessage c M n witness root
+  hstar = firstMessage c M n witness masters
 
   abbrev ask : ℕ → Asked
   ask = challenged M tau n hstar message
 
   abbrev proof : List ℕ
-  proof = proofOf c M tau n witness message root
+  proof = proofOf c M tau n witness message masters
 
   -- the counts are in their limits
   fit : Fit M tau
@@ -78,17 +77,17 @@ module _ (c : Circuit) (M tau n : ℕ) (witness message root y : List ℕ) (hw :
   honest : ProofTests c y proof (headerHstar proof) M n ask
   unfolding firstMessage
   honest = record {
-    size = length-proof c M tau n witness message root;
-    unused = λ j h. rw (stretch-there c M tau n witness message root j h) (unused-given c n j height witness (masterOf j root) (length-master j root) (ask j) (below j));
+    size = length-proof c M tau n witness message masters sizes;
+    unused = λ j h. rw (stretch-there c M tau n witness message masters sizes j h) (unused-given c n j height witness (masters j) (sizes j) (ask j) (below j));
     output = λ j p h e.
         ap (λ (s : List ℕ). pack (openedRun c n j p s .output))
-        (stretch-there c M tau n witness message root j h ∙ ap (stretchOf c n j witness (masterOf j root)) e)
-        ∙ (ap pack (opened-output c n j p height (below j p e) witness (masterOf j root) (length-master j root) hw) ∙ hy);
+        (stretch-there c M tau n witness message masters sizes j h ∙ ap (stretchOf c n j witness (masters j)) e)
+        ∙ (ap pack (opened-output c n j p height (below j p e) witness (masters j) (sizes j) hw) ∙ hy);
     digest =
-        hstar-cong M _ (λ j. masterCommitments c n j (masterOf j root)) _ (λ j. masterOnline c n j witness (masterOf j root))
-        (λ j h. rw (stretch-there c M tau n witness message root j h) (commitments-given c n j height witness (masterOf j root) (length-master j root) (ask j) (below j)))
-        (λ j h. rw (stretch-there c M tau n witness message root j h) (online-given c n j height witness (masterOf j root) (length-master j root) hw (ask j) (below j)))
-        ∙ sym (hstar-there c M tau n witness message root);
+        hstar-cong M _ (λ j. masterCommitments c n j (masters j)) _ (λ j. masterOnline c n j witness (masters j))
+        (λ j h. rw (stretch-there c M tau n witness message masters sizes j h) (commitments-given c n j height witness (masters j) (sizes j) (ask j) (below j)))
+        (λ j h. rw (stretch-there c M tau n witness message masters sizes j h) (online-given c n j height witness (masters j) (sizes j) hw (ask j) (below j)))
+        ∙ sym (hstar-there c M tau n witness message masters sizes);
   }
 
   -- check accepts it
@@ -97,9 +96,9 @@ module _ (c : Circuit) (M tau n : ℕ) (witness message root y : List ℕ) (hw :
   accepts a b =
       let m : M < 65536 = omega (arith, fit .most) in
       let t : tau < 65536 = omega (arith, fit .below) in
-      legal-accepts c y message proof M tau n hstar (M-there c M tau n witness message root m)
-      (tau-there c M tau n witness message root t) (n-there c M tau n witness message root) (hstar-there c M tau n witness message root) a b
-      (good-there c M tau n witness message root m t counts parties)
+      legal-accepts c y message proof M tau n hstar (M-there c M tau n witness message masters sizes m)
+      (tau-there c M tau n witness message masters sizes t) (n-there c M tau n witness message masters sizes) (hstar-there c M tau n witness message masters sizes) a b
+      (good-there c M tau n witness message masters sizes m t counts parties)
       (proof-accepted c y proof M n ask honest)
 
 -- every honest proof passes
@@ -108,12 +107,12 @@ unfolding witnesses checkOp checkRead
 complete s witness y message root buffer left M tau n k bytes e =
     let p = proved s witness y message root buffer left M tau n k e in
     let c : Circuit = p .circuit in
-    let proof : List ℕ = proofOf c M tau n witness message root in
+    let proof : List ℕ = proofOf c M tau n witness message (mastersOf root) in
     let hw : Witness c witness = record {
       bytes = record { size = eqb-true (length witness) (oct (c .inputs)) (p .inputs); small = bytes };
       unused = p .unused-inputs;
     } in
     let q : take k left ≡ proof = ap (take k) (sym (p .content)) ∙ take-at proof (drop k buffer) k (p .size) in
     rw (p .read, q)
-    (accepts c M tau n witness message root y hw (same-eq (pack (evaluate c (bitAt witness))) y (p .gives)) (p .counts) (p .parties)
+    (accepts c M tau n witness message (mastersOf root) (λ j. length-master j root) y hw (same-eq (pack (evaluate c (bitAt witness))) y (p .gives)) (p .counts) (p .parties)
     (and-true _ _ (p .outputs) (p .short)) (p .unused-outputs))

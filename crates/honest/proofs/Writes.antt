@@ -15,10 +15,10 @@ use Rattle.circuit.specs.File.{legal, readCircuit}
 use Rattle.circuit.specs.Operations.{success}
 use Rattle.mpc.specs.Operations.{Outcome}
 use Rattle.seeds.specs.Operations.{areCounts}
-use Rattle.proof.specs.Protocol.{firstMessage, challenged}
+use Rattle.proof.specs.Protocol.{mastersOf, firstMessage, challenged}
 use Rattle.proof.specs.File.{proofBytes, proofRoom}
 use Rattle.proof.specs.Prove.{proofOf, witnesses, written, proveLegal, proveOp}
-use Rattle.honest.proofs.Written.{length-proof}
+use Rattle.honest.proofs.Written.{length-master, length-proof}
 
 -- the output of a circuit has O bits
 outputs-length : (c : Circuit) (witness : List ℕ) → length (evaluate c (bitAt witness)) ≡ length (c .outputs)
@@ -48,7 +48,7 @@ module _ (c : Circuit) (witness y message root buffer : List ℕ) (M tau n : ℕ
   unfolding witnesses
   y-given = eq-same (pack (evaluate c (bitAt witness))) y (h .gives)
 
-  legal-writes : proveLegal witness y message root M tau n buffer c ≡ written (proofOf c M tau n witness message root) buffer
+  legal-writes : proveLegal witness y message root M tau n buffer c ≡ written (proofOf c M tau n witness message (mastersOf root)) buffer
   unfolding proveLegal
   legal-writes =
       rw (
@@ -66,14 +66,14 @@ module _ (c : Circuit) (witness y message root buffer : List ℕ) (M tau n : ℕ
 
   -- prove writes the proof
   pub prove-writes : (s : List ℕ) → readCircuit s ≡ legal c
-      → proveOp s witness y message root M tau n buffer ≡ written (proofOf c M tau n witness message root) buffer
+      → proveOp s witness y message root M tau n buffer ≡ written (proofOf c M tau n witness message (mastersOf root)) buffer
   unfolding proveOp
   prove-writes s e = rw e legal-writes
 
   -- and answers its length
   pub prove-answers : (s : List ℕ) → readCircuit s ≡ legal c
       → proveOp s witness y message root M tau n buffer .answer
-      ≡ success (proofBytes c M n (challenged M tau n (firstMessage c M n witness root) message) ∷ [])
+      ≡ success (proofBytes c M n (challenged M tau n (firstMessage c M n witness (mastersOf root)) message) ∷ [])
   unfolding written
   prove-answers s e =
-      ap (λ (o : Outcome). o .answer) (prove-writes s e) ∙ ap (λ (k : ℕ). success (k ∷ [])) (length-proof c M tau n witness message root)
+      ap (λ (o : Outcome). o .answer) (prove-writes s e) ∙ ap (λ (k : ℕ). success (k ∷ [])) (length-proof c M tau n witness message (mastersOf root) (λ j. length-master j root))

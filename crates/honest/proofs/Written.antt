@@ -25,18 +25,18 @@ unfolding masterOf
 length-master j root = length-shake128 _ 16
 
 -- the proof of M instances, of which tau are chosen, by n parties
-module _ (c : Circuit) (M tau n : ℕ) (witness message root : List ℕ) where
+module _ (c : Circuit) (M tau n : ℕ) (witness message : List ℕ) (masters : ℕ → List ℕ) (sizes : (j : ℕ) → length (masters j) ≡ 16) where
   abbrev hstar : List ℕ
-  hstar = firstMessage c M n witness root
+  hstar = firstMessage c M n witness masters
 
   abbrev ask : ℕ → Asked
   ask = challenged M tau n hstar message
 
   abbrev sent : ℕ → List ℕ
-  sent j = stretchOf c n j witness (masterOf j root) (ask j)
+  sent j = stretchOf c n j witness (masters j) (ask j)
 
   abbrev proof : List ℕ
-  proof = proofOf c M tau n witness message root
+  proof = proofOf c M tau n witness message masters
 
   -- h* has 32 bytes
   length-hstar : length hstar ≡ 32
@@ -46,7 +46,7 @@ module _ (c : Circuit) (M tau n : ℕ) (witness message root : List ℕ) where
   -- the stretch after instance j starts where that of j ends
   next-start : (j : ℕ) → stretchStart c n ask (suc j) ≡ stretchStart c n ask j + length (sent j)
   unfolding stretchStart
-  next-start j = ap (λ (k : ℕ). stretchStart c n ask j + k) (sym (length-stretch c n j witness (masterOf j root) (length-master j root) (ask j)))
+  next-start j = ap (λ (k : ℕ). stretchStart c n ask j + k) (sym (length-stretch c n j witness (masters j) (sizes j) (ask j)))
 
   -- the first one starts after the header
   first-start : length (headerOf M tau n hstar) ≡ stretchStart c n ask 0
@@ -62,26 +62,26 @@ module _ (c : Circuit) (M tau n : ℕ) (witness message root : List ℕ) where
   pub stretch-there : (j : ℕ) → j < M → stretchAt c n ask proof j ≡ sent j
   unfolding proofOf responseOf stretchAt
   stretch-there j h =
-      ap (λ (k : ℕ). take k (drop (stretchStart c n ask j) proof)) (sym (length-stretch c n j witness (masterOf j root) (length-master j root) (ask j)))
+      ap (λ (k : ℕ). take k (drop (stretchStart c n ask j) proof)) (sym (length-stretch c n j witness (masters j) (sizes j) (ask j)))
       ∙ part-at (headerOf M tau n hstar) sent (stretchStart c n ask) first-start next-start M j h
 
   -- the header is read back
-  pub hstar-there : headerHstar proof ≡ firstMessage c M n witness root
+  pub hstar-there : headerHstar proof ≡ firstMessage c M n witness masters
   unfolding proofOf
-  hstar-there = header-hstar M tau n hstar (responseOf c M n witness root ask) length-hstar
+  hstar-there = header-hstar M tau n hstar (responseOf c M n witness masters ask) length-hstar
 
   pub M-there : M < 65536 → headerM proof ≡ M
   unfolding proofOf
-  M-there h = header-M M tau n hstar (responseOf c M n witness root ask) length-hstar h
+  M-there h = header-M M tau n hstar (responseOf c M n witness masters ask) length-hstar h
 
   pub tau-there : tau < 65536 → headerTau proof ≡ tau
   unfolding proofOf
-  tau-there h = header-tau M tau n hstar (responseOf c M n witness root ask) length-hstar h
+  tau-there h = header-tau M tau n hstar (responseOf c M n witness masters ask) length-hstar h
 
   pub n-there : headerN proof ≡ n
   unfolding proofOf
-  n-there = header-n M tau n hstar (responseOf c M n witness root ask) length-hstar
+  n-there = header-n M tau n hstar (responseOf c M n witness masters ask) length-hstar
 
   pub good-there : M < 65536 → tau < 65536 → areCounts M tau ≡ true → isPartyCount n ≡ true → goodHeader proof ≡ true
   unfolding proofOf
-  good-there = header-good M tau n hstar (responseOf c M n witness root ask) length-hstar
+  good-there = header-good M tau n hstar (responseOf c M n witness masters ask) length-hstar

@@ -11,10 +11,11 @@ use Rattle.parties.specs.Parties.{heightOf, isPartyCount}
 use Rattle.circuit.specs.Circuit.{ands}
 use Rattle.circuit.specs.File.{legal, withinLimits, rightLength, goodRecord, goodRecords, walks, goodChain, chainFrom, gateAt, gatesInOrder, readsWritten, goodOutputs, goodWires, circuitOf, readCircuit}
 use Rattle.circuit.specs.Operations.{success}
+use Rattle.hashing.specs.Inputs.{boundOf}
 use Rattle.choice.specs.Challenge.{streamOf, instances, hiddenParties, Ascending, more, Sound}
 use Rattle.seeds.specs.Operations.{areCounts}
 use Rattle.choice.proofs.Challenges.{challenge-sound}
-use Rattle.proof.specs.Protocol.{firstMessage, asked, challenged}
+use Rattle.proof.specs.Protocol.{mastersOf, firstMessage, asked, challenged}
 use Rattle.proof.specs.File.{proofBytes, proofRoom}
 use Rattle.proof.specs.Prove.{proveOp}
 use Rattle.honest.proofs.Writes.{Passes, prove-answers}
@@ -82,19 +83,19 @@ answers : (witness y message root buffer : List ℕ) (p k : ℕ) → ProveInputs
     → hiddenParty witness message root ≡ p → proveOp circuitK witness y message root 4 1 2 buffer .answer ≡ success (k ∷ [])
 unfolding hiddenParty challenged
 answers witness y message root buffer p k h f e =
-    let hstar : List ℕ = firstMessage (circuitOf circuitK) 4 2 witness root in
-    let stream : List ℕ = streamOf 1 hstar message in
+    let hstar : List ℕ = firstMessage (circuitOf circuitK) 4 2 witness (mastersOf root) in
+    let stream : List ℕ = streamOf 1 hstar (boundOf message) in
     prove-answers (circuitOf circuitK) witness y message root buffer 4 1 2 (passes witness y message root buffer h) circuitK read-K
     ∙ ap (λ (n : ℕ). success (n ∷ []))
-    (size-by-party (instances 4 1 stream) (hiddenParties 1 2 stream) p k (challenge-sound 4 1 2 hstar message (omega arith) (omega arith)) e f)
+    (size-by-party (instances 4 1 stream) (hiddenParties 1 2 stream) p k (challenge-sound 4 1 2 hstar (boundOf message) (omega arith) (omega arith)) e f)
 
 -- "m10 M = 4, τ = 1, n = 2: 233 bytes if p = 0, 232 if p = 1"
 pub m10-proved : M10
 unfolding hiddenParty
 m10-proved witness y message root buffer h =
-    let hstar : List ℕ = firstMessage (circuitOf circuitK) 4 2 witness root in
+    let hstar : List ℕ = firstMessage (circuitOf circuitK) 4 2 witness (mastersOf root) in
     record {
-      party = challenge-sound 4 1 2 hstar message (omega arith) (omega arith) .hidden 0;
+      party = challenge-sound 4 1 2 hstar (boundOf message) (omega arith) (omega arith) .hidden 0;
       first = answers witness y message root buffer 0 233 h first-row;
       last = answers witness y message root buffer 1 232 h last-row;
     }

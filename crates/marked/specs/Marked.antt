@@ -13,8 +13,9 @@ use Rattle.circuit.specs.File.{circuitOf}
 use Rattle.circuit.specs.Operations.{Answer, refusal, success, readOp}
 use Rattle.mpc.specs.Showing.{Showing}
 use Rattle.mpc.specs.Operations.{Outcome, done, prepareOp, runOp, showOp}
+use Rattle.hashing.specs.Inputs.{boundOf}
 use Rattle.choice.specs.Challenge.{streamOf, hiddenParties}
-use Rattle.proof.specs.Protocol.{firstMessage, asked}
+use Rattle.proof.specs.Protocol.{mastersOf, firstMessage, asked}
 use Rattle.proof.specs.File.{proofBytes}
 use Rattle.proof.specs.Prove.{proveOp}
 
@@ -141,7 +142,7 @@ pub record ProveInputs (witness y message root buffer : List ℕ) : Type 0 where
 
 -- p: the party that the challenge of that proof hides
 unfoldable pub hiddenParty : List ℕ → List ℕ → List ℕ → ℕ
-hiddenParty witness message root = getD (hiddenParties 1 2 (streamOf 1 (firstMessage (circuitOf circuitK) 4 2 witness root) message)) 0 0
+hiddenParty witness message root = getD (hiddenParties 1 2 (streamOf 1 (firstMessage (circuitOf circuitK) 4 2 witness (mastersOf root)) (boundOf message))) 0 0
 
 -- m10 as the answer of prove: "233 bytes if p = 0, 232 if p = 1"
 pub record ProveAnswers (witness y message root buffer : List ℕ) : Type 0 where

@@ -18,10 +18,14 @@ unfoldable pub hstarOf : ℕ → (ℕ → List ℕ) → (ℕ → List ℕ) → L
 hstarOf M commitments online =
     transcriptOf (sha3-256 (allCommitmentsInput (flatten (tabulate M commitments)))) (sha3-256 (allOnlineInput (flatten (tabulate M online))))
 
--- Round 1: the first message, from the root
-unfoldable pub firstMessage : Circuit → ℕ → ℕ → List ℕ → List ℕ → List ℕ
-firstMessage c M n witness root =
-    hstarOf M (λ j. masterCommitments c n j (masterOf j root)) (λ j. masterOnline c n j witness (masterOf j root))
+-- "the master of j", of every instance, from the root
+abbrev pub mastersOf : List ℕ → ℕ → List ℕ
+mastersOf root j = masterOf j root
+
+-- Round 1: the first message, from the instances' masters
+unfoldable pub firstMessage : Circuit → ℕ → ℕ → List ℕ → (ℕ → List ℕ) → List ℕ
+firstMessage c M n witness masters =
+    hstarOf M (λ j. masterCommitments c n j (masters j)) (λ j. masterOnline c n j witness (masters j))
 
 -- what is asked of instance j, where the instances is are chosen and hide the parties ps
 unfoldable pub asked : List ℕ → List ℕ → ℕ → Asked
@@ -35,5 +39,5 @@ challenged M tau n hstar message =
     asked (instances M tau (streamOf tau hstar (boundOf message))) (hiddenParties tau n (streamOf tau hstar (boundOf message)))
 
 -- Round 3: the response
-unfoldable pub responseOf : Circuit → ℕ → ℕ → List ℕ → List ℕ → (ℕ → Asked) → List ℕ
-responseOf c M n witness root ask = flatten (tabulate M (λ j. stretchOf c n j witness (masterOf j root) (ask j)))
+unfoldable pub responseOf : Circuit → ℕ → ℕ → List ℕ → (ℕ → List ℕ) → (ℕ → Asked) → List ℕ
+responseOf c M n witness masters ask = flatten (tabulate M (λ j. stretchOf c n j witness (masters j) (ask j)))

@@ -13,14 +13,14 @@ use Rattle.circuit.specs.File.{readCircuit}
 use Rattle.circuit.specs.Operations.{success}
 use Rattle.mpc.specs.Operations.{Outcome, unless, onLegal, holds}
 use Rattle.seeds.specs.Operations.{maxMessage, areCounts}
-use Rattle.proof.specs.Protocol.{firstMessage, challenged, responseOf}
+use Rattle.proof.specs.Protocol.{mastersOf, firstMessage, challenged, responseOf}
 use Rattle.proof.specs.File.{headerOf, proofRoom}
 
 -- the proof: the header with the first message, and the response to its challenge
-unfoldable pub proofOf : Circuit → ℕ → ℕ → ℕ → List ℕ → List ℕ → List ℕ → List ℕ
-proofOf c M tau n witness message root =
-    let hstar : List ℕ = firstMessage c M n witness root in
-    headerOf M tau n hstar ++ responseOf c M n witness root (challenged M tau n hstar message)
+unfoldable pub proofOf : Circuit → ℕ → ℕ → ℕ → List ℕ → List ℕ → (ℕ → List ℕ) → List ℕ
+proofOf c M tau n witness message masters =
+    let hstar : List ℕ = firstMessage c M n witness masters in
+    headerOf M tau n hstar ++ responseOf c M n witness masters (challenged M tau n hstar message)
 
 -- the witness gives y
 unfoldable pub witnesses : Circuit → List ℕ → List ℕ → Bool
@@ -40,7 +40,7 @@ proveLegal witness y message root M tau n buffer c =
     && leb (proofRoom c M tau n) (length buffer))
     6 lent
     (unless (unusedZero (c .inputs) witness && unusedZero (length (c .outputs)) y) 7 lent
-    (unless (witnesses c witness y) 10 lent (written (proofOf c M tau n witness message root) buffer))))
+    (unless (witnesses c witness y) 10 lent (written (proofOf c M tau n witness message (mastersOf root)) buffer))))
 
 -- "Prove: 1 to 5", then these
 unfoldable pub proveOp : List ℕ → List ℕ → List ℕ → List ℕ → List ℕ → ℕ → ℕ → ℕ → List ℕ → Outcome

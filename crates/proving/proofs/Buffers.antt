@@ -24,14 +24,14 @@ use Rattle.instance.specs.Instance.{Asked, opened, hiding}
 use Rattle.instance.specs.Stretch.{stretchBytes}
 use Rattle.instance.specs.Worked.{Tree, Lent}
 use Rattle.instance.proofs.Sent.{tree-sizes}
-use Rattle.proof.specs.Protocol.{hstarOf, firstMessage, challenged, responseOf}
+use Rattle.proof.specs.Protocol.{mastersOf, hstarOf, firstMessage, challenged, responseOf}
 use Rattle.proof.specs.File.{headerOf, stretchStart, proofBytes}
 use Rattle.proof.specs.Prove.{proofOf}
 use Rattle.proof.specs.Asks.{asksIn, Asking}
 use Rattle.proof.proofs.Askings.{asks-same, asking-challenge, challenge-done}
 use Rattle.honest.proofs.Header.{length-header}
 use Rattle.honest.proofs.Proved.{has-height}
-use Rattle.honest.proofs.Written.{length-proof}
+use Rattle.honest.proofs.Written.{length-master, length-proof}
 use Rattle.honest.proofs.Room.{proof-fits}
 use Rattle.proving.specs.Steps.{onlinesOf, Response, Tested}
 use Rattle.mpc.proofs.Opened.{sized}
@@ -110,7 +110,7 @@ start-least c n ask l zero = omega arith
 start-least c n ask l (suc M) = omega (arith, start-least c n ask l M, stretch-least c n l (ask M))
 
 -- h* has 32 bytes
-length-hstar : (c : Circuit) (M n : ℕ) (w root : List ℕ) → length (firstMessage c M n w root) ≡ 32
+length-hstar : (c : Circuit) (M n : ℕ) (w root : List ℕ) → length (firstMessage c M n w (mastersOf root)) ≡ 32
 unfolding firstMessage hstarOf transcriptOf
 length-hstar c M n w root = length-sha3-256 _
 
@@ -145,16 +145,16 @@ module _ (s : List ℕ) (sizes : Sizes) (M tau n h : ℕ) (w message root B : Li
   -- the h'_j fit
   pub onlines-fit : 38 + 32 * M ≤ length B
   onlines-fit =
-      let ask : ℕ → Asked = challenged M tau n (firstMessage c M n w root) message in
+      let ask : ℕ → Asked = challenged M tau n (firstMessage c M n w (mastersOf root)) message in
       omega
-      (arith, start-least c n ask tall M, length-proof c M tau n w message root, proof-fits c M tau n w message root (t .counts) (tree .parties), t .room)
+      (arith, start-least c n ask tall M, length-proof c M tau n w message (mastersOf root) (λ j. length-master j root), proof-fits c M tau n w message (mastersOf root) (λ j. length-master j root) (t .counts) (tree .parties), t .room)
 
   -- their place has 32 bytes for each instance
   pub onlines-part : length (midOf 38 (38 + 32 * M - 38) B) ≡ 32 * M
   onlines-part = mid-len 38 (38 + 32 * M) B onlines-fit ∙ omega arith
 
   -- h*, and the bytes of the challenge as the operation leaves them
-  module _ (hs lent ch : List ℕ) (r : Answer) (eh : hs ≡ firstMessage c M n w root) (fits : length lent ≡ 3 * tau)
+  module _ (hs lent ch : List ℕ) (r : Answer) (eh : hs ≡ firstMessage c M n w (mastersOf root)) (fits : length lent ≡ 3 * tau)
       (er : outcome r ch ≡ challengeOp M tau n hs message lent) where
     -- h* has 32 bytes
     pub length-first : length hs ≡ 32
@@ -165,7 +165,7 @@ module _ (s : List ℕ) (sizes : Sizes) (M tau n h : ℕ) (w message root B : Li
     choices-right = challenge-done M tau n hs message lent ch r er (t .counts) (tree .parties) length-first (t .short) fits
 
     -- they ask what the challenge asks
-    asks-right : asksIn n ch ≡ challenged M tau n (firstMessage c M n w root) message
+    asks-right : asksIn n ch ≡ challenged M tau n (firstMessage c M n w (mastersOf root)) message
     asks-right =
         ap (asksIn n) choices-right ∙ asks-same M tau n hs message (t .counts) some-party
         ∙ ap (λ (x : List ℕ). challenged M tau n x message) eh
@@ -177,12 +177,12 @@ module _ (s : List ℕ) (sizes : Sizes) (M tau n h : ℕ) (w message root B : Li
     -- the bytes of the proof
     module _ (size : ℕ) (es : size ≡ proofBytes c M n (asksIn n ch)) where
       -- their number is right
-      pub size-right : size ≡ length (proofOf c M tau n w message root)
-      size-right = es ∙ ap (proofBytes c M n) asks-right ∙ sym (length-proof c M tau n w message root)
+      pub size-right : size ≡ length (proofOf c M tau n w message (mastersOf root))
+      size-right = es ∙ ap (proofBytes c M n) asks-right ∙ sym (length-proof c M tau n w message (mastersOf root) (λ j. length-master j root))
 
       -- they fit
       size-inside : size ≤ length B
-      size-inside = omega (arith, size-right, proof-fits c M tau n w message root (t .counts) (tree .parties), t .room)
+      size-inside = omega (arith, size-right, proof-fits c M tau n w message (mastersOf root) (λ j. length-master j root) (t .counts) (tree .parties), t .room)
 
       -- they reach beyond the h'_j
       size-least : 38 + 32 * M ≤ size
@@ -224,13 +224,13 @@ module _ (s : List ℕ) (sizes : Sizes) (M tau n h : ℕ) (w message root B : Li
             }
 
         -- the proof is written
-        module _ (z : List ℕ) (e : z ≡ responseOf c M n w root (asksIn n ch)) where
+        module _ (z : List ℕ) (e : z ≡ responseOf c M n w (mastersOf root) (asksIn n ch)) where
           -- the buffer then
-          pub proof-made : putMid 38 (size - 38) ready z ≡ proofOf c M tau n w message root ++ drop size B
+          pub proof-made : putMid 38 (size - 38) ready z ≡ proofOf c M tau n w message (mastersOf root) ++ drop size B
           unfolding proofOf
           proof-made =
               all-written M B on onlines-fit count size hd size-least size-inside front z
-              ∙ ap₂ (λ (x y : List ℕ). x ++ y ++ drop size B) (eg ∙ ap (headerOf M tau n) eh) (e ∙ ap (responseOf c M n w root) asks-right)
+              ∙ ap₂ (λ (x y : List ℕ). x ++ y ++ drop size B) (eg ∙ ap (headerOf M tau n) eh) (e ∙ ap (responseOf c M n w (mastersOf root)) asks-right)
 
           -- the buffer is as long as before
           pub buffer-kept : length z ≡ length (midOf 38 (size - 38) ready) → length (putMid 38 (size - 38) ready z) ≡ length B

@@ -24,7 +24,7 @@ use Rattle.hashing.proofs.Digests.{taken-more, taken-room, given-taken, all-onl
 use Rattle.instance.specs.Instance.{commitmentsDigest, onlineDigest, commitmentsOf, masterSeeds, masterCorrections, masterCommitments, masterRun, masterMasked, masterOnline}
 use Rattle.instance.specs.Worked.{Lent}
 use Rattle.instance.proofs.Seeded.{flatten-more}
-use Rattle.proof.specs.Protocol.{hstarOf, firstMessage}
+use Rattle.proof.specs.Protocol.{mastersOf, hstarOf, firstMessage}
 use Rattle.proof.proofs.Digests.{sha3-bytes}
 use Rattle.mpc.proofs.Opened.{sized}
 
@@ -103,7 +103,7 @@ module _ (c : Circuit) (n : ℕ) (witness root : List ℕ) where
 
     -- all of them, and all h'_i in o: h*
     pub first-end : (m : ℕ) (onlines x y r : List ℕ) (o o′ : Sponge) → j ≡ m → x ≡ given s → onlines ≡ flatten (tabulate m onlineAt)
-        → o ≡ taken (allOnlineInput []) → o′ ≡ absorbs 136 o onlines → y ≡ given o′ → r ≡ transcriptOf x y → r ≡ firstMessage c m n witness root
+        → o ≡ taken (allOnlineInput []) → o′ ≡ absorbs 136 o onlines → y ≡ given o′ → r ≡ transcriptOf x y → r ≡ firstMessage c m n witness (mastersOf root)
     unfolding firstMessage hstarOf
     first-end m onlines x y r o o′ q g p a b d t =
         let M : List ℕ = flatten (tabulate j commitmentsAt) in

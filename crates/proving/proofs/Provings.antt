@@ -27,6 +27,7 @@ use Rattle.seeds.specs.Operations.{areCounts}
 use Rattle.seeds.proofs.Instances.{counts-fit}
 use Rattle.instance.specs.Worked.{Tree}
 use Rattle.proof.specs.File.{proofRoom}
+use Rattle.proof.specs.Protocol.{mastersOf}
 use Rattle.proof.specs.Prove.{proofOf, witnesses, written, proveLegal, proveOp}
 use Rattle.proving.specs.Steps.{Tested}
 use Rattle.proving.specs.Answers.{outcome}
@@ -125,12 +126,12 @@ module _ (s : List ℕ) (i o g a : ℕ) (k : Known s (sized i o g a)) (w y messa
                 rw (held _ b2 counts-right t2, held _ b3 (f3 ∙ lent-right) t3, held _ b6 unused-right t6, fell _ b7 f7 t)
 
             -- success
-            pub prove-done : not b7 ≡ false → (r : ℕ) (left : List ℕ) → r ≡ length (proofOf (circuitOf s) m tau n w message root)
-                → left ≡ proofOf (circuitOf s) m tau n w message root ++ drop r buffer
+            pub prove-done : not b7 ≡ false → (r : ℕ) (left : List ℕ) → r ≡ length (proofOf (circuitOf s) m tau n w message (mastersOf root))
+                → left ≡ proofOf (circuitOf s) m tau n w message (mastersOf root) ++ drop r buffer
                 → outcome (Written r) left ≡ proveLegal w y message root m tau n buffer (circuitOf s)
             unfolding proveLegal written
             prove-done t r left e f =
-                let proof : List ℕ = proofOf (circuitOf s) m tau n w message root in
+                let proof : List ℕ = proofOf (circuitOf s) m tau n w message (mastersOf root) in
                 ap (outcome (Written r)) f ∙ ap (λ (x : ℕ). outcome (Written x) (proof ++ drop x buffer)) e
                 ∙ rw (held _ b2 counts-right t2, held _ b3 (f3 ∙ lent-right) t3, held _ b6 unused-right t6, held _ b7 f7 t)
 

@@ -17,7 +17,7 @@ use Rattle.party.specs.Derive.{masterOf}
 use Rattle.instance.specs.Instance.{Asked, opened, hiding, masterOnline, stretchOf}
 use Rattle.instance.specs.Stretch.{stretchBytes}
 use Rattle.instance.specs.Worked.{Tree}
-use Rattle.proof.specs.Protocol.{responseOf}
+use Rattle.proof.specs.Protocol.{mastersOf, responseOf}
 use Rattle.proof.specs.File.{stretchStart, proofBytes}
 use Rattle.proof.specs.Asks.{askOf, partyIn, asksIn, Asking}
 use Rattle.proof.proofs.Sizes.{ask-opened, ask-hiding}
@@ -107,7 +107,7 @@ module _ (c : Circuit) (n h : ℕ) (tree : Tree n h) where
 module _ (c : Circuit) (n : ℕ) (witness root : List ℕ) (ask : ℕ → Asked) where
   -- of the first j instances
   abbrev pub sent : ℕ → List ℕ
-  sent j = responseOf c j n witness root ask
+  sent j = responseOf c j n witness (mastersOf root) ask
 
   -- the stretch of instance j
   abbrev stretchAt : ℕ → List ℕ

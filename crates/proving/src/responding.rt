@@ -9,7 +9,7 @@ ghost use Rattle.seeds.specs.Operations.{maxInstances};
 ghost use Rattle.instance.specs.Instance.{masterOnline, stretchOf};
 ghost use Rattle.instance.specs.Stretch.{stretchBytes};
 ghost use Rattle.instance.specs.Worked.{Lent};
-ghost use Rattle.proof.specs.Protocol.{firstMessage, responseOf};
+ghost use Rattle.proof.specs.Protocol.{mastersOf, firstMessage, responseOf};
 ghost use Rattle.proof.specs.Asks.{askOf, asksIn};
 ghost use Rattle.proving.specs.Steps.{onlinesOf, Response};
 use bits::copy;
@@ -40,7 +40,7 @@ pub(crate) fn first(
     memory: &mut [u8],
 ) -> [u8; 32]
     requires { ⌜ Lent (now s) z n h (now tapes) (now memory) × (WitnessFits z (now witness) × ((m ≤ maxInstances) × (length (now onlines) ≡ 32 * m))) ⌝ }
-    ensures { λ r. ⌜ r ≡ firstMessage (circuitOf (now (s .entry))) m n (now (witness .entry)) (now (root .entry)) ⌝ }
+    ensures { λ r. ⌜ r ≡ firstMessage (circuitOf (now (s .entry))) m n (now (witness .entry)) (mastersOf (now (root .entry))) ⌝ }
     ensures { λ _. ⌜ now (onlines .exit) ≡ onlinesOf (circuitOf (now (s .entry))) m n (now (witness .entry)) (now (root .entry)) ⌝ }
 {
     let mut all = start_all_commitments();
@@ -108,7 +108,7 @@ pub(crate) fn respond(
     memory: &mut [u8],
 )
     requires { ⌜ Lent (now s) z n h (now tapes) (now memory) × (WitnessFits z (now witness) × Response (now s) m n (now witness) (now root) (now choices) (now part)) ⌝ }
-    ensures { λ _. ⌜ now (part .exit) ≡ responseOf (circuitOf (now (s .entry))) m n (now (witness .entry)) (now (root .entry)) (asksIn n (now (choices .entry))) ⌝ }
+    ensures { λ _. ⌜ now (part .exit) ≡ responseOf (circuitOf (now (s .entry))) m n (now (witness .entry)) (mastersOf (now (root .entry))) (asksIn n (now (choices .entry))) ⌝ }
 {
     let mut end = part.len();
     let mut j = m;

@@ -7,6 +7,7 @@ ghost use Rattle.circuit.specs.File.{circuitOf};
 ghost use Rattle.mpc.specs.Lent.{Known};
 ghost use Rattle.instance.specs.Worked.{Tree, Lent};
 ghost use Rattle.proof.specs.File.{headerBytes, headerOf};
+ghost use Rattle.proof.specs.Protocol.{mastersOf};
 ghost use Rattle.proof.specs.Prove.{proofOf};
 ghost use Rattle.proving.specs.Steps.{Tested};
 use crate::responding::first;
@@ -46,8 +47,8 @@ pub(crate) fn prove_in(
     memory: &mut [u8],
 ) -> usize
     requires { ⌜ Lent (now s) z n h (now tapes) (now memory) × (Tested (now s) z m tau n (now witness) (now message) (now root) (now buffer) × (length (now choices) ≡ 3 * tau)) ⌝ }
-    ensures { λ r. ⌜ r ≡ length (proofOf (circuitOf (now (s .entry))) m tau n (now (witness .entry)) (now (message .entry)) (now (root .entry))) ⌝ }
-    ensures { λ r. ⌜ now (buffer .exit) ≡ proofOf (circuitOf (now (s .entry))) m tau n (now (witness .entry)) (now (message .entry)) (now (root .entry)) ++ drop r (now (buffer .entry)) ⌝ }
+    ensures { λ r. ⌜ r ≡ length (proofOf (circuitOf (now (s .entry))) m tau n (now (witness .entry)) (now (message .entry)) (mastersOf (now (root .entry)))) ⌝ }
+    ensures { λ r. ⌜ now (buffer .exit) ≡ proofOf (circuitOf (now (s .entry))) m tau n (now (witness .entry)) (now (message .entry)) (mastersOf (now (root .entry))) ++ drop r (now (buffer .entry)) ⌝ }
 {
     let kept = HEADER_BYTES + 32 * (m as usize);
     let hstar = first(
@@ -95,8 +96,8 @@ pub(crate) fn prove_with(
     buffer: &mut [u8],
 ) -> usize
     requires { ⌜ Known (now s) z × (Tree n h × Tested (now s) z m tau n (now witness) (now message) (now root) (now buffer)) ⌝ }
-    ensures { λ r. ⌜ r ≡ length (proofOf (circuitOf (now (s .entry))) m tau n (now (witness .entry)) (now (message .entry)) (now (root .entry))) ⌝ }
-    ensures { λ r. ⌜ now (buffer .exit) ≡ proofOf (circuitOf (now (s .entry))) m tau n (now (witness .entry)) (now (message .entry)) (now (root .entry)) ++ drop r (now (buffer .entry)) ⌝ }
+    ensures { λ r. ⌜ r ≡ length (proofOf (circuitOf (now (s .entry))) m tau n (now (witness .entry)) (now (message .entry)) (mastersOf (now (root .entry)))) ⌝ }
+    ensures { λ r. ⌜ now (buffer .exit) ≡ proofOf (circuitOf (now (s .entry))) m tau n (now (witness .entry)) (now (message .entry)) (mastersOf (now (root .entry))) ++ drop r (now (buffer .entry)) ⌝ }
 {
     let inputs = z.inputs;
     let gates = z.gates;
