@@ -19,7 +19,7 @@ use Rattle.instance.specs.Instance.{Asked}
 use Rattle.proof.specs.Protocol.{challenged}
 use Rattle.proof.specs.File.{headerHstar, proofBytes}
 use Rattle.proof.specs.Check.{checkProof}
-use Rattle.proof.specs.Asks.{asksIn, Asking}
+use Rattle.proof.specs.Steps.{asksIn, Asking}
 use Rattle.proof.proofs.Askings.{asks-same, asking-challenge, challenge-done}
 use Rattle.checking.specs.Steps.{allUnused, allOutputs, recomputed, Sized, Headed}
 use Rattle.checking.proofs.Headers.{hstar-length, headed-counts, headed-parties, headed-some, headed-few}

@@ -20,9 +20,9 @@ use Rattle.circuit.specs.declared.ReadAnswer.{ReadAnswer}
 use Rattle.circuit.specs.declared.ReadAnswer.the-variants as readAnswer
 use Rattle.circuit.proofs.Answered.{fell, held}
 use Rattle.mpc.specs.Operations.{holds}
-use Rattle.mpc.specs.Lent.{Known}
+use Rattle.mpc.specs.Steps.{Known}
 use Rattle.mpc.proofs.Opened.{sized, opened-refused, opened-legal, circuit-outputs}
-use Rattle.instance.specs.Worked.{Tree}
+use Rattle.instance.specs.Steps.{Tree}
 use Rattle.proof.specs.Protocol.{challenged}
 use Rattle.proof.specs.File.{headerM, headerTau, headerN, headerHstar, goodHeader}
 use Rattle.proof.specs.Check.{checkProof, checkLegal, checkRead, checkOp}

@@ -16,14 +16,15 @@ use Rattle.keccak.proofs.Absorbing.{Bytes}
 use Rattle.keccak.proofs.Steps.{squeezes-length}
 use Rattle.circuit.specs.Circuit.{Circuit}
 use Rattle.hashing.specs.Inputs.{allCommitmentsInput, allOnlineInput}
-use Rattle.hashing.specs.Digest.{taken, given, transcriptOf}
+use Rattle.hashing.specs.Digest.{transcriptOf}
+use Rattle.hashing.specs.Steps.{taken, given}
 use Rattle.hashing.proofs.Digests.{taken-more, taken-room, given-taken}
 use Rattle.hashing.proofs.Hashes.{bytes-append, bytes-one}
 use Rattle.instance.specs.Instance.{Asked, hiding, masterCommitments}
 use Rattle.instance.specs.Stretch.{stretchBytes}
 use Rattle.instance.specs.Opened.{stretchCommitments, stretchOnline, stretchUnused, stretchOutput}
 use Rattle.instance.proofs.Seeded.{flatten-more}
-use Rattle.proof.specs.Asks.{askOf}
+use Rattle.proof.specs.Steps.{askOf}
 use Rattle.proof.specs.Protocol.{hstarOf}
 use Rattle.proof.specs.File.{stretchStart, proofBytes, stretchAt}
 use Rattle.proof.specs.Check.{every}

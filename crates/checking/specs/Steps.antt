@@ -1,3 +1,4 @@
+-- What only the contracts of steps use: no definition of the paper stands here.
 -- What the steps of check make of a proof, and ask.
 -- Assumes nothing.
 use mathlib.Core.Path.{_≡_}
@@ -13,7 +14,7 @@ use Rattle.instance.specs.Opened.{stretchCommitments, stretchOnline, stretchUnu
 use Rattle.proof.specs.Protocol.{hstarOf}
 use Rattle.proof.specs.File.{headerM, headerTau, headerN, goodHeader, proofBytes, stretchAt}
 use Rattle.proof.specs.Check.{every}
-use Rattle.proof.specs.Asks.{asksIn, Asking}
+use Rattle.proof.specs.Steps.{asksIn, Asking}
 
 -- refusal 7: the unused bits of all chosen stretches
 abbrev pub allUnused : Circuit → ℕ → ℕ → (ℕ → Asked) → List ℕ → Bool

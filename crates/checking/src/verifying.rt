@@ -6,11 +6,15 @@ ghost use lib.ListN.{length};
 ghost use Rattle.circuit.specs.File.{circuitOf};
 ghost use Rattle.instance.specs.Stretch.{stretchBytes};
 ghost use Rattle.instance.specs.Opened.{stretchCommitments, stretchOnline, stretchUnused, stretchOutput};
-ghost use Rattle.instance.specs.Worked.{Lent};
-ghost use Rattle.proof.specs.Asks.{askOf, asksIn};
+ghost use Rattle.instance.specs.Steps.{Lent};
+ghost use Rattle.proof.specs.Steps.{askOf, asksIn};
 ghost use Rattle.checking.specs.Steps.{allUnused, allOutputs, recomputed, Sized};
 use bits::copy;
 use circuit::Sizes;
+use hashing::finish;
+use hashing::start_all_commitments;
+use hashing::start_all_online;
+use hashing::transcript;
 use instance::Instance;
 use instance::Replayed;
 use instance::checking::reopen;
@@ -20,10 +24,6 @@ use mpc::tests::both;
 use proof::HEADER_BYTES;
 use proof::asking::asked;
 use proof::asking::stretch_bytes;
-use hashing::finish;
-use hashing::start_all_commitments;
-use hashing::start_all_online;
-use hashing::transcript;
 
 // Whether all replays gave y, and the recomputed h*.
 pub struct Verdict {

@@ -13,7 +13,7 @@ use Rattle.bits.proofs.Tabulate.{length-tabulate}
 use Rattle.circuit.specs.Circuit.{Circuit, Gate, ands}
 use Rattle.circuit.specs.File.{inputsOf, outputsOf, gatesOf, headOf, outputWire, withinLimits, rightLength, goodRecords, goodChain, goodWires, goodOutputs, readsWritten, walks, chainFrom, gateAt, gatesInOrder, circuitOf, Reading, refused, legal, readCircuit}
 use Rattle.circuit.specs.Operations.{refusal, success, readAnswer, readOp}
-use Rattle.circuit.specs.Records.{Framed, limits, gatesFrom, inputsFirst}
+use Rattle.circuit.specs.Steps.{Framed, limits, gatesFrom, inputsFirst}
 use Rattle.circuit.proofs.Visits.{length-chain}
 
 -- a file of 8 bytes or more, with its limits and its length good

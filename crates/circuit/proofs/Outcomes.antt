@@ -17,8 +17,8 @@ use Rattle.refusal.specs.declared.Refusal.the-variants.{BufferLength, UnusedBit
 use Rattle.circuit.specs.Circuit.{ands, evaluate}
 use Rattle.circuit.specs.File.{inputsOf, outputsOf, gatesOf, headOf, nextOf, outputWire, withinLimits, rightLength, walks, goodWires, goodOutputs, readsWritten, gatesInOrder, circuitOf}
 use Rattle.circuit.specs.Operations.{refusal, success, readOp, evaluateLegal, evaluateRead, evaluateOp}
-use Rattle.circuit.specs.Records.{limits, gatesFrom, gateOf}
-use Rattle.circuit.specs.Values.{gateByte, loaded, walked, outBits, Ready, Ended, Legal}
+use Rattle.circuit.specs.Records.{gateOf}
+use Rattle.circuit.specs.Steps.{limits, gatesFrom, gateByte, loaded, walked, outBits, Ready, Ended, Legal}
 use Rattle.circuit.specs.Answers.{readPaper, outcome}
 use Rattle.circuit.specs.declared.Sizes.{Sizes}
 use Rattle.circuit.specs.declared.ReadAnswer.{ReadAnswer}

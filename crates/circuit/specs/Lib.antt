@@ -4,4 +4,4 @@ pub mod File
 pub mod Meaning
 pub mod Operations
 pub mod Records
-pub mod Values
+pub mod Steps

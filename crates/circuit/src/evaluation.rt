@@ -8,7 +8,7 @@ ghost use Rattle.circuit.specs.Circuit.{evaluate};
 ghost use Rattle.circuit.specs.File.{circuitOf};
 ghost use Rattle.circuit.specs.Operations.{evaluateOp, evaluateLegal};
 ghost use Rattle.circuit.specs.Answers.{outcome};
-ghost use Rattle.circuit.specs.Values.{gateByte, loaded, walked, outBits, outByte, within, Ready, Ended, Legal, Lent};
+ghost use Rattle.circuit.specs.Steps.{gateByte, loaded, walked, outBits, outByte, within, Ready, Ended, Legal, Lent};
 use crate::EvaluateAnswer;
 use crate::Gate;
 use crate::ReadAnswer;

@@ -2,7 +2,7 @@
 ghost use mathlib.Core.Path.{_≡_};
 ghost use Rattle.circuit.specs.Answers.{readPaper};
 ghost use Rattle.circuit.specs.Operations.{readOp};
-ghost use Rattle.circuit.specs.Records.{Framed};
+ghost use Rattle.circuit.specs.Steps.{Framed};
 use crate::ReadAnswer;
 use crate::Sizes;
 use crate::tests::and_count;

@@ -1,6 +1,7 @@
 // The gate records of a circuit file.
 ghost use mathlib.Core.Path.{_≡_};
-ghost use Rattle.circuit.specs.Records.{recordOf, Inside, andOne};
+ghost use Rattle.circuit.specs.Records.{recordOf};
+ghost use Rattle.circuit.specs.Steps.{Inside, andOne};
 use crate::Gate;
 use crate::Record;
 

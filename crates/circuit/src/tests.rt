@@ -4,7 +4,7 @@ ghost use mathlib.Core.Bool.{_&&_, _||_};
 ghost use lib.ListN.{length};
 ghost use Rattle.circuit.specs.Circuit.{ands};
 ghost use Rattle.circuit.specs.File.{goodRecord, goodRecords, goodOutputs, walks};
-ghost use Rattle.circuit.specs.Records.{Inside, Laid, Chained, limits, readable, seen, gatesFrom, inputsFirst};
+ghost use Rattle.circuit.specs.Steps.{Inside, Laid, Chained, limits, readable, seen, gatesFrom, inputsFirst};
 use crate::Gate;
 use crate::records::and_one;
 use crate::records::record;

@@ -11,7 +11,7 @@ use lib.ListN.{getD, set}
 use Rattle.bits.specs.Bits.{odd, bitVal, testBit, fromBits, bitAt}
 use Rattle.bits.proofs.Numbers.{bit-at, fromBits-cong, fromBits-mod, lt-or-le, mod-two, testBit-block, testBit-fromBits, testBit-low, testBit-shr}
 use Rattle.bits.proofs.Packing.{bitAt-byte}
-use Rattle.engine.specs.Memory.{at, fill, packedByte}
+use Rattle.engine.specs.Steps.{at, fill, packedByte}
 use Rattle.engine.proofs.Fill.{fill-none, fill-turn, fill-join}
 
 -- two bytes, shifted to bit k, hold the 8 bits from bit k on

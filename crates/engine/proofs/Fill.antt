@@ -10,7 +10,7 @@ use native.Mathlib.Omega.{arith}
 use lib.ListN.{length, getD, set, length-set}
 use lib.Bits.{bitXor}
 use lib.Seq.{getD-set-same, getD-set-other}
-use Rattle.engine.specs.Memory.{fill, xorBytes}
+use Rattle.engine.specs.Steps.{fill, xorBytes}
 
 module _ (pos f : ℕ → ℕ) (w : List ℕ) where
   pub fill-length : (k : ℕ) → length (fill pos f k w) ≡ length w

@@ -11,7 +11,7 @@ use lib.Seq.{set-comm}
 use Rattle.bits.specs.Bits.{bitVal, bitAt}
 use Rattle.bits.specs.Bytes.{rowOf}
 use Rattle.bits.proofs.Rows.{bitAt-row}
-use Rattle.engine.specs.Memory.{fill, unpacked, loadedRow, loadedTapes}
+use Rattle.engine.specs.Steps.{fill, unpacked, loadedRow, loadedTapes}
 use Rattle.engine.proofs.Fill.{fill-join}
 
 -- a store at a place that is not filled may come first

@@ -18,7 +18,7 @@ use Rattle.bits.specs.Bytes.{rowOf}
 use Rattle.bits.proofs.Numbers.{mod-two}
 use Rattle.bits.proofs.Tabulate.{length-tabulate, getD-tabulate}
 use Rattle.circuit.proofs.Run.{byte-turn}
-use Rattle.engine.specs.Memory.{at, shareAt, valueAt, saidAt, fill, xorBytes, unpacked, loadedRow, loadedTapes, maskByte, packedByte, packed, packedRows}
+use Rattle.engine.specs.Steps.{at, shareAt, valueAt, saidAt, fill, xorBytes, unpacked, loadedRow, loadedTapes, maskByte, packedByte, packed, packedRows}
 use Rattle.engine.proofs.Fill.{fill-read}
 
 -- a row is loaded in three parts

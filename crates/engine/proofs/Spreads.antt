@@ -21,7 +21,7 @@ use Rattle.bits.proofs.Bitwise.{testBit-and, testBit-or}
 use Rattle.bits.proofs.Ops.{testBit-shl-below, testBit-shl-from}
 use Rattle.bits.proofs.Little.{leAt-lt, leAt-one, leAt-suc, leBytes-add, length-leBytes, pow-bytes, sets-append}
 use Rattle.bits.proofs.Packing.{bitAt-byte}
-use Rattle.engine.specs.Memory.{fill}
+use Rattle.engine.specs.Steps.{fill}
 use Rattle.engine.proofs.Fill.{fill-join, fill-turn}
 
 -- the bits of the two bytes from byte j on

@@ -9,14 +9,13 @@ use native.Mathlib.Numerals.{add-one}
 use lib.Dec.{eqb}
 use lib.ListN.{length, getD, set}
 use lib.Bits.{bitXor, bitAnd}
-use Rattle.engine.specs.Memory.{shareAt, valueAt, saidAt, at, fill}
+use Rattle.engine.specs.Steps.{shareAt, valueAt, saidAt, at, fill, Room, Fit, correctStep, broadcastStep, maskedProduct, takeStep, andStep, gateStep, walked, broadcastByte, outputByte, outputStep, unmasked, spoken, outputValues}
 use Rattle.circuit.specs.File.{inputsOf, outputWire, nextOf}
-use Rattle.circuit.specs.Records.{gateOf, recordOf, andOne}
+use Rattle.circuit.specs.Records.{gateOf, recordOf}
+use Rattle.circuit.specs.Steps.{andOne}
 use Rattle.circuit.specs.declared.Gate.{Gate}
 use Rattle.circuit.specs.declared.Record.{Record}
 use Rattle.circuit.proofs.Chain.{next-read, gate-read}
-use Rattle.engine.specs.Fits.{Room, Fit}
-use Rattle.engine.specs.Steps.{correctStep, broadcastStep, maskedProduct, takeStep, andStep, gateStep, walked, broadcastByte, outputByte, outputStep, unmasked, spoken, outputValues}
 use Rattle.engine.proofs.Fill.{fill-none, fill-turn, fill-read}
 
 -- what XOR stores for party i

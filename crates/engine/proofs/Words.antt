@@ -18,9 +18,7 @@ use Rattle.bits.specs.Bytes.{leAt, leBytes}
 use Rattle.bits.proofs.Little.{getD-leBytes, leAt-cong, leAt-last, leAt-lt, leBytes-add, leBytes-leAt, length-leBytes, pow-bytes, sets-append}
 use Rattle.bits.proofs.Numbers.{eq-or-ne, lt-or-le}
 use Rattle.bits.proofs.Ops.{bitXor-assoc}
-use Rattle.engine.specs.Memory.{shareAt, valueAt, correctionAt, maskAt, saidAt, at, fill, xorBytes}
-use Rattle.engine.specs.Steps.{broadcastByte, correctionByte, correctStep, outputByte}
-use Rattle.engine.specs.Fits.{Fit}
+use Rattle.engine.specs.Steps.{shareAt, valueAt, correctionAt, maskAt, saidAt, at, fill, xorBytes, broadcastByte, correctionByte, correctStep, outputByte, Fit}
 use Rattle.engine.proofs.Fill.{fill-cong, fill-join}
 use Rattle.engine.proofs.Loading.{xorBytes-cong}
 

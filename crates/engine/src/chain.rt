@@ -2,9 +2,8 @@
 ghost use mathlib.Core.Path.{_≡_};
 ghost use Prim.Native.Nat.{_≤_};
 ghost use Rattle.circuit.specs.Circuit.{ands};
-ghost use Rattle.circuit.specs.Records.{Chained, gatesFrom, andOne};
-ghost use Rattle.engine.specs.Steps.{walked, spoken, outputValues};
-ghost use Rattle.engine.specs.Fits.{wireCount, Ready, Ended};
+ghost use Rattle.circuit.specs.Steps.{Chained, gatesFrom, andOne};
+ghost use Rattle.engine.specs.Steps.{walked, spoken, outputValues, wireCount, Ready, Ended};
 use crate::gates::gate;
 use crate::gates::output;
 use circuit::Gate;

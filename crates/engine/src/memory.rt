@@ -6,8 +6,7 @@ ghost use Prim.Native.Nat.{ℕ, _+_, _*_, _/_, _%_, _≤_, _<_};
 ghost use lib.Dec.{ltb};
 ghost use lib.ListN.{length, replicate};
 ghost use Rattle.bits.specs.Bits.{odd, bitVal, testBit, fromBits, bitAt};
-ghost use Rattle.engine.specs.Memory.{at, fill, unpacked, packed, packedByte, loadedRow, loadedTapes, maskByte, maskedInputs, packedRows};
-ghost use Rattle.engine.specs.Fits.{Room};
+ghost use Rattle.engine.specs.Steps.{at, fill, unpacked, packed, packedByte, loadedRow, loadedTapes, maskByte, maskedInputs, packedRows, Room};
 use crate::rows::sum8;
 use crate::rows::sum16;
 

@@ -7,7 +7,7 @@ ghost use lib.Bits.{bitXor, bitAnd};
 ghost use lib.ListN.{length};
 ghost use lib.Seq.{sets};
 ghost use Rattle.bits.specs.Bytes.{leAt, leBytes};
-ghost use Rattle.engine.specs.Memory.{at, fill, xorBytes};
+ghost use Rattle.engine.specs.Steps.{at, fill, xorBytes};
 
 // Stores two words, as the row at k.
 pub(crate) fn put(memory: &mut [u8], k: usize, lo: u64, hi: u64)

@@ -18,13 +18,13 @@ use Rattle.parties.specs.Parties.{heightOf}
 use Rattle.parties.proofs.Counts.{sizes, count-no, height-small}
 use Rattle.circuit.specs.File.{circuitOf}
 use Rattle.mpc.specs.Tapes.{andsOf, withRow}
-use Rattle.mpc.specs.Lent.{Known, Parties}
+use Rattle.mpc.specs.Steps.{Known, Parties}
 use Rattle.mpc.proofs.Opened.{sized, circuit-inputs, circuit-outputs, circuit-ands, circuit-row}
 use Rattle.tree.specs.Tree.{openedBelow}
 use Rattle.instance.specs.Instance.{hiding, seedsOf, tapesOf}
 use Rattle.instance.specs.Stretch.{correctionBytes, stretchBytes, siblingsPart, correctionsPart, commitmentPart, maskedPart, rowPart}
 use Rattle.instance.specs.Opened.{openedSeeds, openedShowing, stretchUnused}
-use Rattle.instance.specs.Worked.{Tree}
+use Rattle.instance.specs.Steps.{Tree}
 
 -- the last party sends no corrections
 pub sent-none : (p n x : ℕ) → p + 1 ≡ n → 0 ≡ cond (eqb (suc p) n) 0 x

@@ -15,14 +15,14 @@ use Rattle.bits.specs.Bits.{oct, unusedZero}
 use Rattle.keccak.proofs.Lengths.{length-sha3-256}
 use Rattle.parties.specs.Parties.{heightOf}
 use Rattle.circuit.specs.File.{circuitOf}
-use Rattle.engine.specs.Memory.{packed}
-use Rattle.mpc.specs.Lent.{Known, Parties}
+use Rattle.engine.specs.Steps.{packed}
+use Rattle.mpc.specs.Steps.{Known, Parties}
 use Rattle.mpc.proofs.Opened.{sized, circuit-inputs, circuit-outputs, circuit-ands, ands-low}
 use Rattle.party.specs.Derive.{commitmentOf}
 use Rattle.tree.specs.Tree.{siblingsBelow}
 use Rattle.instance.specs.Instance.{hiding, masterSeeds, masterTapes, masterCorrections, masterRun, masterMasked, sentCorrections, stretchOf}
 use Rattle.instance.specs.Stretch.{correctionBytes, stretchBytes}
-use Rattle.instance.specs.Worked.{worked, Tree}
+use Rattle.instance.specs.Steps.{worked, Tree}
 use Rattle.instance.proofs.Sent.{tree-sizes, row-made}
 
 -- x is written at a place

@@ -15,17 +15,17 @@ use Rattle.bits.proofs.Tabulate.{tabulate-cong}
 use Rattle.parties.specs.Parties.{heightOf}
 use Rattle.circuit.specs.Circuit.{ands}
 use Rattle.circuit.specs.File.{inputsOf, outputsOf, gatesOf, headOf, gatesInOrder, circuitOf}
-use Rattle.circuit.specs.Values.{Legal}
-use Rattle.engine.specs.Memory.{packed, packedRows}
+use Rattle.circuit.specs.Steps.{Legal}
+use Rattle.engine.specs.Steps.{packed, packedRows}
 use Rattle.mpc.specs.Tapes.{andsOf}
 use Rattle.mpc.specs.Showing.{correctionBits, Showing, rowsOf, replayOf}
-use Rattle.mpc.specs.Lent.{Known, Parties}
+use Rattle.mpc.specs.Steps.{Known, Parties}
 use Rattle.mpc.proofs.Agreement.{replay-rows-agree, replay-output-agrees}
 use Rattle.party.specs.Derive.{commitmentOf}
 use Rattle.instance.specs.Instance.{hiding, tapesOf, commitmentsDigest, onlineDigest, commitmentsOf, masterSeeds, masterTapes, masterCorrections, masterCommitments}
 use Rattle.instance.specs.Stretch.{stretchBytes, correctionsPart, commitmentPart}
 use Rattle.instance.specs.Opened.{openedSeeds, openedCommitments, openedShowing, openedRun, stretchCommitments, stretchOnline, stretchOutput}
-use Rattle.instance.specs.Worked.{broughtIn, replayedGates, replayed, replayedValues, Tree}
+use Rattle.instance.specs.Steps.{broughtIn, replayedGates, replayed, replayedValues, Tree}
 use Rattle.instance.proofs.Checks.{sent-bytes, commitment-is, masked-are, row-is}
 use Rattle.mpc.proofs.Opened.{sized}
 

@@ -18,13 +18,13 @@ use Rattle.parties.specs.Parties.{heightOf}
 use Rattle.parties.proofs.Counts.{Sizes, sizes, count-no}
 use Rattle.circuit.specs.File.{circuitOf}
 use Rattle.mpc.specs.Tapes.{rowBytes, usedBits}
-use Rattle.mpc.specs.Lent.{Known}
+use Rattle.mpc.specs.Steps.{Known}
 use Rattle.mpc.proofs.Opened.{sized, circuit-inputs, circuit-ands, circuit-row}
 use Rattle.tree.specs.Tree.{leavesBelow}
 use Rattle.party.specs.Derive.{seedRow}
 use Rattle.party.specs.Derive as derive
 use Rattle.instance.specs.Instance.{leavesOf, seedsOf, masterSeeds, seedOf, tapesOf}
-use Rattle.instance.specs.Worked.{Tree}
+use Rattle.instance.specs.Steps.{Tree}
 
 -- rows one after the other, with one more at the end
 pub flatten-more : (i : ℕ) (g : ℕ → List ℕ) → flatten (tabulate i g) ++ g i ≡ flatten (tabulate (suc i) g)

@@ -15,20 +15,18 @@ use Rattle.bits.proofs.Tabulate.{tabulate-cong, tabulate-getD}
 use Rattle.parties.proofs.Counts.{Sizes, sizes, count-no}
 use Rattle.circuit.specs.Circuit.{Gate, xor, and, inv, Circuit, ands}
 use Rattle.circuit.specs.File.{inputsOf, outputsOf, headOf, circuitOf}
-use Rattle.engine.specs.Fits.{Room}
-use Rattle.engine.specs.Memory.{packed, packedRows, loadedTapes, maskedInputs}
-use Rattle.engine.specs.Steps.{walked, spoken}
+use Rattle.engine.specs.Steps.{Room, walked, spoken, packed, packedRows, loadedTapes, maskedInputs}
 use Rattle.mpc.specs.Run.{Column, next, Hearing, outputs, run}
 use Rattle.mpc.specs.Tapes.{andsOf}
 use Rattle.mpc.specs.Showing as shown
 use Rattle.mpc.specs.Showing.{correctionBits, runWith, runOn, honestRun, rowBits, rowsOf, firstBits}
-use Rattle.mpc.specs.Lent.{Known, Parties}
+use Rattle.mpc.specs.Steps.{Known, Parties}
 use Rattle.mpc.proofs.Agreement.{show-corrections-agree, show-row-agrees, show-rows-agree}
 use Rattle.mpc.proofs.Opened.{sized, circuit-outputs, circuit-ands, ands-low, room}
 use Rattle.mpc.proofs.Asks.{ands-few}
 use Rattle.party.specs.Derive.{commitmentOf}
 use Rattle.instance.specs.Instance.{tapesOf, commitmentsDigest, onlineDigest, commitmentsOf, masterSeeds, masterTapes, masterCorrections, masterCommitments, masterRun, masterMasked, masterOnline}
-use Rattle.instance.specs.Worked.{broughtIn, worked, Tree}
+use Rattle.instance.specs.Steps.{broughtIn, worked, Tree}
 
 -- a party count
 false-true : false ≡ true → ⊥

@@ -20,17 +20,16 @@ use Rattle.keccak.specs.Steps.{absorbs}
 use Rattle.keccak.proofs.Absorbing.{Bytes}
 use Rattle.circuit.specs.Circuit.{ands}
 use Rattle.circuit.specs.File.{inputsOf, outputsOf, gatesOf, headOf, gatesInOrder, circuitOf}
-use Rattle.engine.specs.Memory.{at, saidAt, unpacked, packedByte, packed, packedRows, loadedTapes, maskedInputs}
-use Rattle.engine.specs.Steps.{walked, spoken, outputValues}
+use Rattle.engine.specs.Steps.{at, saidAt, unpacked, packedByte, packed, packedRows, loadedTapes, maskedInputs, walked, spoken, outputValues}
 use Rattle.mpc.specs.Showing as shown
-use Rattle.mpc.specs.Lent.{Known, Parties}
+use Rattle.mpc.specs.Steps.{Known, Parties}
 use Rattle.mpc.proofs.Agreement.{masked-agrees}
 use Rattle.hashing.specs.Inputs.{onlineInput}
-use Rattle.hashing.specs.Digest.{taken, given}
+use Rattle.hashing.specs.Steps.{taken, given}
 use Rattle.hashing.proofs.Hashes.{bytes-append, bytes-one}
 use Rattle.hashing.proofs.Digests.{taken-more, online-more, given-taken}
 use Rattle.instance.specs.Instance.{onlineDigest}
-use Rattle.instance.specs.Worked.{broughtIn, worked, replayedGates, replayed, replayedValues}
+use Rattle.instance.specs.Steps.{broughtIn, worked, replayedGates, replayed, replayedValues}
 use Rattle.mpc.proofs.Opened.{sized}
 
 -- the work memory: as lent, cleared, and with the tapes

@@ -1,4 +1,4 @@
 pub mod Instance
 pub mod Stretch
 pub mod Opened
-pub mod Worked
+pub mod Steps

@@ -9,9 +9,9 @@ ghost use Rattle.bits.specs.Bits.{tabulate};
 ghost use Rattle.party.specs.Derive.{commitmentOf};
 ghost use Rattle.instance.specs.Instance.{commitmentsDigest};
 use crate::Instance;
-use keccak::SHA3_256_RATE;
 use hashing::finish;
 use hashing::start_commitments;
+use keccak::SHA3_256_RATE;
 use party::commitment;
 
 // h_j over the commitments of n parties; `theirs` stands for party p's (n for none).

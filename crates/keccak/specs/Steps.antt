@@ -1,3 +1,4 @@
+-- What only the contracts of steps use: no definition of the paper stands here.
 -- The sponge byte by byte, on 25 lanes and the number of bytes taken of the present block.
 -- `proofs/Absorbing.antt` and `Squeezing.antt` show that these steps make the functions of Sponge.antt.
 -- Assumes nothing.

@@ -1,11 +1,12 @@
 -- Every marked case is right: one test that antt computes over the whole table, and the lemma that turns it into each row.
 -- Assumes nothing.
 use mathlib.Core.Path.{_≡_, refl, ap, ap₂, _∙_}
-use mathlib.Core.Bool.{Bool, true, _&&_}
+use mathlib.Core.Bool.{Bool, true, false, _&&_}
 use mathlib.Core.List.{List, [], _∷_, flatten, List·Memᴰ, List·Memᴰ·not-nil, List·Memᴰ·cases-cons}
 use mathlib.Core.Logic.{⊎-elim}
 use Prim.Native.Nat.{ℕ}
 use native.Mathlib.Omega.{arith}
+use lib.Dec.{eqb}
 use borrow.Author.Tests.{eqb-true}
 use Rattle.bits.specs.Bits.{odd, testBit, fromBits, bitAt, pack, none, unusedZero}
 use Rattle.bits.specs.Bytes.{leAt, sameBytes, rowOf}
@@ -23,7 +24,31 @@ use Rattle.mpc.specs.Operations.{Outcome, prepareLegal, prepareOp, ran, runLega
 use Rattle.instance.specs.Stretch.{correctionBytes, stretchBytes}
 use Rattle.proof.specs.Protocol.{asked}
 use Rattle.proof.specs.File.{stretchStart}
-use Rattle.marked.specs.Marked.{Case, reading, working, counting, Right, sameAnswer, sameBuffers, sameOutcome, holds, cases}
+use Rattle.marked.specs.Marked.{Case, reading, working, counting, Right, cases, MarkedCases}
+
+-- whether two answers are the same
+unfoldable sameAnswer : Answer → Answer → Bool
+sameAnswer (refusal j) (refusal k) = eqb j k
+sameAnswer (refusal j) (success ys) = false
+sameAnswer (success xs) (refusal k) = false
+sameAnswer (success xs) (success ys) = sameBytes xs ys
+
+-- whether two lists of buffers are the same
+unfoldable sameBuffers : List (List ℕ) → List (List ℕ) → Bool
+sameBuffers [] [] = true
+sameBuffers [] (y ∷ ys) = false
+sameBuffers (x ∷ xs) [] = false
+sameBuffers (x ∷ xs) (y ∷ ys) = sameBytes x y && sameBuffers xs ys
+
+-- whether two outcomes are the same
+unfoldable sameOutcome : Outcome → Outcome → Bool
+sameOutcome a b = sameAnswer (a .answer) (b .answer) && sameBuffers (a .left) (b .left)
+
+-- the test of a row
+unfoldable holds : Case → Bool
+holds (reading file answer) = sameAnswer (readOp file) answer
+holds (working a b) = sameOutcome a b
+holds (counting a b) = sameBytes a b
 
 -- answers that pass the test are equal
 same-answer : (a b : Answer) → sameAnswer a b ≡ true → a ≡ b
@@ -79,5 +104,5 @@ unfolding every holds sameAnswer sameBuffers sameOutcome sameBytes flatten odd t
 table-passes = refl
 
 -- every marked case is right
-pub marked-cases : (c : Case) → List·Memᴰ c cases → Right c
+pub marked-cases : MarkedCases
 marked-cases c m = row-right c (every-row cases table-passes c m)

@@ -1,13 +1,11 @@
 -- The marked cases (document 01, "Marked cases"): a row for each, with what is lent and what the paper says of it.
 -- Assumes nothing.
 use mathlib.Core.Path.{_≡_}
-use mathlib.Core.Bool.{Bool, true, false, _&&_}
-use mathlib.Core.List.{List, [], _∷_}
+use mathlib.Core.Bool.{true}
+use mathlib.Core.List.{List, [], _∷_, List·Memᴰ}
 use Prim.Native.Nat.{ℕ, _≤_, _<_}
-use lib.Dec.{eqb}
 use lib.ListN.{length, getD, set}
 use Rattle.bits.specs.Bits.{tabulate, pack, bitAt, unusedZero}
-use Rattle.bits.specs.Bytes.{sameBytes}
 use Rattle.circuit.specs.Circuit.{evaluate}
 use Rattle.circuit.specs.File.{circuitOf}
 use Rattle.circuit.specs.Operations.{Answer, refusal, success, readOp}
@@ -30,30 +28,6 @@ unfoldable pub Right : Case → Type 0
 Right (reading file answer) = readOp file ≡ answer
 Right (working a b) = a ≡ b
 Right (counting a b) = a ≡ b
-
--- whether two answers are the same
-unfoldable pub sameAnswer : Answer → Answer → Bool
-sameAnswer (refusal j) (refusal k) = eqb j k
-sameAnswer (refusal j) (success ys) = false
-sameAnswer (success xs) (refusal k) = false
-sameAnswer (success xs) (success ys) = sameBytes xs ys
-
--- whether two lists of buffers are the same
-unfoldable pub sameBuffers : List (List ℕ) → List (List ℕ) → Bool
-sameBuffers [] [] = true
-sameBuffers [] (y ∷ ys) = false
-sameBuffers (x ∷ xs) [] = false
-sameBuffers (x ∷ xs) (y ∷ ys) = sameBytes x y && sameBuffers xs ys
-
--- whether two outcomes are the same
-unfoldable pub sameOutcome : Outcome → Outcome → Bool
-sameOutcome a b = sameAnswer (a .answer) (b .answer) && sameBuffers (a .left) (b .left)
-
--- the test of a row
-unfoldable pub holds : Case → Bool
-holds (reading file answer) = sameAnswer (readOp file) answer
-holds (working a b) = sameOutcome a b
-holds (counting a b) = sameBytes a b
 
 -- "Circuit K, hexadecimal: 02 00 01 00 01 00 01 00 02 00 02 00 00 00 01 00 00 00"
 abbrev pub circuitK : List ℕ
@@ -129,6 +103,10 @@ m10Last = counting (proofSizes 1) (232 ∷ 232 ∷ 232 ∷ 232 ∷ [])
 -- the table
 abbrev pub cases : List Case
 cases = m1 ∷ m2 ∷ m3 ∷ m4 ∷ m5 ∷ m6 ∷ m7 ∷ m8 ∷ m8Shown ∷ m9 ∷ m10First ∷ m10Last ∷ []
+
+-- "The marked cases form one proved table": every row of it is right
+abbrev pub MarkedCases : Type 0
+MarkedCases = (c : Case) → List·Memᴰ c cases → Right c
 
 -- what prove is lent for a proof of K with M = 4, τ = 1 and n = 2: a witness of two bits that gives y, a message, a root, and a buffer
 -- that holds 233 bytes or more, the room that prove asks for

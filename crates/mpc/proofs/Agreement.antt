@@ -18,16 +18,15 @@ use Rattle.bits.proofs.Tabulate.{length-tabulate, getD-tabulate}
 use Rattle.bits.proofs.Tests.{and-true-left, and-true-right}
 use Rattle.circuit.specs.Circuit.{Circuit, ands}
 use Rattle.circuit.specs.File.{inputsOf, outputsOf, gatesOf, headOf, outputWire, nextOf, walks, readsWritten, goodOutputs, goodWires, gatesInOrder, circuitOf}
-use Rattle.circuit.specs.Records.{gateOf, gatesFrom}
-use Rattle.circuit.specs.Values.{wired, Legal}
+use Rattle.circuit.specs.Records.{gateOf}
+use Rattle.circuit.specs.Steps.{gatesFrom, wired, Legal}
 use Rattle.circuit.proofs.Chain.{gates-on, gates-end, ands-on, ands-none, andOne-le, put-other}
 use Rattle.circuit.proofs.Run.{wired-reads, output-low, goodChain-walks, gates-order}
 use Rattle.mpc.specs.Run.{Column, corrections, corrected, Hearing, asSaid, asLent, run}
 use Rattle.mpc.specs.Tapes.{inputMasks, outputMasks, productShares}
 use Rattle.mpc.specs.Showing as shown
 use Rattle.mpc.specs.Showing.{correctionBits, maskedInput, runWith, runOn, honestRun, rowBits, rowsOf, firstBits}
-use Rattle.engine.specs.Memory.{valueAt, correctionAt, at, fill, unpacked, packed, packedRows, loadedTapes, maskByte, maskedInputs}
-use Rattle.engine.specs.Steps.{walked, spoken, outputValues}
+use Rattle.engine.specs.Steps.{valueAt, correctionAt, at, fill, unpacked, packed, packedRows, loadedTapes, maskByte, maskedInputs, walked, spoken, outputValues}
 use Rattle.engine.proofs.Fill.{fill-at}
 use Rattle.mpc.proofs.Holding.{Holds}
 use Rattle.mpc.proofs.StepBits.{Hears, mask-bit}

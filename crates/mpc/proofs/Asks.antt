@@ -8,8 +8,8 @@ use mir.Syntax.{w64}
 use mir.Val.{Fits}
 use lib.ListN.{length, replicate, length-replicate}
 use Rattle.bits.specs.Bits.{oct}
-use Rattle.engine.specs.Fits.{Room}
-use Rattle.mpc.specs.Lent.{Known, Parties}
+use Rattle.engine.specs.Steps.{Room}
+use Rattle.mpc.specs.Steps.{Known, Parties}
 use Rattle.mpc.proofs.Opened.{sized, ands-low, room}
 
 -- a small number fits

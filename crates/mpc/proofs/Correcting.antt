@@ -12,14 +12,13 @@ use Rattle.bits.specs.Xor.{_⊕_, xors}
 use Rattle.circuit.specs.Circuit as paper
 use Rattle.circuit.specs.Circuit.{put}
 use Rattle.circuit.specs.File.{inputsOf, gatesOf, nextOf, walks}
-use Rattle.circuit.specs.Records.{gateOf, placed, andOne, gatesFrom}
-use Rattle.circuit.specs.Values.{within, wired}
+use Rattle.circuit.specs.Records.{gateOf}
+use Rattle.circuit.specs.Steps.{placed, andOne, gatesFrom, within, wired}
 use Rattle.circuit.specs.declared.Gate.{Gate}
 use Rattle.circuit.specs.declared.Gate.the-variants.{Xor, And, Inv}
 use Rattle.circuit.proofs.Chain.{here, gates-on, gates-end, ands-on, ands-none}
 use Rattle.mpc.specs.Run.{Column, next, plus, says, asLent, corrections}
-use Rattle.engine.specs.Memory.{shareAt, valueAt, correctionAt, maskAt, saidAt, at, fill}
-use Rattle.engine.specs.Steps.{gateStep, xorStep, invStep, andStep, correctStep, broadcastStep, takeStep, broadcastByte, maskedProduct, walked}
+use Rattle.engine.specs.Steps.{shareAt, valueAt, correctionAt, maskAt, saidAt, at, fill, gateStep, xorStep, invStep, andStep, correctStep, broadcastStep, takeStep, broadcastByte, maskedProduct, walked}
 use Rattle.engine.proofs.Fill.{fill-other}
 use Rattle.mpc.proofs.Holding.{Holds, wrote-other}
 use Rattle.mpc.proofs.StepBits.{first, correction, withCorrection, xor-agree, inv-agree, and-agree, correct-agree, correct-other, correct-kept}

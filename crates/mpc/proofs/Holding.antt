@@ -16,7 +16,7 @@ use Rattle.bits.proofs.Numbers.{eq-or-ne}
 use Rattle.bits.proofs.Xor.{xor-assoc, xor-false}
 use Rattle.circuit.specs.Circuit.{put}
 use Rattle.mpc.specs.Run.{Column, next}
-use Rattle.engine.specs.Memory.{shareAt, valueAt, maskAt, saidAt, at, fill, xorBytes}
+use Rattle.engine.specs.Steps.{shareAt, valueAt, maskAt, saidAt, at, fill, xorBytes}
 use Rattle.engine.proofs.Fill.{fill-length, fill-other, fill-at}
 
 -- what stands at place k after a put at c

@@ -20,7 +20,7 @@ use Rattle.bits.proofs.Packing.{unused-all}
 use Rattle.bits.proofs.Xor.{xors-cong, xors-false}
 use Rattle.circuit.proofs.Chain.{zeros-at}
 use Rattle.mpc.specs.Run.{Column, corrected}
-use Rattle.engine.specs.Memory.{shareAt, valueAt, maskAt, saidAt, at, fill, unpacked, loadedRow, loadedTapes, maskByte, maskedInputs}
+use Rattle.engine.specs.Steps.{shareAt, valueAt, maskAt, saidAt, at, fill, unpacked, loadedRow, loadedTapes, maskByte, maskedInputs}
 use Rattle.engine.proofs.Fill.{fill-length, fill-other, fill-at}
 use Rattle.mpc.proofs.Holding.{Holds}
 use Rattle.mpc.proofs.StepBits.{mask-bit}

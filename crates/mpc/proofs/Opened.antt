@@ -17,7 +17,7 @@ use Rattle.parties.specs.Parties.{heightOf}
 use Rattle.parties.proofs.Counts.{sizes}
 use Rattle.circuit.specs.Circuit.{Gate, xor, and, inv, ands}
 use Rattle.circuit.specs.File.{inputsOf, outputsOf, gatesOf, headOf, outputWire, walks, readsWritten, goodOutputs, goodWires, gatesInOrder, circuitOf, refused, legal, readCircuit}
-use Rattle.circuit.specs.Records.{gatesFrom}
+use Rattle.circuit.specs.Steps.{gatesFrom}
 use Rattle.circuit.specs.Operations.{refusal, success, readOp}
 use Rattle.circuit.specs.Answers.{readPaper}
 use Rattle.circuit.specs.declared.Sizes.{Sizes}
@@ -26,9 +26,9 @@ use Rattle.circuit.specs.declared.ReadAnswer.the-variants as readAnswer
 use Rattle.circuit.proofs.Answered.{gates-count, read-legal, read-success, refusal-refused}
 use Rattle.circuit.proofs.Outcomes.{legal-passed, legal-sizes}
 use Rattle.circuit.proofs.Run.{wired-reads, goodChain-walks, gates-order}
-use Rattle.engine.specs.Fits.{wireCount, Room, Ready, Ended}
+use Rattle.engine.specs.Steps.{wireCount, Room, Ready, Ended}
 use Rattle.mpc.specs.Tapes.{andsOf, rowBytes}
-use Rattle.mpc.specs.Lent.{Known, Parties, Begun}
+use Rattle.mpc.specs.Steps.{Known, Parties, Begun}
 
 -- the numbers that the code carries, in one
 abbrev pub sized : ℕ → ℕ → ℕ → ℕ → Sizes

@@ -15,8 +15,7 @@ use Rattle.bits.proofs.Tabulate.{length-tabulate, getD-tabulate, tabulate-cong}
 use Rattle.circuit.specs.File.{outputWire}
 use Rattle.mpc.specs.Run.{Column, Transcript}
 use Rattle.mpc.specs.Showing.{rowBits, rowsOf, firstBits}
-use Rattle.engine.specs.Memory.{saidAt, at, fill, packedByte, packed, packedRows}
-use Rattle.engine.specs.Steps.{unmasked, spoken, outputValues}
+use Rattle.engine.specs.Steps.{saidAt, at, fill, packedByte, packed, packedRows, unmasked, spoken, outputValues}
 use Rattle.engine.proofs.Fill.{fill-at}
 use Rattle.mpc.proofs.WalkBits.{blank, Gives}
 

@@ -18,13 +18,12 @@ use Rattle.circuit.specs.declared.Sizes.{Sizes}
 use Rattle.circuit.specs.declared.ReadAnswer.{ReadAnswer}
 use Rattle.circuit.specs.declared.ReadAnswer.the-variants as readAnswer
 use Rattle.circuit.proofs.Answered.{fell, held}
-use Rattle.engine.specs.Memory.{packed, loadedTapes}
-use Rattle.engine.specs.Steps.{walked}
+use Rattle.engine.specs.Steps.{packed, loadedTapes, walked}
 use Rattle.mpc.specs.Tapes.{andsOf, unusedRows}
 use Rattle.mpc.specs.Showing.{correctionBits}
 use Rattle.mpc.specs.Operations.{onLegal, holds, holdsRows, tapeBits, prepareLegal, prepareOp}
 use Rattle.mpc.specs.Answers.{outcome}
-use Rattle.mpc.specs.Lent.{Known, Begun}
+use Rattle.mpc.specs.Steps.{Known, Begun}
 use Rattle.mpc.specs.declared.Answer.the-variants.{Done, Refused}
 use Rattle.mpc.proofs.Agreement.{prepare-agrees}
 use Rattle.mpc.proofs.Opened.{sized, opened-refused, opened-legal, circuit-inputs, circuit-ands}

@@ -20,14 +20,13 @@ use Rattle.circuit.specs.declared.Sizes.{Sizes}
 use Rattle.circuit.specs.declared.ReadAnswer.{ReadAnswer}
 use Rattle.circuit.specs.declared.ReadAnswer.the-variants as readAnswer
 use Rattle.circuit.proofs.Answered.{fell, held}
-use Rattle.engine.specs.Memory.{unpacked, packed, packedRows, loadedTapes, maskedInputs}
-use Rattle.engine.specs.Steps.{walked, spoken, outputValues}
+use Rattle.engine.specs.Steps.{unpacked, packed, packedRows, loadedTapes, maskedInputs, walked, spoken, outputValues}
 use Rattle.mpc.specs.Tapes.{andsOf, unusedRows}
 use Rattle.mpc.specs.Showing as shown
 use Rattle.mpc.specs.Showing.{runOn, rowsOf}
 use Rattle.mpc.specs.Operations.{onLegal, ran, runLegal, runOp}
 use Rattle.mpc.specs.Answers.{outcome}
-use Rattle.mpc.specs.Lent.{Known, Begun, WitnessFits, RunLent}
+use Rattle.mpc.specs.Steps.{Known, Begun, WitnessFits, RunLent}
 use Rattle.mpc.specs.declared.Answer.the-variants.{Done, Refused}
 use Rattle.mpc.proofs.Agreement.{run-masked-agrees, run-rows-agree, run-output-agrees}
 use Rattle.mpc.proofs.Opened.{sized, opened-refused, opened-legal, circuit-inputs, circuit-outputs, circuit-ands}

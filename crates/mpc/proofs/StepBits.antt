@@ -17,8 +17,7 @@ use Rattle.bits.proofs.Bitwise.{odd-xor, odd-and}
 use Rattle.bits.proofs.Numbers.{eq-or-ne, odd-bitVal}
 use Rattle.circuit.specs.Circuit.{put}
 use Rattle.mpc.specs.Run.{Column, next, plus, says, Hearing}
-use Rattle.engine.specs.Memory.{shareAt, valueAt, correctionAt, maskAt, saidAt, at, fill, xorBytes, maskByte}
-use Rattle.engine.specs.Steps.{xorStep, invStep, correctionByte, correctStep, broadcastByte, broadcastStep, maskedProduct, takeStep, andStep}
+use Rattle.engine.specs.Steps.{shareAt, valueAt, correctionAt, maskAt, saidAt, at, fill, xorBytes, maskByte, xorStep, invStep, correctionByte, correctStep, broadcastByte, broadcastStep, maskedProduct, takeStep, andStep}
 use Rattle.engine.proofs.Fill.{fill-other}
 use Rattle.mpc.proofs.Holding.{put-at, odd-xorBytes, Holds, wire-step, said-step}
 

@@ -12,7 +12,7 @@ use Rattle.bits.specs.Bytes.{rowOf}
 use Rattle.bits.proofs.Tests.{and-true-left, and-true-right}
 use Rattle.circuit.specs.File.{circuitOf}
 use Rattle.mpc.specs.Tapes.{andsOf, usedBits, unusedRows}
-use Rattle.mpc.specs.Lent.{Known}
+use Rattle.mpc.specs.Steps.{Known}
 use Rattle.mpc.proofs.Opened.{sized, circuit-inputs, circuit-ands, circuit-row}
 
 -- two lengths that are both as stated

@@ -14,14 +14,13 @@ use Rattle.bits.specs.Xor.{_⊕_, xors}
 use Rattle.circuit.specs.Circuit as paper
 use Rattle.circuit.specs.Circuit.{put}
 use Rattle.circuit.specs.File.{inputsOf, gatesOf, outputWire, nextOf, walks}
-use Rattle.circuit.specs.Records.{gateOf, placed, andOne, gatesFrom}
-use Rattle.circuit.specs.Values.{within, wired}
+use Rattle.circuit.specs.Records.{gateOf}
+use Rattle.circuit.specs.Steps.{placed, andOne, gatesFrom, within, wired}
 use Rattle.circuit.specs.declared.Gate.{Gate}
 use Rattle.circuit.specs.declared.Gate.the-variants.{Xor, And, Inv}
 use Rattle.circuit.proofs.Chain.{here, gates-on, gates-end, ands-on, ands-none}
 use Rattle.mpc.specs.Run.{Column, next, plus, says, Hearing, corrections, corrected, Transcript, outputs, run}
-use Rattle.engine.specs.Memory.{shareAt, valueAt, saidAt, at}
-use Rattle.engine.specs.Steps.{gateStep, xorStep, invStep, andStep, correctStep, walked, outputByte, outputStep, unmasked, spoken}
+use Rattle.engine.specs.Steps.{shareAt, valueAt, saidAt, at, gateStep, xorStep, invStep, andStep, correctStep, walked, outputByte, outputStep, unmasked, spoken}
 use Rattle.engine.proofs.Fill.{fill-length, fill-other, fill-at}
 use Rattle.mpc.proofs.Holding.{put-at, put-column, odd-xorBytes, Holds}
 use Rattle.mpc.proofs.StepBits.{Hears, first, correction, withCorrection, xor-agree, inv-agree, and-agree, correct-agree}

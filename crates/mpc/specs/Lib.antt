@@ -3,4 +3,4 @@ pub mod Tapes
 pub mod Showing
 pub mod Operations
 pub mod Answers
-pub mod Lent
+pub mod Steps

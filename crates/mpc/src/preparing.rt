@@ -8,7 +8,7 @@ ghost use Rattle.circuit.specs.File.{circuitOf};
 ghost use Rattle.mpc.specs.Showing.{correctionBits};
 ghost use Rattle.mpc.specs.Operations.{prepareLegal, prepareOp};
 ghost use Rattle.mpc.specs.Answers.{outcome};
-ghost use Rattle.mpc.specs.Lent.{Known, Parties, Begun, TapesFit};
+ghost use Rattle.mpc.specs.Steps.{Known, Parties, Begun, TapesFit};
 use crate::Answer;
 use crate::tests::both;
 use crate::tests::holds;

@@ -9,7 +9,7 @@ ghost use Rattle.bits.specs.Bits.{oct};
 ghost use Rattle.circuit.specs.File.{circuitOf};
 ghost use Rattle.mpc.specs.Operations.{ran, runLegal, runOp};
 ghost use Rattle.mpc.specs.Answers.{outcome};
-ghost use Rattle.mpc.specs.Lent.{Known, Parties, Begun, WitnessFits, RunLent};
+ghost use Rattle.mpc.specs.Steps.{Known, Parties, Begun, WitnessFits, RunLent};
 use crate::Answer;
 use crate::tests::both;
 use crate::tests::holds;

@@ -15,7 +15,7 @@ use Rattle.keccak.specs.Steps.{absorbs}
 use Rattle.keccak.proofs.Absorbing.{Bytes}
 use Rattle.hashing.specs.Inputs.{commitmentInput, ownCorrections}
 use Rattle.party.specs.Derive.{commitmentOf}
-use Rattle.hashing.specs.Digest.{taken, given}
+use Rattle.hashing.specs.Steps.{taken, given}
 use Rattle.hashing.proofs.Hashes.{bytes-append, bytes-one}
 use Rattle.hashing.proofs.Digests.{taken-more, given-taken}
 

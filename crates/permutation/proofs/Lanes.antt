@@ -17,7 +17,7 @@ use Rattle.bits.proofs.Ops.{testBit-xor, testBit-and, testBit-or, testBit-not, 
 use Rattle.bits.proofs.Tabulate.{getD-tabulate, tabulate-cong, tabulate-getD}
 use Rattle.bits.proofs.Xor.{taut, xor-false, xor-true}
 use Rattle.permutation.specs.Permutation.{StateArray, columnParity, thetaEffect, θ, putLane, ρ, π, χ, RC, roundConstant, ι, lane, lanes, laneArray}
-use Rattle.permutation.specs.Planes.{plane, effects, kept, moved, flip}
+use Rattle.permutation.specs.Steps.{plane, effects, kept, moved, flip}
 use Rattle.permutation.proofs.Agree.{grid, grid-lanes, lanes-at}
 use Rattle.permutation.proofs.Offsets.{offset, offset-lt, rho-bits}
 

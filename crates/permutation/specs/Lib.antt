@@ -1,2 +1,2 @@
 pub mod Permutation
-pub mod Planes
+pub mod Steps

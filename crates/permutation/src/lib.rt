@@ -2,7 +2,7 @@
 // χ is on lanes of which some are complemented (specs/Planes.antt): it then needs one complement for each plane.
 ghost use mathlib.Core.Path.{_≡_};
 ghost use Rattle.permutation.specs.Permutation.{θ, ρ, π, χ, roundConstant, ι, lanes, laneArray};
-ghost use Rattle.permutation.specs.Planes.{effects, kept, moved, flip};
+ghost use Rattle.permutation.specs.Steps.{effects, kept, moved, flip};
 
 // Algorithm 1, steps 1 and 2: the parities of two columns for each x.
 pub fn theta_effect(a: [u64; 25]) -> [u64; 5]

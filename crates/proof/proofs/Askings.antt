@@ -18,7 +18,7 @@ use Rattle.choice.proofs.Challenges.{challenge-sound}
 use Rattle.seeds.proofs.Instances.{Fit, counts-fit}
 use Rattle.instance.specs.Instance.{hiding}
 use Rattle.proof.specs.Protocol.{asked, challenged}
-use Rattle.proof.specs.Asks.{askOf, partyIn, asksIn, Asking}
+use Rattle.proof.specs.Steps.{askOf, partyIn, asksIn, Asking}
 use Rattle.proof.proofs.Sizes.{ask-opened, ask-hiding}
 
 -- an instance number of two bytes is read as it was written

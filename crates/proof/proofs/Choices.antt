@@ -11,7 +11,7 @@ use lib.Dec.{eqb}
 use lib.ListN.{length, getD, drop, length-drop}
 use lib.Seq.{drop-cons}
 use Rattle.bits.specs.Bytes.{leAt}
-use Rattle.proof.specs.Asks.{partyIn}
+use Rattle.proof.specs.Steps.{partyIn}
 
 -- fewer than three bytes choose no instance
 few-none : (n j : ℕ) (s : List ℕ) → length s < 3 → partyIn n j s ≡ n

@@ -12,16 +12,16 @@ use Rattle.bits.specs.Bits.{oct}
 use Rattle.parties.proofs.Counts.{height-small}
 use Rattle.circuit.specs.Circuit.{Circuit}
 use Rattle.circuit.specs.File.{circuitOf}
-use Rattle.mpc.specs.Lent.{Known}
+use Rattle.mpc.specs.Steps.{Known}
 use Rattle.mpc.specs.Tapes.{andsOf}
 use Rattle.mpc.proofs.Asks.{ands-few, broadcasts-few}
 use Rattle.mpc.proofs.Opened.{sized, circuit-inputs, circuit-outputs, circuit-ands}
 use Rattle.instance.specs.Instance.{Asked, opened, hiding}
 use Rattle.instance.specs.Stretch.{correctionBytes, stretchBytes}
-use Rattle.instance.specs.Worked.{Tree}
+use Rattle.instance.specs.Steps.{Tree}
 use Rattle.instance.proofs.Laid.{stretch-size}
 use Rattle.proof.specs.File.{stretchStart}
-use Rattle.proof.specs.Asks.{askOf}
+use Rattle.proof.specs.Steps.{askOf}
 
 -- the number n asks for the master
 pub ask-opened : (n p : ℕ) → p ≡ n → askOf n p ≡ opened

@@ -9,10 +9,10 @@ use mir.Syntax.{w64}
 use mir.Val.{Fits}
 use lib.ListN.{take, replicate}
 use Rattle.bits.specs.Bits.{oct}
-use Rattle.mpc.specs.Lent.{Known}
+use Rattle.mpc.specs.Steps.{Known}
 use Rattle.mpc.proofs.Opened.{sized, ands-low}
 use Rattle.mpc.proofs.Asks.{small}
-use Rattle.instance.specs.Worked.{Tree, Lent}
+use Rattle.instance.specs.Steps.{Tree, Lent}
 use Rattle.instance.proofs.Sent.{tree-sizes, front-length}
 
 -- a legal file

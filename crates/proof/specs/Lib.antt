@@ -2,4 +2,4 @@ pub mod Protocol
 pub mod File
 pub mod Prove
 pub mod Check
-pub mod Asks
+pub mod Steps

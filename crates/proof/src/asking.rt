@@ -2,12 +2,12 @@
 ghost use mathlib.Core.Path.{_≡_};
 ghost use Prim.Native.Nat.{_≤_};
 ghost use Rattle.circuit.specs.File.{circuitOf};
-ghost use Rattle.mpc.specs.Lent.{Known};
+ghost use Rattle.mpc.specs.Steps.{Known};
 ghost use Rattle.seeds.specs.Operations.{maxInstances};
 ghost use Rattle.instance.specs.Stretch.{stretchBytes};
-ghost use Rattle.instance.specs.Worked.{Tree};
+ghost use Rattle.instance.specs.Steps.{Tree};
 ghost use Rattle.proof.specs.File.{proofBytes};
-ghost use Rattle.proof.specs.Asks.{askOf, partyIn, asksIn, Asking};
+ghost use Rattle.proof.specs.Steps.{askOf, partyIn, asksIn, Asking};
 use crate::HEADER_BYTES;
 use circuit::Sizes;
 use instance::checking::sent_bytes;

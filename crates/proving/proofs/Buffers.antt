@@ -22,12 +22,12 @@ use Rattle.seeds.specs.declared.Answer.{Answer}
 use Rattle.seeds.proofs.Instances.{counts-fit}
 use Rattle.instance.specs.Instance.{Asked, opened, hiding}
 use Rattle.instance.specs.Stretch.{stretchBytes}
-use Rattle.instance.specs.Worked.{Tree, Lent}
+use Rattle.instance.specs.Steps.{Tree, Lent}
 use Rattle.instance.proofs.Sent.{tree-sizes}
 use Rattle.proof.specs.Protocol.{mastersOf, hstarOf, firstMessage, challenged, responseOf}
 use Rattle.proof.specs.File.{headerOf, stretchStart, proofBytes}
 use Rattle.proof.specs.Prove.{proofOf}
-use Rattle.proof.specs.Asks.{asksIn, Asking}
+use Rattle.proof.specs.Steps.{asksIn, Asking}
 use Rattle.proof.proofs.Askings.{asks-same, asking-challenge, challenge-done}
 use Rattle.honest.proofs.Header.{length-header}
 use Rattle.honest.proofs.Proved.{has-height}

@@ -18,11 +18,12 @@ use Rattle.circuit.specs.Circuit.{Circuit}
 use Rattle.mpc.specs.Showing.{rowsOf}
 use Rattle.hashing.specs.Inputs.{commitmentsInput, onlineInput, allCommitmentsInput, allOnlineInput}
 use Rattle.party.specs.Derive.{masterOf}
-use Rattle.hashing.specs.Digest.{taken, given, transcriptOf}
+use Rattle.hashing.specs.Digest.{transcriptOf}
+use Rattle.hashing.specs.Steps.{taken, given}
 use Rattle.hashing.proofs.Hashes.{bytes-append, bytes-one}
 use Rattle.hashing.proofs.Digests.{taken-more, taken-room, given-taken, all-online-more}
 use Rattle.instance.specs.Instance.{commitmentsDigest, onlineDigest, commitmentsOf, masterSeeds, masterCorrections, masterCommitments, masterRun, masterMasked, masterOnline}
-use Rattle.instance.specs.Worked.{Lent}
+use Rattle.instance.specs.Steps.{Lent}
 use Rattle.instance.proofs.Seeded.{flatten-more}
 use Rattle.proof.specs.Protocol.{mastersOf, hstarOf, firstMessage}
 use Rattle.proof.proofs.Digests.{sha3-bytes}

@@ -15,7 +15,7 @@ use Rattle.circuit.specs.File.{circuitOf, readCircuit, legal}
 use Rattle.circuit.specs.Operations.{Outcome, success, evaluateLegal, evaluateRead, evaluateOp}
 use Rattle.circuit.specs.Answers.{outcome}
 use Rattle.circuit.specs.declared.EvaluateAnswer.{EvaluateAnswer}
-use Rattle.mpc.specs.Lent.{Known, WitnessFits}
+use Rattle.mpc.specs.Steps.{Known, WitnessFits}
 use Rattle.mpc.proofs.Opened.{sized, circuit-inputs, circuit-outputs}
 use Rattle.proof.specs.Prove.{witnesses}
 

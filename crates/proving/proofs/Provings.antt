@@ -21,11 +21,11 @@ use Rattle.circuit.specs.declared.ReadAnswer.{ReadAnswer}
 use Rattle.circuit.specs.declared.ReadAnswer.the-variants as readAnswer
 use Rattle.circuit.proofs.Answered.{fell, held}
 use Rattle.mpc.specs.Operations.{onLegal}
-use Rattle.mpc.specs.Lent.{Known, WitnessFits}
+use Rattle.mpc.specs.Steps.{Known, WitnessFits}
 use Rattle.mpc.proofs.Opened.{sized, opened-refused, opened-legal, circuit-inputs, circuit-outputs}
 use Rattle.seeds.specs.Operations.{areCounts}
 use Rattle.seeds.proofs.Instances.{counts-fit}
-use Rattle.instance.specs.Worked.{Tree}
+use Rattle.instance.specs.Steps.{Tree}
 use Rattle.proof.specs.File.{proofRoom}
 use Rattle.proof.specs.Protocol.{mastersOf}
 use Rattle.proof.specs.Prove.{proofOf, witnesses, written, proveLegal, proveOp}

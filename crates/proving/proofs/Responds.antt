@@ -16,10 +16,10 @@ use Rattle.circuit.specs.Circuit.{Circuit}
 use Rattle.party.specs.Derive.{masterOf}
 use Rattle.instance.specs.Instance.{Asked, opened, hiding, masterOnline, stretchOf}
 use Rattle.instance.specs.Stretch.{stretchBytes}
-use Rattle.instance.specs.Worked.{Tree}
+use Rattle.instance.specs.Steps.{Tree}
 use Rattle.proof.specs.Protocol.{mastersOf, responseOf}
 use Rattle.proof.specs.File.{stretchStart, proofBytes}
-use Rattle.proof.specs.Asks.{askOf, partyIn, asksIn, Asking}
+use Rattle.proof.specs.Steps.{askOf, partyIn, asksIn, Asking}
 use Rattle.proof.proofs.Sizes.{ask-opened, ask-hiding}
 use Rattle.honest.proofs.Parts.{length-stretch}
 use Rattle.honest.proofs.Places.{flatten-more}

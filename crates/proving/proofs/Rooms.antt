@@ -12,11 +12,11 @@ use Rattle.bits.specs.Bits.{oct}
 use Rattle.parties.specs.Parties.{heightOf}
 use Rattle.parties.proofs.Counts.{height-small}
 use Rattle.circuit.specs.File.{circuitOf}
-use Rattle.mpc.specs.Lent.{Known}
+use Rattle.mpc.specs.Steps.{Known}
 use Rattle.mpc.specs.Tapes.{andsOf}
 use Rattle.mpc.proofs.Opened.{sized, circuit-inputs, circuit-outputs, circuit-ands, ands-low}
 use Rattle.mpc.proofs.Asks.{small}
-use Rattle.instance.specs.Worked.{Tree}
+use Rattle.instance.specs.Steps.{Tree}
 use Rattle.proof.specs.File.{proofRoom}
 
 -- a legal file

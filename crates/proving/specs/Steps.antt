@@ -1,3 +1,4 @@
+-- What only the contracts of steps use: no definition of the paper stands here.
 -- What the steps of prove keep and ask.
 -- Assumes nothing.
 use mathlib.Core.Path.{_≡_}
@@ -9,12 +10,12 @@ use Rattle.bits.specs.Bits.{tabulate}
 use Rattle.circuit.specs.Circuit.{Circuit}
 use Rattle.circuit.specs.File.{circuitOf}
 use Rattle.circuit.specs.declared.Sizes.{Sizes}
-use Rattle.mpc.specs.Lent.{WitnessFits}
+use Rattle.mpc.specs.Steps.{WitnessFits}
 use Rattle.party.specs.Derive.{masterOf}
 use Rattle.seeds.specs.Operations.{maxInstances, maxMessage, areCounts}
 use Rattle.instance.specs.Instance.{masterOnline}
 use Rattle.proof.specs.File.{headerBytes, proofBytes, proofRoom}
-use Rattle.proof.specs.Asks.{asksIn, Asking}
+use Rattle.proof.specs.Steps.{asksIn, Asking}
 
 -- all h'_j, one after the other
 unfoldable pub onlinesOf : Circuit → ℕ → ℕ → List ℕ → List ℕ → List ℕ

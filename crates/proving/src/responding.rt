@@ -3,28 +3,28 @@ ghost use mathlib.Core.Path.{_≡_};
 ghost use Prim.Native.Nat.{_+_, _*_, _≤_};
 ghost use lib.ListN.{length, take};
 ghost use Rattle.circuit.specs.File.{circuitOf};
-ghost use Rattle.mpc.specs.Lent.{WitnessFits};
+ghost use Rattle.mpc.specs.Steps.{WitnessFits};
 ghost use Rattle.party.specs.Derive.{masterOf};
 ghost use Rattle.seeds.specs.Operations.{maxInstances};
 ghost use Rattle.instance.specs.Instance.{masterOnline, stretchOf};
 ghost use Rattle.instance.specs.Stretch.{stretchBytes};
-ghost use Rattle.instance.specs.Worked.{Lent};
+ghost use Rattle.instance.specs.Steps.{Lent};
 ghost use Rattle.proof.specs.Protocol.{mastersOf, firstMessage, responseOf};
-ghost use Rattle.proof.specs.Asks.{askOf, asksIn};
+ghost use Rattle.proof.specs.Steps.{askOf, asksIn};
 ghost use Rattle.proving.specs.Steps.{onlinesOf, Response};
 use bits::copy;
 use circuit::Sizes;
-use instance::Instance;
-use instance::sending::digests;
-use instance::sending::send;
-use keccak::SHA3_256_RATE;
-use proof::asking::asked;
-use proof::asking::stretch_bytes;
 use hashing::finish;
 use hashing::start_all_commitments;
 use hashing::start_all_online;
 use hashing::transcript;
+use instance::Instance;
+use instance::sending::digests;
+use instance::sending::send;
+use keccak::SHA3_256_RATE;
 use party::master;
+use proof::asking::asked;
+use proof::asking::stretch_bytes;
 
 // Round 1: h*, from the digests of all m instances; `onlines` takes the h'_j, one after the other.
 pub(crate) fn first(

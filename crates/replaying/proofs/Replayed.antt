@@ -24,14 +24,13 @@ use Rattle.circuit.specs.declared.Sizes.{Sizes}
 use Rattle.circuit.specs.declared.ReadAnswer.{ReadAnswer}
 use Rattle.circuit.specs.declared.ReadAnswer.the-variants as readAnswer
 use Rattle.circuit.proofs.Answered.{fell, held}
-use Rattle.engine.specs.Memory.{unpacked, packed, packedRows, loadedTapes}
-use Rattle.engine.specs.Steps.{walked, spoken, outputValues}
+use Rattle.engine.specs.Steps.{unpacked, packed, packedRows, loadedTapes, walked, spoken, outputValues}
 use Rattle.mpc.specs.Run.{Transcript}
 use Rattle.mpc.specs.Tapes.{andsOf, tapeRow, unusedRows}
 use Rattle.mpc.specs.Showing.{Showing, rowsOf, replayOf}
 use Rattle.mpc.specs.Operations.{onLegal, holds, holdsRows, holdsShowing, broadcastBits, unusedShowing, replayLegal, replayOp}
 use Rattle.mpc.specs.Answers.{outcome}
-use Rattle.mpc.specs.Lent.{Known, Parties, Begun, ShowingFits}
+use Rattle.mpc.specs.Steps.{Known, Parties, Begun, ShowingFits}
 use Rattle.mpc.specs.declared.Answer.the-variants.{Done, Refused}
 use Rattle.mpc.proofs.Agreement.{replay-rows-agree, replay-output-agrees}
 use Rattle.mpc.proofs.Opened.{sized, opened-refused, opened-legal, circuit-inputs, circuit-outputs, circuit-ands, circuit-row, ands-low}

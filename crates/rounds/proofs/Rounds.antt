@@ -15,7 +15,7 @@ use Rattle.bits.proofs.Tabulate.{getD-tabulate}
 use Rattle.bits.proofs.Tests.{and-true-left, and-true-right}
 use Rattle.bits.proofs.Xor.{taut, xor-self-right}
 use Rattle.permutation.specs.Permutation.{StateArray, columnParity, thetaEffect, θ, putLane, ρ, π, χ, RC, ι, Rnd, rounds, lanes, laneArray}
-use Rattle.permutation.specs.Planes.{plane, kept, moved, flip}
+use Rattle.permutation.specs.Steps.{plane, kept, moved, flip}
 use Rattle.permutation.proofs.Agree.{Agree, lanes-cong, array-lanes, rho-cong, pi-cong, chi-cong, iota-cong, round-cong, rounds-cong}
 use Rattle.permutation.proofs.Lanes.{Lanes64, lanes-array, plane-of}
 use Rattle.permutation.proofs.Offsets.{offset, rho-bits}

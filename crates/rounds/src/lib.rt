@@ -4,7 +4,7 @@
 ghost use mathlib.Core.Path.{_≡_};
 ghost use mathlib.Core.List.{_++_};
 ghost use Rattle.permutation.specs.Permutation.{θ, ρ, π, χ, roundConstant, Rnd, rounds, lanes, laneArray};
-ghost use Rattle.permutation.specs.Planes.{plane, effects, kept, moved, flip};
+ghost use Rattle.permutation.specs.Steps.{plane, effects, kept, moved, flip};
 use permutation::chi;
 use permutation::iota;
 use permutation::pi;

@@ -13,7 +13,8 @@ use Rattle.bits.specs.Bytes.{leBytes}
 use Rattle.bits.proofs.Numbers.{eq-or-ne}
 use Rattle.shelf.specs.declared.Shelf.{Shelf}
 use Rattle.shelf.specs.Page.{slotAt, readyHead, spareHead, drawsOf, nextOf, rootOf, zeroRoot, sound}
-use Rattle.shelf.specs.Operations.{accepted, refused, putSlot, putHeads, linkAfter, movedAfter, stocked, drawn, stockOp, drawOp}
+use Rattle.shelf.specs.Operations.{accepted, refused, putSlot, putHeads, stocked, drawn, stockOp, drawOp}
+use Rattle.shelf.specs.Steps.{linkAfter, movedAfter}
 use Rattle.shelf.proofs.Soundness.{shelfOf}
 
 module _ (p root : List ℕ) where

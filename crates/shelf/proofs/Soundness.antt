@@ -14,8 +14,8 @@ use Rattle.bits.proofs.Numbers.{eq-or-ne}
 use Rattle.bits.proofs.Tests.{and-true-left, and-true-right}
 use Rattle.shelf.specs.declared.Shelf.{Shelf}
 use Rattle.shelf.specs.declared.Checked.the-variants.{Sound, Broken}
-use Rattle.shelf.specs.Page.{sizeOf, readyHead, spareHead, zeroField, drawsOf, slotAt, nextOf, chain, ended, count, allOne, blank, headerSound, chainsFrom, sound, Tallied}
-use Rattle.shelf.specs.Operations.{checked}
+use Rattle.shelf.specs.Page.{sizeOf, readyHead, spareHead, zeroField, drawsOf, slotAt, nextOf, chain, ended, count, allOne, blank, headerSound, chainsFrom, sound}
+use Rattle.shelf.specs.Steps.{Tallied, checked}
 use Rattle.shelf.proofs.Walks.{false-true, ended-room, allOne-cong, count-append, count-le, chain-length}
 
 -- a test holds or fails

@@ -13,7 +13,8 @@ use lib.Seq.{getD-set-same, getD-set-other}
 use Rattle.bits.specs.Bits.{bitVal}
 use Rattle.bits.proofs.Numbers.{eq-or-ne, lt-or-le, bitVal-lt}
 use Rattle.bits.specs.Bytes.{leAt, sameBytes}
-use Rattle.shelf.specs.Page.{chain, ended, count, allOne, slotAt, nextOf, rootOf, zeroRoot, blank, Tallied}
+use Rattle.shelf.specs.Page.{chain, ended, count, allOne, slotAt, nextOf, rootOf, zeroRoot, blank}
+use Rattle.shelf.specs.Steps.{Tallied}
 
 module _ (next : ℕ → ℕ) where
   -- at 0 a chain has ended

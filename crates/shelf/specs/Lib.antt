@@ -3,3 +3,4 @@ pub mod Meaning
 pub mod Operations
 pub mod Plain
 pub mod History
+pub mod Steps

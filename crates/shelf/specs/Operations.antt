@@ -6,16 +6,12 @@ use Prim.Native.Nat.{ℕ, _+_}
 use lib.Dec.{eqb}
 use lib.ListN.{length}
 use lib.Seq.{sets}
-use Rattle.bits.specs.Bytes.{leAt, leBytes}
-use Rattle.refusal.specs.declared.Refusal.{Refusal}
+use Rattle.bits.specs.Bytes.{leBytes}
 use Rattle.refusal.specs.declared.Refusal.the-variants.{BufferLength, Shelf, Count, Empty, Full, Exhausted}
 use Rattle.refusal.specs.Refusal.{numberOf}
 use Rattle.shelf.specs.declared.Answer as declared
 use Rattle.shelf.specs.declared.Answer.the-variants.{Accepted, Refused}
-use Rattle.shelf.specs.declared.Checked.{Checked}
-use Rattle.shelf.specs.declared.Drawn.{Drawn}
-use Rattle.shelf.specs.declared.Checked.the-variants.{Sound, Broken}
-use Rattle.shelf.specs.Page.{sizeOf, readyHead, spareHead, drawsOf, slotAt, nextOf, rootOf, zeroRoot, sound}
+use Rattle.shelf.specs.Page.{readyHead, spareHead, drawsOf, slotAt, nextOf, rootOf, zeroRoot, sound}
 
 -- an answer in the paper's terms: accepted, or the number of the refusal
 pub data Answer : Type 0 where
@@ -27,17 +23,6 @@ unfoldable pub paper : declared.Answer → Answer
 paper Accepted = accepted
 paper (Refused r) = refused (numberOf r)
 
--- a refused draw: the refusal, and a zero root
-abbrev pub noRoot : Refusal → Drawn
-noRoot r = record { answer = Refused r; root = zeroRoot }
-
--- the sound shelf of a page: S, the heads and draws
-unfoldable pub checked : List ℕ → Checked
-checked p =
-    cond (sound p)
-    (Sound (record { size = sizeOf p; ready = readyHead p; spare = spareHead p; draws = drawsOf p }))
-    Broken
-
 -- slot k with this next slot and this root
 unfoldable pub putSlot : ℕ → ℕ → List ℕ → List ℕ → List ℕ
 putSlot k next root p = sets (sets p (slotAt k) (leBytes 2 next)) (slotAt k + 2) root
@@ -45,16 +30,6 @@ putSlot k next root p = sets (sets p (slotAt k) (leBytes 2 next)) (slotAt k + 2)
 -- the heads of the ready chain and of the spare chain
 unfoldable pub putHeads : ℕ → ℕ → List ℕ → List ℕ
 putHeads ready spare p = sets (sets p 2 (leBytes 2 ready)) 4 (leBytes 2 spare)
-
--- where the link to the spare slot after slot `before` stands: the spare head for 0, and else that slot's next
-unfoldable pub linkAfter : ℕ → ℕ
-linkAfter before = cond (eqb before 0) 4 (slotAt before)
-
--- slot k, with this root, moved from the front of ready into spare, after slot `before`; the first ready slot is then `next`
-unfoldable pub movedAfter : ℕ → ℕ → ℕ → List ℕ → List ℕ → List ℕ
-movedAfter before k next root p =
-    let link : ℕ = linkAfter before in
-    sets (sets (putSlot k (leAt 2 p link) root p) 2 (leBytes 2 next)) link (leBytes 2 k)
 
 -- "Stocking writes the lent root into the first spare slot and moves that slot to the front of ready."
 unfoldable pub stocked : List ℕ → List ℕ → List ℕ

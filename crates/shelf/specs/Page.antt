@@ -1,11 +1,10 @@
 -- The shelf's page (document 01, "Shelf"): its fields, its two chains, and when it is sound.
 -- Assumes nothing.
-use mathlib.Core.Path.{_≡_}
 use mathlib.Core.Bool.{Bool, true, cond, _&&_}
 use mathlib.Core.List.{List, [], _∷_, _++_, map}
 use Prim.Native.Nat.{ℕ, zero, suc, _+_, _-_, _*_}
 use lib.Dec.{eqb, leb}
-use lib.ListN.{length, getD, take, drop, replicate}
+use lib.ListN.{length, take, drop, replicate}
 use Rattle.bits.specs.Bits.{bitVal}
 use Rattle.bits.specs.Bytes.{leAt, sameBytes}
 
@@ -97,8 +96,3 @@ sound p = headerSound p && chainsFrom p (sizeOf p) (readyHead p) (spareHead p)
 -- the ready roots in chain order
 unfoldable pub readyRoots : List ℕ → List (List ℕ)
 readyRoots p = map (rootOf p) (readySlots p)
-
--- what counting a chain's slots leaves: whether the chain is ended, and, if so, its slots added to the counts
-pub record Tallied (p : List ℕ) (S head : ℕ) (before : List ℕ) (ends : Bool) (counts : List ℕ) : Type 0 where
-  pub isEnded : ends ≡ ended (nextOf p) S S head
-  pub added : ends ≡ true → (k : ℕ) → getD counts k 0 ≡ getD before k 0 + count k (chain (nextOf p) S head)

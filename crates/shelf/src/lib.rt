@@ -4,8 +4,9 @@ ghost use mathlib.Core.Bool.{true};
 ghost use Prim.Native.Nat.{ℕ, _+_, _*_, _≤_, _<_};
 ghost use lib.ListN.{length, take, drop, getD};
 ghost use lib.Seq.{sets};
-ghost use Rattle.shelf.specs.Page.{slotAt, nextOf, chain, ended, allOne, blank, chainsFrom, Tallied};
-ghost use Rattle.shelf.specs.Operations.{paper, noRoot, checked, putSlot, putHeads, linkAfter, movedAfter, stockOp, drawOp};
+ghost use Rattle.shelf.specs.Page.{slotAt, nextOf, chain, ended, allOne, blank, chainsFrom};
+ghost use Rattle.shelf.specs.Steps.{Tallied, noRoot, checked, linkAfter, movedAfter};
+ghost use Rattle.shelf.specs.Operations.{paper, putSlot, putHeads, stockOp, drawOp};
 use refusal::Refusal;
 
 // The answer of stock and of draw.

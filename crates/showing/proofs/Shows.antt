@@ -20,7 +20,7 @@ use Rattle.parties.specs.Parties.{heightOf}
 use Rattle.parties.proofs.Counts.{count-yes, count-no}
 use Rattle.circuit.specs.Circuit.{ands, Circuit, Gate, xor, and, inv}
 use Rattle.circuit.specs.File.{outputsOf, gatesOf, headOf, outputWire, nextOf, walks, chainFrom, gateAt, gatesInOrder, circuitOf, Reading}
-use Rattle.circuit.specs.Records.{Chained, gatesFrom}
+use Rattle.circuit.specs.Steps.{Chained, gatesFrom}
 use Rattle.circuit.specs.Operations.{readOp}
 use Rattle.circuit.specs.Answers.{readPaper}
 use Rattle.circuit.specs.declared.Sizes.{Sizes}
@@ -28,14 +28,13 @@ use Rattle.circuit.specs.declared.ReadAnswer.{ReadAnswer}
 use Rattle.circuit.specs.declared.ReadAnswer.the-variants as readAnswer
 use Rattle.circuit.proofs.Answered.{gates-count, fell, held}
 use Rattle.circuit.proofs.Run.{goodChain-walks, gates-order}
-use Rattle.engine.specs.Memory.{packed, loadedTapes, maskedInputs}
-use Rattle.engine.specs.Steps.{walked, spoken}
+use Rattle.engine.specs.Steps.{packed, loadedTapes, maskedInputs, walked, spoken}
 use Rattle.mpc.specs.Tapes.{andsOf, unusedRows, withRow}
 use Rattle.mpc.specs.Showing as shown
 use Rattle.mpc.specs.Showing.{correctionBits, honestRun, rowBits, shownBits, firstBits, Showing, hidden, showing}
 use Rattle.mpc.specs.Operations.{onLegal, holds, holdsRows, tapeBits, partsOf, holdsShowing, showLegal, showOp}
 use Rattle.mpc.specs.Answers.{outcome}
-use Rattle.mpc.specs.Lent.{Known, Begun, WitnessFits, TapesFit, ShowingFits}
+use Rattle.mpc.specs.Steps.{Known, Begun, WitnessFits, TapesFit, ShowingFits}
 use Rattle.mpc.specs.declared.Answer.the-variants.{Done, Refused}
 use Rattle.mpc.proofs.Agreement.{masked-agrees, show-corrections-agree, show-row-agrees}
 use Rattle.mpc.proofs.Opened.{sized, opened-refused, opened-legal, circuit-inputs, circuit-outputs, circuit-gates, circuit-ands, circuit-row}

@@ -3,7 +3,7 @@
 use mathlib.Core.Path.{sym, ap, _∙_}
 use native.Mathlib.Omega.{arith}
 use lib.ListN.{drop, replicate}
-use Rattle.engine.specs.Memory.{packed}
+use Rattle.engine.specs.Steps.{packed}
 use Rattle.replaying.proofs.Replayed.{prefix-length, prefix-inside, prefix-taken, prefix-same}
 use Rattle.replaying.proofs.outputs_are.Statement.{statement}
 use Rattle.replaying.proofs.outputs_are.Tie as tie

@@ -8,7 +8,7 @@ use lib.ListN.{getD}
 use mir.Syntax.{w64}
 use mir.Val.{Fits}
 use Rattle.permutation.specs.Permutation.{rounds, lanes, laneArray}
-use Rattle.permutation.specs.Planes.{kept, flip}
+use Rattle.permutation.specs.Steps.{kept, flip}
 use Rattle.rounds.proofs.Constants.{constant-rule}
 use Rattle.rounds.proofs.Rounds.{rounds-none, rounds-more, rounds-all}
 use Rattle.rounds.proofs.keccak_f.Statement.{statement}

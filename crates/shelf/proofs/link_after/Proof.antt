@@ -2,7 +2,7 @@
 -- Assumes nothing.
 use borrow.Author.Needs.{needs}
 use borrow.Author.Tests.{eq-eqb, ne-eqb}
-use Rattle.shelf.specs.Operations.{linkAfter}
+use Rattle.shelf.specs.Steps.{linkAfter}
 use Rattle.shelf.proofs.link_after.Statement.{statement}
 use Rattle.shelf.proofs.link_after.Tie as tie
 

@@ -3,7 +3,7 @@
 use native.Mathlib.Omega.{arith}
 use borrow.Author.Needs.{needs}
 use lib.ListN.{length}
-use Rattle.shelf.specs.Operations.{movedAfter}
+use Rattle.shelf.specs.Steps.{movedAfter}
 use Rattle.shelf.proofs.Operations.{link-room}
 use Rattle.shelf.proofs.move_after.Statement.{statement}
 use Rattle.shelf.proofs.move_after.Tie as tie

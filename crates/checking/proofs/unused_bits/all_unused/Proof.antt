@@ -5,7 +5,7 @@ use Prim.Native.Nat.{_-_, _≤_}
 use native.Mathlib.Omega.{arith}
 use Rattle.circuit.specs.File.{circuitOf}
 use Rattle.instance.specs.Opened.{stretchUnused}
-use Rattle.proof.specs.Asks.{askOf, asksIn}
+use Rattle.proof.specs.Steps.{askOf, asksIn}
 use Rattle.proof.specs.File.{stretchStart}
 use Rattle.proof.specs.Check.{every}
 use Rattle.proof.proofs.Sizes.{start-none}

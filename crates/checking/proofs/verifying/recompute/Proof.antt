@@ -9,9 +9,9 @@ use lib.ListN.{length}
 use Rattle.bits.specs.Bits.{tabulate}
 use Rattle.circuit.specs.File.{circuitOf}
 use Rattle.hashing.specs.Inputs.{allCommitmentsInput, allOnlineInput}
-use Rattle.hashing.specs.Digest.{taken}
+use Rattle.hashing.specs.Steps.{taken}
 use Rattle.instance.specs.Opened.{stretchCommitments, stretchOnline, stretchOutput}
-use Rattle.proof.specs.Asks.{askOf, asksIn}
+use Rattle.proof.specs.Steps.{askOf, asksIn}
 use Rattle.proof.specs.File.{stretchStart}
 use Rattle.proof.specs.Check.{every}
 use Rattle.proof.proofs.Sizes.{start-none}

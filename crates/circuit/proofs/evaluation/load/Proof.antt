@@ -3,7 +3,7 @@
 use mathlib.Core.Path.{_≡_}
 use Prim.Native.Nat.{_-_, _≤_}
 use native.Mathlib.Omega.{arith}
-use Rattle.circuit.specs.Values.{loaded}
+use Rattle.circuit.specs.Steps.{loaded}
 use Rattle.circuit.proofs.Run.{load-none, load-turn}
 use Rattle.circuit.proofs.evaluation.load.Statement.{statement}
 use Rattle.circuit.proofs.evaluation.load.Tie as tie

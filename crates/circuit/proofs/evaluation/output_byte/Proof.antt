@@ -10,7 +10,7 @@ use lib.Pow.{pow-mono}
 use lib.ListN.{getD}
 use Rattle.bits.specs.Bits.{fromBits}
 use Rattle.bits.proofs.Numbers.{fromBits-lt}
-use Rattle.circuit.specs.Values.{outBits, outByte}
+use Rattle.circuit.specs.Steps.{outBits, outByte}
 use Rattle.circuit.proofs.Run.{byte-turn, byte-room}
 use Rattle.circuit.proofs.evaluation.output_byte.Statement.{statement}
 use Rattle.circuit.proofs.evaluation.output_byte.Tie as tie

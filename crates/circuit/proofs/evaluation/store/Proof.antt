@@ -4,7 +4,7 @@ use mathlib.Core.Path.{_≡_, refl, _∙_}
 use Prim.Native.Nat.{ℕ, _-_, _≤_, _<_}
 use native.Mathlib.Omega.{arith}
 use lib.ListN.{length, getD, length-set}
-use Rattle.circuit.specs.Values.{outByte}
+use Rattle.circuit.specs.Steps.{outByte}
 use Rattle.circuit.proofs.Run.{store-turn, packed}
 use Rattle.circuit.proofs.evaluation.store.Statement.{statement}
 use Rattle.circuit.proofs.evaluation.store.Tie as tie

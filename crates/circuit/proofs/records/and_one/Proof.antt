@@ -2,7 +2,7 @@
 -- Assumes nothing.
 use mathlib.Core.Path.{sym, ap}
 use borrow.Author.Needs.{needs}
-use Rattle.circuit.specs.Records.{andOne}
+use Rattle.circuit.specs.Steps.{andOne}
 use Rattle.circuit.proofs.records.and_one.Statement.{statement}
 use Rattle.circuit.proofs.records.and_one.Tie as tie
 

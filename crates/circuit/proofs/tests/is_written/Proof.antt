@@ -4,7 +4,7 @@ use native.Mathlib.Omega.{arith}
 use borrow.Author.Tests.{lt-ltb, le-ltb}
 use borrow.Author.Needs.{needs}
 use lib.ListN.{List·getD-eq-default}
-use Rattle.circuit.specs.Records.{seen}
+use Rattle.circuit.specs.Steps.{seen}
 use Rattle.circuit.proofs.tests.is_written.Statement.{statement}
 use Rattle.circuit.proofs.tests.is_written.Tie as tie
 

@@ -7,8 +7,7 @@ use lib.ListN.{length, length-set}
 use Rattle.engine.proofs.chain.speak.Statement.{statement}
 use Rattle.engine.proofs.chain.speak.Tie as tie
 use Rattle.circuit.proofs.Run.{output-low}
-use Rattle.engine.specs.Fits.{wireCount}
-use Rattle.engine.specs.Steps.{spoken, outputValues}
+use Rattle.engine.specs.Steps.{wireCount, spoken, outputValues}
 use Rattle.engine.proofs.Turns.{room-kept, spoken-none, spoken-turn, values-none, values-turn}
 
 abbrev Inv-loop : tie.InvT-loop

@@ -5,8 +5,7 @@ use mathlib.Core.Path.{_≡_, refl, _∙_}
 use Prim.Native.Nat.{_-_, _≤_}
 use lib.ListN.{length, length-set}
 use lib.Bits.{bitAnd}
-use Rattle.engine.specs.Memory.{valueAt, saidAt, at, fill, xorBytes}
-use Rattle.engine.specs.Steps.{broadcastByte, broadcastStep, maskedProduct}
+use Rattle.engine.specs.Steps.{valueAt, saidAt, at, fill, xorBytes, broadcastByte, broadcastStep, maskedProduct}
 use Rattle.engine.proofs.Fill.{fill-none, fill-turn, xorBytes-none, xorBytes-turn}
 use Rattle.engine.proofs.Turns.{broadcast-turn}
 use Rattle.engine.proofs.gates.broadcast.Statement.{statement}

@@ -5,8 +5,7 @@ use mathlib.Core.Path.{_∙_, ap}
 use Prim.Native.Nat.{ℕ, _+_, _*_, _<_}
 use lib.ListN.{getD}
 use lib.Bits.{bitXor, bitAnd}
-use Rattle.engine.specs.Memory.{at, valueAt}
-use Rattle.engine.specs.Steps.{broadcastByte, broadcastStep, maskedProduct}
+use Rattle.engine.specs.Steps.{at, valueAt, broadcastByte, broadcastStep, maskedProduct}
 use Rattle.engine.proofs.Words.{broadcast-word, row-stored, row-summed}
 use borrow.Author.Needs.{needs}
 use Rattle.engine.proofs.gates.broadcast16.Statement.{statement}

@@ -5,7 +5,7 @@ use Rattle.engine.proofs.Turns.{copy-turn}
 use mathlib.Core.Path.{_≡_, refl}
 use Prim.Native.Nat.{_+_, _-_, _≤_}
 use lib.ListN.{length, length-set}
-use Rattle.engine.specs.Memory.{at, fill, shareAt}
+use Rattle.engine.specs.Steps.{at, fill, shareAt}
 use Rattle.engine.proofs.Fill.{fill-none}
 use Rattle.engine.proofs.gates.copy_shares.Statement.{statement}
 use Rattle.engine.proofs.gates.copy_shares.Tie as tie

@@ -4,8 +4,7 @@ use native.Mathlib.Omega.{arith}
 use mathlib.Core.Path.{_≡_, refl, _∙_, ap₂}
 use Prim.Native.Nat.{_-_, _≤_}
 use lib.Bits.{bitAnd}
-use Rattle.engine.specs.Memory.{at, saidAt, xorBytes, maskByte}
-use Rattle.engine.specs.Steps.{correctionByte}
+use Rattle.engine.specs.Steps.{at, saidAt, xorBytes, maskByte, correctionByte}
 use Rattle.engine.proofs.Fill.{xorBytes-none, xorBytes-turn}
 use Rattle.engine.proofs.Words.{sum-but-last}
 use Rattle.engine.proofs.gates.correction.Statement.{statement}

@@ -4,8 +4,7 @@ use native.Mathlib.Omega.{arith}
 use mathlib.Core.Path.{_≡_, refl}
 use Prim.Native.Nat.{_-_, _≤_}
 use lib.ListN.{length, length-set}
-use Rattle.engine.specs.Memory.{saidAt, fill, xorBytes}
-use Rattle.engine.specs.Steps.{outputByte, outputStep, unmasked}
+use Rattle.engine.specs.Steps.{saidAt, fill, xorBytes, outputByte, outputStep, unmasked}
 use Rattle.engine.proofs.Fill.{fill-none, fill-turn, xorBytes-none, xorBytes-turn}
 use Rattle.engine.proofs.Turns.{output-turn}
 use Rattle.engine.proofs.gates.output.Statement.{statement}

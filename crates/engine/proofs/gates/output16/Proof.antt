@@ -5,8 +5,7 @@ use mathlib.Core.Path.{_∙_, ap}
 use Prim.Native.Nat.{ℕ, _+_, _*_, _<_}
 use lib.ListN.{getD}
 use lib.Bits.{bitXor}
-use Rattle.engine.specs.Memory.{at, valueAt}
-use Rattle.engine.specs.Steps.{outputByte, outputStep, unmasked}
+use Rattle.engine.specs.Steps.{at, valueAt, outputByte, outputStep, unmasked}
 use Rattle.engine.proofs.Words.{output-word, row-stored, row-summed}
 use borrow.Author.Needs.{needs}
 use Rattle.engine.proofs.gates.output16.Statement.{statement}

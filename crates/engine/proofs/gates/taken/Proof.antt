@@ -3,7 +3,7 @@
 use native.Mathlib.Omega.{arith}
 use mathlib.Core.Path.{_∙_, ap₂}
 use lib.Bits.{bitXor, xor-zero-r}
-use Rattle.engine.specs.Memory.{at, valueAt, maskByte, xorBytes}
+use Rattle.engine.specs.Steps.{at, valueAt, maskByte, xorBytes}
 use Rattle.engine.proofs.gates.taken.Statement.{statement}
 use Rattle.engine.proofs.gates.taken.Tie as tie
 

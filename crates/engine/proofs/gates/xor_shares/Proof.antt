@@ -4,7 +4,7 @@ use native.Mathlib.Omega.{arith}
 use mathlib.Core.Path.{_≡_, refl}
 use Prim.Native.Nat.{_-_, _≤_}
 use lib.ListN.{length, length-set}
-use Rattle.engine.specs.Memory.{fill, shareAt}
+use Rattle.engine.specs.Steps.{fill, shareAt}
 use Rattle.engine.proofs.Fill.{fill-none}
 use Rattle.engine.proofs.Turns.{xorShare, xor-turn}
 use Rattle.engine.proofs.gates.xor_shares.Statement.{statement}

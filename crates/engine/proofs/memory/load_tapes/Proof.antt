@@ -7,7 +7,7 @@ use native.Mathlib.Nat.{add-mul, mul-le-mul-right}
 use native.Mathlib.Omega.{arith}
 use lib.ListN.{length}
 use Rattle.bits.proofs.Rows.{row-fits, row-length}
-use Rattle.engine.specs.Memory.{loadedTapes}
+use Rattle.engine.specs.Steps.{loadedTapes}
 use Rattle.engine.proofs.Loading.{tapes-none, tapes-turn}
 use Rattle.engine.proofs.memory.load_tapes.Statement.{statement}
 use Rattle.engine.proofs.memory.load_tapes.Tie as tie

@@ -3,7 +3,7 @@
 use native.Mathlib.Omega.{arith}
 use mathlib.Core.Path.{_≡_, refl}
 use Prim.Native.Nat.{_-_, _≤_}
-use Rattle.engine.specs.Memory.{at, shareAt, xorBytes, maskByte}
+use Rattle.engine.specs.Steps.{at, shareAt, xorBytes, maskByte}
 use Rattle.engine.proofs.Fill.{xorBytes-none, xorBytes-turn}
 use Rattle.engine.proofs.memory.mask.Statement.{statement}
 use Rattle.engine.proofs.memory.mask.Tie as tie

@@ -6,7 +6,7 @@ use native.Mathlib.Omega.{arith}
 use lib.Bits.{bitXor}
 use lib.ListN.{length, length-set}
 use Rattle.bits.specs.Bits.{bitVal, bitAt}
-use Rattle.engine.specs.Memory.{fill, valueAt, maskByte, maskedInputs}
+use Rattle.engine.specs.Steps.{fill, valueAt, maskByte, maskedInputs}
 use Rattle.engine.proofs.Fill.{fill-none, fill-turn}
 use Rattle.engine.proofs.Loading.{input-turn}
 use Rattle.engine.proofs.memory.mask_inputs.Statement.{statement}

@@ -5,7 +5,7 @@ use Prim.Native.Nat.{ℕ, _-_, _≤_, _<_}
 use native.Mathlib.Omega.{arith}
 use lib.ListN.{length, getD, length-set}
 use Rattle.circuit.proofs.Run.{store-turn}
-use Rattle.engine.specs.Memory.{packedByte}
+use Rattle.engine.specs.Steps.{packedByte}
 use Rattle.engine.proofs.Loading.{pack-end}
 use Rattle.engine.proofs.memory.pack.Statement.{statement}
 use Rattle.engine.proofs.memory.pack.Tie as tie

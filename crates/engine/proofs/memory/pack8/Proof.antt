@@ -6,7 +6,7 @@ use Prim.Native.Nat.{_+_, _-_, _*_}
 use borrow.Author.Needs.{needs}
 use Rattle.engine.proofs.memory.pack8.Statement.{statement}
 use Rattle.engine.proofs.memory.pack8.Tie as tie
-use Rattle.engine.specs.Memory.{at}
+use Rattle.engine.specs.Steps.{at}
 use Rattle.engine.proofs.Eights.{packed-eight}
 
 shared-slice-read-result : tie.Need-shared-slice-read-result

@@ -12,7 +12,7 @@ use lib.Pow.{pow-mono}
 use Rattle.bits.specs.Bits.{odd, fromBits}
 use Rattle.bits.proofs.Numbers.{fromBits-lt}
 use Rattle.circuit.proofs.Run.{byte-turn, byte-room}
-use Rattle.engine.specs.Memory.{at, packedByte}
+use Rattle.engine.specs.Steps.{at, packedByte}
 use Rattle.engine.proofs.Loading.{bit-shown, byte-rest}
 use Rattle.engine.proofs.Eights.{whole-byte}
 use Rattle.engine.proofs.memory.pack_byte.Statement.{statement}

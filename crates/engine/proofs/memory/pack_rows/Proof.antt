@@ -8,7 +8,7 @@ use borrow.Rule.Slice.PartMut.{same-len-mid}
 use lib.ListN.{length, take}
 use Rattle.bits.specs.Bits.{tabulate}
 use Rattle.bits.proofs.Rows.{row-fits}
-use Rattle.engine.specs.Memory.{saidAt, packed}
+use Rattle.engine.specs.Steps.{saidAt, packed}
 use Rattle.engine.proofs.Loading.{length-packed, part-length, rows-none, rows-turn, row-packed, rows-end}
 use Rattle.engine.proofs.memory.pack_rows.Statement.{statement}
 use Rattle.engine.proofs.memory.pack_rows.Tie as tie

@@ -5,7 +5,7 @@ use Prim.Native.Nat.{_+_, _-_, _*_, _/_, _%_, _≤_}
 use native.Mathlib.Omega.{arith}
 use lib.ListN.{length}
 use Rattle.bits.specs.Bits.{bitVal, testBit}
-use Rattle.engine.specs.Memory.{fill}
+use Rattle.engine.specs.Steps.{fill}
 use Rattle.engine.proofs.Fill.{fill-none}
 use Rattle.engine.proofs.Spreads.{spread-turn, spread-end}
 use Rattle.engine.proofs.memory.spread8.Statement.{statement}

@@ -6,7 +6,7 @@ use Prim.Native.Nat.{ℕ, _+_, _-_, _*_, _≤_}
 use native.Mathlib.Omega.{arith}
 use lib.ListN.{length, length-set}
 use Rattle.bits.specs.Bits.{bitVal, bitAt}
-use Rattle.engine.specs.Memory.{fill, unpacked}
+use Rattle.engine.specs.Steps.{fill, unpacked}
 use Rattle.engine.proofs.Fill.{fill-none, fill-turn}
 use Rattle.engine.proofs.Eights.{unpack-turn}
 use Rattle.engine.proofs.memory.unpack.Statement.{statement}

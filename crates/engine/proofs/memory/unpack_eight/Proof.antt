@@ -7,7 +7,7 @@ use Prim.Native.Nat.{ℕ, _+_, _-_, _*_, _/_, _%_, _≤_}
 use native.Mathlib.Omega.{arith}
 use lib.ListN.{length, length-set}
 use Rattle.bits.specs.Bits.{bitVal, bitAt}
-use Rattle.engine.specs.Memory.{fill}
+use Rattle.engine.specs.Steps.{fill}
 use Rattle.engine.proofs.Fill.{fill-none}
 use Rattle.engine.proofs.Spreads.{eight-turn, part-within, rest-turn}
 use Rattle.engine.proofs.memory.unpack_eight.Statement.{statement}

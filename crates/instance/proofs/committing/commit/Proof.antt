@@ -8,7 +8,7 @@ use Prim.Native.Nat.{_-_, _≤_}
 use lib.ListN.{length}
 use Rattle.bits.specs.Bits.{tabulate}
 use Rattle.hashing.specs.Inputs.{commitmentsInput}
-use Rattle.hashing.specs.Digest.{taken}
+use Rattle.hashing.specs.Steps.{taken}
 use Rattle.instance.proofs.Committed.{comAt, commitment-length, coms-none, coms-room, coms-turn, coms-end, com-theirs, com-own, com-bytes}
 use Rattle.instance.proofs.committing.commit.Statement.{statement}
 use Rattle.instance.proofs.committing.commit.Tie as tie

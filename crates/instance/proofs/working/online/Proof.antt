@@ -6,9 +6,9 @@ use native.Mathlib.Omega.{arith}
 use Prim.Native.Nat.{ℕ, _-_, _≤_}
 use lib.ListN.{length, length-replicate}
 use Rattle.bits.specs.Bits.{tabulate}
-use Rattle.engine.specs.Memory.{saidAt, packed}
+use Rattle.engine.specs.Steps.{saidAt, packed}
 use Rattle.hashing.specs.Inputs.{onlineInput}
-use Rattle.hashing.specs.Digest.{taken}
+use Rattle.hashing.specs.Steps.{taken}
 use Rattle.hashing.proofs.Digests.{taken-room}
 use Rattle.instance.proofs.Works.{part-length, put-inside, put-taken, put-length, online-begins, online-turn, online-ends}
 use Rattle.instance.proofs.working.online.Statement.{statement}

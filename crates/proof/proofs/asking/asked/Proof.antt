@@ -4,7 +4,7 @@ use native.Mathlib.Omega.{arith}
 use mathlib.Core.Path.{_≡_}
 use Prim.Native.Nat.{_+_, _-_, _*_, _≤_}
 use lib.ListN.{length, drop}
-use Rattle.proof.specs.Asks.{partyIn}
+use Rattle.proof.specs.Steps.{partyIn}
 use Rattle.proof.proofs.Choices.{choices-end, turn-found, turn-other, choices-whole}
 use Rattle.proof.proofs.asking.asked.Statement.{statement}
 use Rattle.proof.proofs.asking.asked.Tie as tie

@@ -6,7 +6,7 @@ use Prim.Native.Nat.{ℕ, _+_, _-_, _*_, _≤_}
 use Rattle.circuit.specs.File.{circuitOf}
 use Rattle.instance.specs.Stretch.{stretchBytes}
 use Rattle.proof.specs.File.{stretchStart}
-use Rattle.proof.specs.Asks.{askOf, asksIn}
+use Rattle.proof.specs.Steps.{askOf, asksIn}
 use Rattle.proof.proofs.Sizes.{start-none, start-more, start-end, stretch-few}
 use Rattle.proof.proofs.asking.proof_bytes.Statement.{statement}
 use Rattle.proof.proofs.asking.proof_bytes.Tie as tie

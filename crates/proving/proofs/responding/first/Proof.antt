@@ -9,7 +9,7 @@ use lib.ListN.{length, take}
 use Rattle.bits.specs.Bits.{tabulate}
 use Rattle.circuit.specs.File.{circuitOf}
 use Rattle.hashing.specs.Inputs.{allCommitmentsInput, allOnlineInput}
-use Rattle.hashing.specs.Digest.{taken}
+use Rattle.hashing.specs.Steps.{taken}
 use Rattle.hashing.proofs.Digests.{taken-more}
 use Rattle.instance.specs.Instance.{masterCommitments, masterOnline}
 use Rattle.instance.proofs.Seeded.{part-length, rows-none, rows-turn}

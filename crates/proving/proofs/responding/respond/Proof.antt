@@ -11,7 +11,7 @@ use Rattle.circuit.specs.File.{circuitOf}
 use Rattle.party.specs.Derive.{masterOf}
 use Rattle.instance.specs.Instance.{stretchOf}
 use Rattle.proof.specs.Protocol.{mastersOf, responseOf}
-use Rattle.proof.specs.Asks.{askOf, asksIn}
+use Rattle.proof.specs.Steps.{askOf, asksIn}
 use Rattle.proving.specs.Steps.{onlinesOf}
 use Rattle.proving.proofs.Firsts.{lent-kept}
 use Rattle.proving.proofs.Responds.{sent-size, sent-begin, onlines-inside, sent-inside, online-there, sent-turn, sent-end, party-low, start-fits, start-is}

@@ -1,16 +1,16 @@
--- What the steps of the operations ask, after the tests: a legal circuit, a party count, buffers as stated, a clear work memory.
+-- What only the contracts of steps use: no definition of the paper stands here.
 -- Assumes nothing.
 use mathlib.Core.Path.{_≡_}
 use mathlib.Core.Bool.{true}
 use mathlib.Core.List.{List}
-use Prim.Native.Nat.{ℕ, _+_, _*_, _≤_, _<_}
+use Prim.Native.Nat.{ℕ, _+_, _*_, _≤_}
 use lib.ListN.{length, replicate}
 use Rattle.bits.specs.Bits.{oct, unusedZero}
 use Rattle.circuit.specs.Circuit.{ands}
 use Rattle.circuit.specs.File.{gatesInOrder}
-use Rattle.circuit.specs.Values.{Legal}
+use Rattle.circuit.specs.Steps.{Legal}
 use Rattle.circuit.specs.declared.Sizes.{Sizes}
-use Rattle.engine.specs.Fits.{wireCount}
+use Rattle.engine.specs.Steps.{wireCount}
 
 -- a legal file with its I, O, G and A
 pub record Known (s : List ℕ) (z : Sizes) : Type 0 where

@@ -1,19 +1,17 @@
--- The work memory after an instance's run, and what the steps on one instance ask.
+-- What only the contracts of steps use: no definition of the paper stands here.
 -- Assumes nothing.
 use mathlib.Core.Path.{_≡_}
 use mathlib.Core.Bool.{true, false}
 use mathlib.Core.List.{List}
-use Prim.Native.Nat.{ℕ, _+_, _-_, _*_, _≤_, _<_}
+use Prim.Native.Nat.{ℕ, _+_, _-_, _*_, _≤_}
 use lib.ListN.{length, replicate}
 use Rattle.bits.specs.Bits.{oct}
 use Rattle.parties.specs.Parties.{heightOf, isPartyCount}
 use Rattle.circuit.specs.Circuit.{ands}
-use Rattle.circuit.specs.File.{inputsOf, outputsOf, gatesOf, headOf, gatesInOrder, circuitOf}
+use Rattle.circuit.specs.File.{inputsOf, outputsOf, gatesOf, headOf, gatesInOrder}
 use Rattle.circuit.specs.declared.Sizes.{Sizes}
-use Rattle.engine.specs.Fits.{wireCount}
-use Rattle.engine.specs.Memory.{unpacked, loadedTapes, maskedInputs}
-use Rattle.engine.specs.Steps.{walked, spoken, outputValues}
-use Rattle.mpc.specs.Lent.{Known, TapesFit}
+use Rattle.engine.specs.Steps.{wireCount, walked, spoken, outputValues, unpacked, loadedTapes, maskedInputs}
+use Rattle.mpc.specs.Steps.{Known, TapesFit}
 
 -- the sizes of a legal file, and of a row of its tapes
 abbrev pub wiresOf : List ℕ → ℕ

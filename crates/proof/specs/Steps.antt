@@ -1,4 +1,4 @@
--- What a challenge asks of each instance, as the bytes and numbers that the code keeps.
+-- What only the contracts of steps use: no definition of the paper stands here.
 -- Assumes nothing.
 use mathlib.Core.Bool.{cond}
 use mathlib.Core.List.{List, [], _∷_}

@@ -1,4 +1,4 @@
--- For the contracts of a round's parts: a plane of lanes, and state arrays of which some lanes are complemented.
+-- What only the contracts of steps use: no definition of the paper stands here.
 -- Assumes nothing.
 use mathlib.Core.Bool.{Bool, true, false}
 use mathlib.Core.List.{List, [], _∷_}
