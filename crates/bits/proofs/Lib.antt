@@ -9,3 +9,4 @@ pub mod Equal
 pub mod Rows
 pub mod Ops
 pub mod Copies
+pub mod Counting

@@ -1,6 +1,5 @@
 pub mod Answered
 pub mod Chain
-pub mod Counting
 pub mod Outcomes
 pub mod Run
 pub mod Visits

@@ -11,9 +11,10 @@ use lib.ListN.{length}
 use borrow.Author.Tests.{eq-eqb, eqb-true, leb-true, le-leb}
 use Rattle.bits.proofs.Numbers.{eq-or-ne}
 use Rattle.bits.proofs.Tests.{and-true-left, and-true-right}
+use Rattle.bits.specs.Counting.{count}
+use Rattle.bits.proofs.Counting.{Within, count-here, count-other, within-first, within-rest, each-once, once-length}
 use Rattle.circuit.specs.File.{gatesOf, headOf, nextOf, walks, goodChain, chainFrom}
-use Rattle.circuit.specs.Meaning.{count, Follows, VisitsAllOnce, ChainTheorem}
-use Rattle.circuit.proofs.Counting.{Within, count-here, count-other, within-first, within-rest, each-once, once-length}
+use Rattle.circuit.specs.Meaning.{Follows, VisitsAllOnce, ChainTheorem}
 
 module _ (s : List ℕ) where
   -- a way of no links starts at the end
@@ -45,7 +46,7 @@ module _ (s : List ℕ) where
   unfolding chainFrom count
   not-passed zero x m k t u l = refl
   not-passed (suc n) x m k t u l =
-      count-other k x (chainFrom s n (nextOf s x)) (λ e. omega (arith, one-length (suc n) m k (rw e at t) u))
+      count-other k x (chainFrom s n (nextOf s x)) (λ e. omega (arith, one-length (suc n) m k (rw (sym e) at t) u))
       ∙ not-passed n (nextOf s x) m k (walks-next n x t) u (omega arith)
 
   -- and passes no slot twice
@@ -55,9 +56,9 @@ module _ (s : List ℕ) where
   at-most-once (suc n) x k t =
       let rest : List ℕ = chainFrom s n (nextOf s x) in
       ⊎-elim
-      (λ e. omega (arith, count-here k x rest e, not-passed n (nextOf s x) (suc n) k (walks-next n x t) (rw e at t) (omega arith)))
+      (λ e. omega (arith, count-here k x rest e, not-passed n (nextOf s x) (suc n) k (walks-next n x t) (rw (sym e) at t) (omega arith)))
       (λ e. omega (arith, count-other k x rest e, at-most-once n (nextOf s x) k (walks-next n x t)))
-      (eq-or-ne x k)
+      (eq-or-ne k x)
 
   -- it passes slots only
   pub slots-only : (n x : ℕ) → walks s n x ≡ true → Within (gatesOf s) (chainFrom s n x)
@@ -65,7 +66,7 @@ module _ (s : List ℕ) where
   slots-only zero x t k o = refl
   slots-only (suc n) x t k o =
       let i : (1 ≤ x) × (x ≤ gatesOf s) = walks-slot n x t in
-      let other : x ≢ k = λ e. ⊎-elim (λ z. omega arith) (λ l. omega arith) o in
+      let other : k ≢ x = λ e. ⊎-elim (λ z. omega arith) (λ l. omega arith) o in
       count-other k x (chainFrom s n (nextOf s x)) other ∙ slots-only n (nextOf s x) (walks-next n x t) k o
 
   -- a way of n links passes n slots

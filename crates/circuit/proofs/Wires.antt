@@ -15,10 +15,11 @@ use Rattle.bits.specs.Bits.{tabulate}
 use Rattle.bits.proofs.Numbers.{eq-or-ne}
 use Rattle.bits.proofs.Tabulate.{length-tabulate, getD-tabulate}
 use Rattle.bits.proofs.Tests.{and-true-left, and-true-right}
+use Rattle.bits.specs.Counting.{count}
+use Rattle.bits.proofs.Counting.{Within, count-here, count-same, count-other, count-rest, within-first, within-rest}
 use Rattle.circuit.specs.Circuit.{Gate, xor, and, inv, Circuit, put}
 use Rattle.circuit.specs.File.{inputsOf, outputsOf, gatesOf, headOf, outputWire, kindOf, wireA, wireB, goodChain, chainFrom, gateAt, gatesInOrder, readsWritten, goodOutputs, goodWires, circuitOf}
-use Rattle.circuit.specs.Meaning.{count, reads, writes, ReadsEarlier, WiresTheorem}
-use Rattle.circuit.proofs.Counting.{Within, count-here, count-other, count-rest, within-first, within-rest}
+use Rattle.circuit.specs.Meaning.{reads, writes, ReadsEarlier, WiresTheorem}
 use Rattle.circuit.proofs.Visits.{chain-sound}
 use Rattle.circuit.proofs.Answered.{passed, gates-count, read-same}
 
@@ -63,9 +64,9 @@ module _ (I g : ℕ) where
       let rest : List ℕ = map (λ y. I + y - 1) ys in
       let ih : count (I + k - 1) rest ≡ count k ys = wire-count ys (within-rest g y ys w) k p in
       ⊎-elim
-      (λ e. count-here (I + k - 1) (I + y - 1) rest (omega arith) ∙ ap suc ih ∙ sym (count-here k y ys e))
+      (λ e. count-here (I + k - 1) (I + y - 1) rest (omega arith) ∙ ap (λ (t : ℕ). 1 + t) ih ∙ sym (count-here k y ys e))
       (λ n. count-other (I + k - 1) (I + y - 1) rest (λ e. n (omega arith)) ∙ ih ∙ sym (count-other k y ys n))
-      (eq-or-ne y k)
+      (eq-or-ne k y)
 
   -- no other wire is written
   wire-none : (ks : List ℕ) → Within g ks → (w : ℕ) → (w < I) ⊎ (I + g ≤ w) → count w (map (λ y. I + y - 1) ks) ≡ 0
@@ -73,7 +74,7 @@ module _ (I g : ℕ) where
   wire-none [] h w o = refl
   wire-none (y ∷ ys) h w o =
       let i : (1 ≤ y) × (y ≤ g) = within-first g y ys h in
-      let other : I + y - 1 ≢ w = λ e. ⊎-elim (λ l. omega arith) (λ l. omega arith) o in
+      let other : w ≢ I + y - 1 = λ e. ⊎-elim (λ l. omega arith) (λ l. omega arith) o in
       count-other w (I + y - 1) (map (λ y. I + y - 1) ys) other ∙ wire-none ys (within-rest g y ys h) w o
 
 -- on a good chain, each wire from I to I + G − 1 is written once
@@ -116,16 +117,16 @@ put-keeps f c w t = ⊎-elim (λ e. put-here f c w e) (λ n. put-other f c w n �
 -- a wire in a list of one is that one
 in-one : (f : ℕ → Bool) (a : ℕ) → f a ≡ true → (w : ℕ) → 1 ≤ count w (a ∷ []) → f w ≡ true
 unfolding count
-in-one f a p w h = ⊎-elim (λ e. rw e at p) (λ n. absurd (omega (arith, count-other w a [] n))) (eq-or-ne a w)
+in-one f a p w h = ⊎-elim (λ e. rw e at p) (λ n. absurd (omega (arith, count-other w a [] (λ q. n (sym q))))) (eq-or-ne a w)
 
 -- a wire in a list of two is the first or the second
 in-two : (f : ℕ → Bool) (a b : ℕ) → f a ≡ true → f b ≡ true → (w : ℕ) → 1 ≤ count w (a ∷ b ∷ []) → f w ≡ true
 in-two f a b p q w h =
-    ⊎-elim (λ e. rw e at p) (λ n. in-one f b q w (rw (count-other w a (b ∷ []) n) at h)) (eq-or-ne a w)
+    ⊎-elim (λ e. rw e at p) (λ n. in-one f b q w (rw (count-other w a (b ∷ []) (λ q. n (sym q))) at h)) (eq-or-ne a w)
 
 -- a front stands in its list
 in-front : (a : ℕ) (rest : List ℕ) → 1 ≤ count a (a ∷ rest)
-in-front a rest = omega (arith, count-here a a rest refl)
+in-front a rest = omega (arith, count-same a rest)
 
 -- what the test says of a gate: the wires that it reads are written
 gate-reads : (f : ℕ → Bool) (g : Gate) (gs : List Gate) → readsWritten f (g ∷ gs) ≡ true → (w : ℕ) → 1 ≤ count w (reads g) → f w ≡ true
@@ -160,7 +161,7 @@ test-earlier f [] after g t w h = inl (gate-reads f g after t w h)
 test-earlier f (x ∷ before) after g t w h =
     ⊎-elim
     (λ (u : put f (out x) true w ≡ true). ⊎-elim
-    (λ (e : w ≡ out x). inr (rw (writes-cons x before) (omega (arith, count-here w (out x) (writes before) (sym e)))))
+    (λ (e : w ≡ out x). inr (rw (writes-cons x before) (omega (arith, count-here w (out x) (writes before) e))))
     (λ n. inl (sym (put-other f (out x) w n) ∙ u))
     (eq-or-ne w (out x)))
     (λ (l : 1 ≤ count w (writes before)). inr (rw (writes-cons x before) (omega (arith, count-rest w (out x) (writes before)))))
@@ -181,7 +182,7 @@ earlier-test f (x ∷ gs) h =
     (λ t. inl (put-keeps f (out x) w t))
     (λ m. ⊎-elim
     (λ q. inl (put-here f (out x) w q))
-    (λ n. inr (rw (writes-cons x before, count-other w (out x) (writes before) (λ q. n (sym q))) at m))
+    (λ n. inr (rw (writes-cons x before, count-other w (out x) (writes before) n) at m))
     (eq-or-ne w (out x)))
     (h (x ∷ before) after g (ap (λ (l : List Gate). x ∷ l) e) w l)))
 

@@ -1,19 +1,14 @@
 -- What the tests of reading mean: the statements of the theorems on the chain and on the wires.
 -- Assumes nothing.
 use mathlib.Core.Path.{_≡_}
-use mathlib.Core.Bool.{true, cond}
+use mathlib.Core.Bool.{true}
 use mathlib.Core.List.{List, [], _∷_, _++_}
 use mathlib.Core.Logic.{_⊎_}
 use Prim.Native.Nat.{ℕ, _+_, _≤_, _<_}
-use lib.Dec.{eqb}
 use lib.ListN.{length, getD}
+use Rattle.bits.specs.Counting.{count}
 use Rattle.circuit.specs.Circuit.{Gate, xor, and, inv, Circuit}
 use Rattle.circuit.specs.File.{inputsOf, outputsOf, gatesOf, headOf, outputWire, nextOf, goodChain, chainFrom, gatesInOrder, goodWires, legal, readCircuit}
-
--- how often x stands in a list
-unfoldable pub count : ℕ → List ℕ → ℕ
-count x [] = 0
-count x (y ∷ ys) = cond (eqb y x) 1 0 + count x ys
 
 -- the slots of a list follow each other by their links: from k on, and after the last one the chain ends
 unfoldable pub Follows : List ℕ → ℕ → List ℕ → Type 0

@@ -6,7 +6,8 @@ use mathlib.Core.List.{List, _∷_}
 use Prim.Native.Nat.{ℕ}
 use lib.ListN.{replicate}
 use Rattle.bits.specs.Bytes.{leAt, leBytes, sameBytes}
-use Rattle.shelf.specs.Page.{sizeOf, readyHead, spareHead, zeroField, drawsOf, nextOf, rootOf, chain, ended, count, allOne, blank, headerSound, chainsFrom, sound, zeroRoot}
+use Rattle.bits.specs.Counting.{count}
+use Rattle.shelf.specs.Page.{sizeOf, readyHead, spareHead, zeroField, drawsOf, nextOf, rootOf, chain, ended, allOne, blank, headerSound, chainsFrom, sound, zeroRoot}
 use Rattle.shelf.specs.Operations.{accepted, refused, putSlot, putHeads, stocked, drawn, stockOp, drawOp}
 
 -- one slot, spare

@@ -6,9 +6,9 @@ use Prim.Native.Nat.{ℕ, _-_}
 use native.Mathlib.Omega.{arith}
 use lib.ListN.{length}
 use lib.Seq.{drop-nil}
+use Rattle.bits.proofs.Counting.{count-nil}
 use Rattle.shelf.specs.Plain.{Plain}
 use Rattle.shelf.specs.History.{Event, Host, present, start, run, plainRun, IsStart, Agrees, Histories}
-use Rattle.shelf.proofs.Walks.{count-nil}
 use Rattle.shelf.proofs.Simulation.{draws-u32, Beside, Along, run-along}
 use Rattle.shelf.proofs.Names.{Clean, run-clean}
 

@@ -8,11 +8,11 @@ use Prim.Native.Nat.{ℕ, zero, suc, _+_, _-_, _≤_, _<_}
 use native.Mathlib.Omega.{arith}
 use lib.ListN.{length, drop}
 use Rattle.bits.proofs.Numbers.{eq-or-ne}
-use Rattle.shelf.specs.Page.{count}
+use Rattle.bits.specs.Counting.{count}
+use Rattle.bits.proofs.Counting.{count-nil, count-cons, count-same, count-other, count-append}
 use Rattle.shelf.specs.Operations.{accepted}
 use Rattle.shelf.specs.Plain.{Named, Plain, names, plainStock, PlainDrawn, noDraw, plainDraw}
 use Rattle.shelf.specs.History.{Event, stock, draw, back, Host, present, next, counted, plainStep, plainRun, IsHistory}
-use Rattle.shelf.proofs.Walks.{count-nil, count-cons, count-same, count-other, count-append}
 use Rattle.shelf.proofs.Simulation.{plain-6, plain-17, plain-stocked, plain-15, plain-16, plain-18, plain-given, next-all, Legal, history-cons}
 
 -- a part of a list has no more

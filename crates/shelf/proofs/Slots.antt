@@ -10,12 +10,14 @@ use borrow.Author.Tests.{eq-eqb, ne-eqb, eqb-true}
 use lib.Dec.{eqb}
 use lib.ListN.{length, length-append}
 use Rattle.bits.specs.Bytes.{sameBytes}
+use Rattle.bits.specs.Counting.{count}
 use Rattle.bits.proofs.Numbers.{eq-or-ne, lt-or-le}
+use Rattle.bits.proofs.Counting.{count-nil, count-cons, count-here, count-same, count-other, count-append, Within, once-length}
 use Rattle.bits.proofs.Equal.{same-eq, eq-same}
 use Rattle.bits.proofs.Tests.{and-true-left, and-true-right}
-use Rattle.shelf.specs.Page.{sizeOf, readyHead, spareHead, nextOf, rootOf, zeroRoot, chain, ended, readySlots, spareSlots, count, allOne, blank, sound, chainsFrom}
+use Rattle.shelf.specs.Page.{sizeOf, readyHead, spareHead, nextOf, rootOf, zeroRoot, chain, ended, readySlots, spareSlots, allOne, blank, sound, chainsFrom}
 use Rattle.shelf.specs.Meaning.{Leads, HasChains, SoundTheorem}
-use Rattle.shelf.proofs.Walks.{chain-end, chain-slot, ended-end, ended-slot, ended-room, count-nil, count-cons, count-same, count-other, count-append}
+use Rattle.shelf.proofs.Walks.{chain-end, chain-slot, ended-end, ended-slot, ended-room}
 use Rattle.shelf.proofs.Soundness.{parts, whole, chains-parts, chains-whole, both}
 
 module _ (next : ℕ → ℕ) where
@@ -74,7 +76,7 @@ module _ (next : ℕ → ℕ) where
 pub absent : (j x : ℕ) (l : List ℕ) → count j (x ∷ l) ≡ 0 → (x ≢ j) × (count j l ≡ 0)
 absent j x l e =
     ⊎-elim
-    (λ (q : j ≡ x). absurd (let f : count j (x ∷ l) ≡ 1 + count j l = ap (λ (y : ℕ). count j (y ∷ l)) (sym q) ∙ count-same j l in omega arith))
+    (λ (q : j ≡ x). absurd (omega (arith, count-here j x l q)))
     (λ (q : j ≢ x). (λ w. q (sym w), sym (count-other j x l q) ∙ e))
     (eq-or-ne j x)
 
@@ -99,45 +101,6 @@ pub at-allOne : (f : ℕ → ℕ) (n : ℕ) → ((k : ℕ) → 1 ≤ k → k ≤
 unfolding allOne
 at-allOne f zero h = refl
 at-allOne f (suc n) h = both (eq-eqb (f (suc n)) 1 (h (suc n) (omega arith) (omega arith))) (at-allOne f n (λ k l m. h k l (omega arith)))
-
--- how often the slots 1..n stand in a list, all together
-total : ℕ → List ℕ → ℕ
-total zero l = 0
-total (suc n) l = count (suc n) l + total n l
-
-total-nil : (n : ℕ) → total n [] ≡ 0
-unfolding total
-total-nil zero = refl
-total-nil (suc n) = omega (arith, count-nil (suc n), total-nil n)
-
-total-above : (n x : ℕ) (l : List ℕ) → n < x → total n (x ∷ l) ≡ total n l
-unfolding total
-total-above zero x l h = refl
-total-above (suc n) x l h = omega (arith, count-other (suc n) x l (λ q. absurd (omega arith)), total-above n x l (omega arith))
-
-total-in : (n x : ℕ) (l : List ℕ) → x ≢ 0 → x ≤ n → total n (x ∷ l) ≡ 1 + total n l
-unfolding total
-total-in zero x l z h = absurd (omega arith)
-total-in (suc n) x l z h =
-    ⊎-elim
-    (λ (q : x ≡ suc n). rw q (omega (arith, count-same (suc n) l, total-above n (suc n) l (omega arith))))
-    (λ (q : x ≢ suc n). omega (arith, count-other (suc n) x l (λ w. q (sym w)), total-in n x l z (omega arith)))
-    (eq-or-ne x (suc n))
-
--- a list of slots 1..n has as many elements
-total-length : (n : ℕ) (l : List ℕ) → count 0 l ≡ 0 → ((x : ℕ) → n < x → count x l ≡ 0) → total n l ≡ length l
-total-length n [] z f = total-nil n
-total-length n (x ∷ l) z f =
-    let a = absent 0 x l z in
-    let i : x ≤ n = ⊎-elim (λ (q : n < x). absurd (omega (arith, f x q, count-same x l))) (λ (q : x ≤ n). q) (lt-or-le n x) in
-    let r = total-length n l (a .1) (λ y q. absent y x l (f y q) .1) in
-    omega (arith, total-in n x l (a .0) i)
-
--- each once
-total-once : (n : ℕ) (l : List ℕ) → ((k : ℕ) → 1 ≤ k → k ≤ n → count k l ≡ 1) → total n l ≡ n
-unfolding total
-total-once zero l f = refl
-total-once (suc n) l f = omega (arith, f (suc n) (omega arith) (omega arith), total-once n l (λ k h m. f k h (omega arith)))
 
 -- the slots of a list that the test finds blank hold a zero root
 blank-at : (p l : List ℕ) → blank p l ≡ true → (k : ℕ) → 1 ≤ count k l → rootOf p k ≡ zeroRoot
@@ -182,7 +145,8 @@ chains-length p r s c =
     let S = sizeOf p in
     let l = r ++ s in
     let z : count 0 l ≡ 0 = omega (arith, count-append 0 r s, leads-zero (nextOf p) r (readyHead p) (c .readyLeads), leads-zero (nextOf p) s (spareHead p) (c .spareLeads)) in
-    omega (arith, length-append r s, total-length S l z (λ x q. count-append x r s ∙ c .noOther x q), total-once S l (λ k a b. count-append k r s ∙ c .once k a b))
+    let w : Within S l = λ k o. ⊎-elim (λ (e : k ≡ 0). rw e z) (λ (q : S < k). count-append k r s ∙ c .noOther k q) o in
+    omega (arith, length-append r s, once-length S l w (λ k a b. count-append k r s ∙ c .once k a b))
 
 -- a page with two such chains is sound, and those are its chains
 pub chains-sound : (p r s : List ℕ) → HasChains p r s → (sound p ≡ true) × ((readySlots p ≡ r) × (spareSlots p ≡ s))

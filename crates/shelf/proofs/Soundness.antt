@@ -12,11 +12,13 @@ use lib.ListN.{length, getD}
 use Rattle.bits.specs.Bytes.{leAt}
 use Rattle.bits.proofs.Numbers.{eq-or-ne}
 use Rattle.bits.proofs.Tests.{and-true-left, and-true-right}
+use Rattle.bits.specs.Counting.{count}
+use Rattle.bits.proofs.Counting.{count-append, count-le}
 use Rattle.shelf.specs.declared.Shelf.{Shelf}
 use Rattle.shelf.specs.declared.Checked.the-variants.{Sound, Broken}
-use Rattle.shelf.specs.Page.{sizeOf, readyHead, spareHead, zeroField, drawsOf, slotAt, nextOf, chain, ended, count, allOne, blank, headerSound, chainsFrom, sound}
+use Rattle.shelf.specs.Page.{sizeOf, readyHead, spareHead, zeroField, drawsOf, slotAt, nextOf, chain, ended, allOne, blank, headerSound, chainsFrom, sound}
 use Rattle.shelf.specs.Steps.{Tallied, checked}
-use Rattle.shelf.proofs.Walks.{false-true, ended-room, allOne-cong, count-append, count-le, chain-length}
+use Rattle.shelf.proofs.Walks.{false-true, ended-room, allOne-cong, chain-length}
 
 -- a test holds or fails
 pub true-or-false : (b : Bool) → (b ≡ true) ⊎ (b ≡ false)

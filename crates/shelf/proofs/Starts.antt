@@ -8,10 +8,11 @@ use Prim.Native.Nat.{ℕ, suc, _≤_, _<_}
 use native.Mathlib.Omega.{arith}
 use lib.ListN.{length, getD}
 use Rattle.bits.proofs.Numbers.{eq-or-ne}
-use Rattle.shelf.specs.Page.{sizeOf, drawsOf, readyRoots, sound, count}
+use Rattle.bits.specs.Counting.{count}
+use Rattle.bits.proofs.Counting.{count-nil, count-same, count-other}
+use Rattle.shelf.specs.Page.{sizeOf, drawsOf, readyRoots, sound}
 use Rattle.shelf.specs.Plain.{Named, Plain, names, roots}
 use Rattle.shelf.specs.History.{Event, IsStart}
-use Rattle.shelf.proofs.Walks.{count-nil, count-same, count-other}
 
 -- the roots of a list, named n, n + 1, ..
 named : ℕ → List (List ℕ) → List Named

@@ -1,4 +1,4 @@
--- Laws of the walk along a chain, of counting, and of the tests over them.
+-- Laws of the walk along a chain, of counting its slots, and of the tests over them.
 -- Assumes nothing.
 use mathlib.Core.Path.{_≡_, refl, sym, ap, ap₂, _∙_}
 use mathlib.Core.Bool.{Bool, true, false}
@@ -11,9 +11,11 @@ use lib.Dec.{eqb}
 use lib.ListN.{length, getD, set, take, drop, replicate}
 use lib.Seq.{getD-set-same, getD-set-other}
 use Rattle.bits.specs.Bits.{bitVal}
-use Rattle.bits.proofs.Numbers.{eq-or-ne, lt-or-le, bitVal-lt}
 use Rattle.bits.specs.Bytes.{leAt, sameBytes}
-use Rattle.shelf.specs.Page.{chain, ended, count, allOne, slotAt, nextOf, rootOf, zeroRoot, blank}
+use Rattle.bits.specs.Counting.{count}
+use Rattle.bits.proofs.Numbers.{eq-or-ne, lt-or-le}
+use Rattle.bits.proofs.Counting.{count-nil, count-cons}
+use Rattle.shelf.specs.Page.{chain, ended, allOne, slotAt, nextOf, rootOf, zeroRoot, blank}
 use Rattle.shelf.specs.Steps.{Tallied}
 
 module _ (next : ℕ → ℕ) where
@@ -75,38 +77,6 @@ module _ (next : ℕ → ℕ) where
         (λ (l : S < k). absurd (let z : false ≡ true = sym (ended-above (suc n) k h l) ∙ e in let w : _≡_ {A = ℕ} 0 1 = cc in omega arith))
         (λ (l : k ≤ S). (omega arith, l))
         (lt-or-le S k)
-
--- an element more
-pub count-cons : (x y : ℕ) (l : List ℕ) → count x (y ∷ l) ≡ bitVal (eqb x y) + count x l
-unfolding count
-count-cons x y l = refl
-
--- nothing stands in the empty list
-pub count-nil : (x : ℕ) → count x [] ≡ 0
-unfolding count
-count-nil x = refl
-
--- the first element counts
-pub count-same : (x : ℕ) (l : List ℕ) → count x (x ∷ l) ≡ 1 + count x l
-unfolding count
-count-same x l = rw (eq-eqb x x refl)
-
--- another does not
-pub count-other : (x y : ℕ) (l : List ℕ) → x ≢ y → count x (y ∷ l) ≡ count x l
-unfolding count
-count-other x y l h = rw (ne-eqb x y h) (omega arith)
-
--- counts in two lists, one after the other
-pub count-append : (x : ℕ) (l m : List ℕ) → count x (l ++ m) ≡ count x l + count x m
-unfolding count
-count-append x [] m = omega arith
-count-append x (y ∷ l) m = omega (arith, count-append x l m)
-
--- at most as often as the list has elements
-pub count-le : (x : ℕ) (l : List ℕ) → count x l ≤ length l
-unfolding count
-count-le x [] = omega arith
-count-le x (y ∷ l) = omega (arith, count-le x l, bitVal-lt (eqb x y))
 
 -- a slot counted once more
 pub tally-one : (seen : List ℕ) (slot k : ℕ) → slot < length seen → getD (set seen slot (getD seen slot 0 + 1)) k 0 ≡ getD seen k 0 + bitVal (eqb k slot)

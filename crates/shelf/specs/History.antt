@@ -7,7 +7,8 @@ use mathlib.Core.List.{List, [], _∷_, _++_}
 use Prim.Native.Nat.{ℕ, suc, _+_, _≤_, _<_}
 use lib.Dec.{leb}
 use lib.ListN.{length, getD, take}
-use Rattle.shelf.specs.Page.{sizeOf, drawsOf, readyRoots, zeroRoot, sound, count}
+use Rattle.bits.specs.Counting.{count}
+use Rattle.shelf.specs.Page.{sizeOf, drawsOf, readyRoots, zeroRoot, sound}
 use Rattle.shelf.specs.Operations.{Answer, accepted, refused, stockOp, drawOp}
 use Rattle.shelf.specs.Plain.{Plain, names, roots, plainStock, plainDraw}
 

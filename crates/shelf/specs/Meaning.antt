@@ -7,7 +7,8 @@ use mathlib.Core.List.{List, [], _∷_}
 use mathlib.Core.Logic.{_≢_}
 use Prim.Native.Nat.{ℕ, _+_, _*_, _≤_, _<_}
 use lib.ListN.{length}
-use Rattle.shelf.specs.Page.{sizeOf, readyHead, spareHead, zeroField, nextOf, rootOf, zeroRoot, readySlots, spareSlots, count, sound}
+use Rattle.bits.specs.Counting.{count}
+use Rattle.shelf.specs.Page.{sizeOf, readyHead, spareHead, zeroField, nextOf, rootOf, zeroRoot, readySlots, spareSlots, sound}
 
 -- from slot k the links lead through the slots of the list, one after the other, and then to 0
 abbrev pub Leads : (ℕ → ℕ) → ℕ → List ℕ → Type 0

@@ -5,8 +5,8 @@ use mathlib.Core.List.{List, [], _∷_, _++_, map}
 use Prim.Native.Nat.{ℕ, zero, suc, _+_, _-_, _*_}
 use lib.Dec.{eqb, leb}
 use lib.ListN.{length, take, drop, replicate}
-use Rattle.bits.specs.Bits.{bitVal}
 use Rattle.bits.specs.Bytes.{leAt, sameBytes}
+use Rattle.bits.specs.Counting.{count}
 
 -- "Header: S u16"
 unfoldable pub sizeOf : List ℕ → ℕ
@@ -61,11 +61,6 @@ readySlots p = chain (nextOf p) (sizeOf p) (readyHead p)
 -- the slots on the spare chain
 unfoldable pub spareSlots : List ℕ → List ℕ
 spareSlots p = chain (nextOf p) (sizeOf p) (spareHead p)
-
--- how often x stands in a list
-unfoldable pub count : ℕ → List ℕ → ℕ
-count x [] = 0
-count x (y ∷ l) = bitVal (eqb x y) + count x l
 
 -- f is 1 at each of the slots 1..n
 unfoldable pub allOne : (ℕ → ℕ) → ℕ → Bool

@@ -5,8 +5,10 @@ use mathlib.Core.Path.{_≡_, refl, sym, ap, _∙_}
 use Prim.Native.Nat.{ℕ, _+_, _-_, _≤_, _<_}
 use native.Mathlib.Omega.{arith}
 use lib.ListN.{length, getD, set, length-set}
-use Rattle.shelf.specs.Page.{nextOf, chain, ended, count}
-use Rattle.shelf.proofs.Walks.{tallied-not, tallied-end, next-read, chain-length, count-le, tally-turn, ended-slot, ended-none, ended-above}
+use Rattle.bits.specs.Counting.{count}
+use Rattle.bits.proofs.Counting.{count-le}
+use Rattle.shelf.specs.Page.{nextOf, chain, ended}
+use Rattle.shelf.proofs.Walks.{tallied-not, tallied-end, next-read, chain-length, tally-turn, ended-slot, ended-none, ended-above}
 use Rattle.shelf.proofs.tally.Statement.{statement}
 use Rattle.shelf.proofs.tally.Tie as tie
 

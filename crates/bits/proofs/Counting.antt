@@ -1,32 +1,57 @@
--- How often a number stands in a list: a list of g numbers, all of 1..g and none twice, has each of them once.
+-- How often a number stands in a list: the laws of `count`; and a list of g numbers, all of 1..g and none twice, has each of them once.
 -- Assumes nothing.
 use mathlib.Core.Path.{_≡_, refl, sym, _∙_}
-use mathlib.Core.Bool.{cond}
-use mathlib.Core.List.{List, [], _∷_}
+use mathlib.Core.List.{List, [], _∷_, _++_}
 use mathlib.Core.Logic.{_≢_, _⊎_, inl, inr, ⊎-elim}
 use Prim.Native.Nat.{ℕ, zero, suc, _+_, _≤_, _<_}
 use native.Mathlib.Nat.{eq-or-lt-of-le}
 use native.Mathlib.Omega.{arith}
+use borrow.Author.Tests.{eq-eqb, ne-eqb}
 use lib.Dec.{eqb}
 use lib.ListN.{length}
-use borrow.Author.Tests.{eq-eqb, ne-eqb}
-use Rattle.bits.proofs.Numbers.{lt-or-le}
-use Rattle.circuit.specs.Meaning.{count}
+use Rattle.bits.specs.Bits.{bitVal}
+use Rattle.bits.specs.Counting.{count}
+use Rattle.bits.proofs.Numbers.{lt-or-le, bitVal-lt}
+
+-- nothing stands in the empty list
+pub count-nil : (x : ℕ) → count x [] ≡ 0
+unfolding count
+count-nil x = refl
+
+-- an element more
+pub count-cons : (x y : ℕ) (l : List ℕ) → count x (y ∷ l) ≡ bitVal (eqb x y) + count x l
+unfolding count
+count-cons x y l = refl
 
 -- a list with x at its front has it once more
-pub count-here : (x y : ℕ) (ys : List ℕ) → y ≡ x → count x (y ∷ ys) ≡ suc (count x ys)
+pub count-here : (x y : ℕ) (l : List ℕ) → x ≡ y → count x (y ∷ l) ≡ 1 + count x l
 unfolding count
-count-here x y ys e = rw (eq-eqb y x e) (omega arith)
+count-here x y l e = rw (eq-eqb x y e)
+
+pub count-same : (x : ℕ) (l : List ℕ) → count x (x ∷ l) ≡ 1 + count x l
+count-same x l = count-here x x l refl
 
 -- a list with another number at its front has x as often as the rest
-pub count-other : (x y : ℕ) (ys : List ℕ) → y ≢ x → count x (y ∷ ys) ≡ count x ys
+pub count-other : (x y : ℕ) (l : List ℕ) → x ≢ y → count x (y ∷ l) ≡ count x l
 unfolding count
-count-other x y ys n = rw (ne-eqb y x n) (omega arith)
+count-other x y l n = rw (ne-eqb x y n) (omega arith)
 
 -- the rest of a list has x at most as often
-pub count-rest : (x y : ℕ) (ys : List ℕ) → count x ys ≤ count x (y ∷ ys)
+pub count-rest : (x y : ℕ) (l : List ℕ) → count x l ≤ count x (y ∷ l)
 unfolding count
-count-rest x y ys = omega arith
+count-rest x y l = omega arith
+
+-- counts in two lists, one after the other
+pub count-append : (x : ℕ) (l m : List ℕ) → count x (l ++ m) ≡ count x l + count x m
+unfolding count
+count-append x [] m = omega arith
+count-append x (y ∷ l) m = omega (arith, count-append x l m)
+
+-- at most as often as the list has elements
+pub count-le : (x : ℕ) (l : List ℕ) → count x l ≤ length l
+unfolding count
+count-le x [] = omega arith
+count-le x (y ∷ l) = omega (arith, count-le x l, bitVal-lt (eqb x y))
 
 -- all numbers of a list are in 1..g
 abbrev pub Within : ℕ → List ℕ → Type 0
@@ -35,7 +60,7 @@ Within g xs = (k : ℕ) → (k ≡ 0) ⊎ (g < k) → count k xs ≡ 0
 -- then its first number is
 pub within-first : (g y : ℕ) (ys : List ℕ) → Within g (y ∷ ys) → (1 ≤ y) × (y ≤ g)
 within-first g y ys h =
-    let one : (k : ℕ) → (k ≡ 0) ⊎ (g < k) → y ≢ k = λ k o e. omega (arith, h k o, count-here k y ys e) in (
+    let one : (k : ℕ) → (k ≡ 0) ⊎ (g < k) → y ≢ k = λ k o e. omega (arith, h k o, count-here k y ys (sym e)) in (
       ⊎-elim (λ l. absurd (one 0 (inl refl) (omega arith))) (λ l. l) (lt-or-le y 1),
       ⊎-elim (λ l. absurd (one y (inr l) refl)) (λ l. l) (lt-or-le g y),
     )
@@ -51,21 +76,21 @@ sum f (suc n) = sum f n + f (suc n)
 
 -- 1 at y and 0 elsewhere
 abbrev at : ℕ → ℕ → ℕ
-at y k = cond (eqb y k) 1 0
+at y k = bitVal (eqb k y)
 
 -- the sum of 1 at y and 0 elsewhere is 0 before y
 sum-before : (y n : ℕ) → n < y → sum (at y) n ≡ 0
 unfolding sum
 sum-before y zero l = refl
-sum-before y (suc n) l = rw (ne-eqb y (suc n) (omega arith)) (omega (arith, sum-before y n (omega arith)))
+sum-before y (suc n) l = rw (ne-eqb (suc n) y (omega arith)) (omega (arith, sum-before y n (omega arith)))
 
 -- and 1 from there on
 sum-from : (y n : ℕ) → 1 ≤ y → y ≤ n → sum (at y) n ≡ 1
 unfolding sum
 sum-from y zero p l = absurd (omega arith)
 sum-from y (suc n) p l =
-    ⊎-elim (λ e. rw (eq-eqb y (suc n) e) (omega (arith, sum-before y n (omega arith))))
-    (λ m. rw (ne-eqb y (suc n) (omega arith)) (omega (arith, sum-from y n p (omega arith))))
+    ⊎-elim (λ e. rw (eq-eqb (suc n) y (sym e)) (omega (arith, sum-before y n (omega arith))))
+    (λ m. rw (ne-eqb (suc n) y (omega arith)) (omega (arith, sum-from y n p (omega arith))))
     (eq-or-lt-of-le l)
 
 -- the sum of a list's counts grows by that of its front
