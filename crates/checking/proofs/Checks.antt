@@ -7,9 +7,9 @@ use Prim.Native.Nat.{ℕ, _*_}
 use borrow.Author.Tests.{eq-eqb, ne-eqb}
 use lib.ListN.{length}
 use Rattle.bits.specs.Bytes.{sameBytes}
+use Rattle.refusal.specs.Outcome.{refuses, done}
 use Rattle.circuit.specs.Circuit.{Circuit}
 use Rattle.circuit.specs.File.{circuitOf}
-use Rattle.circuit.specs.Operations.{refusal, success}
 use Rattle.circuit.proofs.Answered.{fell, held}
 use Rattle.seeds.specs.declared.Answer.{Answer}
 use Rattle.hashing.specs.Inputs.{boundOf}
@@ -27,43 +27,43 @@ use Rattle.checking.proofs.Headers.{hstar-length, headed-counts, headed
 -- the tests of a proof, made with what is asked
 module _ (c : Circuit) (y proof : List ℕ) (M n : ℕ) (ask : ℕ → Asked) where
   -- another length than is implied
-  asked-length : (length proof ≡ proofBytes c M n ask → ⊥) → refusal 12 ≡ checkProof c y proof M n ask
+  asked-length : (length proof ≡ proofBytes c M n ask → ⊥) → refuses 12 [] ≡ checkProof c y proof M n ask
   unfolding checkProof
   asked-length t = rw (ne-eqb (length proof) (proofBytes c M n ask) t)
 
   -- the length that is implied
   module _ (size : length proof ≡ proofBytes c M n ask) where
     -- unused bits
-    asked-unused : allUnused c M n ask proof ≡ false → refusal 7 ≡ checkProof c y proof M n ask
+    asked-unused : allUnused c M n ask proof ≡ false → refuses 7 [] ≡ checkProof c y proof M n ask
     unfolding checkProof
     asked-unused u = rw (eq-eqb (length proof) (proofBytes c M n ask) size, u)
 
     -- no unused bits
     module _ (unused : allUnused c M n ask proof ≡ true) where
       -- another output
-      asked-output : allOutputs c M n ask y proof ≡ false → refusal 10 ≡ checkProof c y proof M n ask
+      asked-output : allOutputs c M n ask y proof ≡ false → refuses 10 [] ≡ checkProof c y proof M n ask
       unfolding checkProof
       asked-output v = rw (eq-eqb (length proof) (proofBytes c M n ask) size, unused, v)
 
       -- the outputs
       module _ (outputs : allOutputs c M n ask y proof ≡ true) where
         -- another h*
-        asked-digest : sameBytes (recomputed c M n ask proof) (headerHstar proof) ≡ false → refusal 13 ≡ checkProof c y proof M n ask
+        asked-digest : sameBytes (recomputed c M n ask proof) (headerHstar proof) ≡ false → refuses 13 [] ≡ checkProof c y proof M n ask
         unfolding checkProof
         asked-digest w = rw (eq-eqb (length proof) (proofBytes c M n ask) size, unused, outputs, w)
 
         -- accepted
-        asked-accepted : sameBytes (recomputed c M n ask proof) (headerHstar proof) ≡ true → success [] ≡ checkProof c y proof M n ask
+        asked-accepted : sameBytes (recomputed c M n ask proof) (headerHstar proof) ≡ true → done [] ≡ checkProof c y proof M n ask
         unfolding checkProof
         asked-accepted w = rw (eq-eqb (length proof) (proofBytes c M n ask) size, unused, outputs, w)
 
 -- the challenge to a proof with a good header, in the bytes that the operation leaves
 module _ (s : List ℕ) (M tau n : ℕ) (message proof lent choices : List ℕ) (r : Answer) (head : Headed M tau n message proof) (room : length lent ≡ 3 * tau)
-    (done : outcome r choices ≡ challengeOp M tau n (headerHstar proof) message lent) where
+    (made : outcome r choices ≡ challengeOp M tau n (headerHstar proof) message lent) where
   -- they are those of the challenge
   choices-are : choices ≡ challengeOf M tau n (headerHstar proof) (boundOf message)
   choices-are =
-      challenge-done M tau n (headerHstar proof) message lent choices r done (headed-counts M tau n message proof head)
+      challenge-done M tau n (headerHstar proof) message lent choices r made (headed-counts M tau n message proof head)
       (headed-parties M tau n message proof head) (hstar-length proof (head .good)) (head .short) room
 
   -- they ask what it asks
@@ -80,7 +80,7 @@ module _ (s : List ℕ) (M tau n : ℕ) (message proof lent choices : List ℕ) 
   -- the tests of the proof, as they are made with these bytes: first the length, which is to be x
   module _ (y : List ℕ) (x : ℕ) (e : x ≡ proofBytes (circuitOf s) M n (asksIn n choices)) where
     -- another length
-    pub check-length : (length proof ≡ x → ⊥) → refusal 12 ≡ checkProof (circuitOf s) y proof M n (challenged M tau n (headerHstar proof) message)
+    pub check-length : (length proof ≡ x → ⊥) → refuses 12 [] ≡ checkProof (circuitOf s) y proof M n (challenged M tau n (headerHstar proof) message)
     check-length t =
         asked-length (circuitOf s) y proof M n (asksIn n choices) (λ q. t (q ∙ sym e)) ∙ ap (checkProof (circuitOf s) y proof M n) choices-ask
 
@@ -92,7 +92,7 @@ module _ (s : List ℕ) (M tau n : ℕ) (message proof lent choices : List ℕ) 
       -- the test of the unused bits
       module _ (b1 : Bool) (f1 : b1 ≡ allUnused (circuitOf s) M n (asksIn n choices) proof) where
         -- it fails
-        pub check-unused : not b1 ≡ true → refusal 7 ≡ checkProof (circuitOf s) y proof M n (challenged M tau n (headerHstar proof) message)
+        pub check-unused : not b1 ≡ true → refuses 7 [] ≡ checkProof (circuitOf s) y proof M n (challenged M tau n (headerHstar proof) message)
         check-unused t =
             asked-unused (circuitOf s) y proof M n (asksIn n choices) (size ∙ e) (fell _ b1 f1 t)
             ∙ ap (checkProof (circuitOf s) y proof M n) choices-ask
@@ -105,7 +105,7 @@ module _ (s : List ℕ) (M tau n : ℕ) (message proof lent choices : List ℕ) 
           -- the test of the outputs
           module _ (b2 : Bool) (f2 : b2 ≡ allOutputs (circuitOf s) M n (asksIn n choices) y proof) where
             -- it fails
-            pub check-output : not b2 ≡ true → refusal 10 ≡ checkProof (circuitOf s) y proof M n (challenged M tau n (headerHstar proof) message)
+            pub check-output : not b2 ≡ true → refuses 10 [] ≡ checkProof (circuitOf s) y proof M n (challenged M tau n (headerHstar proof) message)
             check-output t =
                 asked-output (circuitOf s) y proof M n (asksIn n choices) (size ∙ e) check-zero (fell _ b2 f2 t)
                 ∙ ap (checkProof (circuitOf s) y proof M n) choices-ask
@@ -117,13 +117,13 @@ module _ (s : List ℕ) (M tau n : ℕ) (message proof lent choices : List ℕ) 
               same-right = f3 ∙ ap (λ (z : List ℕ). sameBytes z (headerHstar proof)) f
 
               -- it fails
-              pub check-digest : not b3 ≡ true → refusal 13 ≡ checkProof (circuitOf s) y proof M n (challenged M tau n (headerHstar proof) message)
+              pub check-digest : not b3 ≡ true → refuses 13 [] ≡ checkProof (circuitOf s) y proof M n (challenged M tau n (headerHstar proof) message)
               check-digest t =
                   asked-digest (circuitOf s) y proof M n (asksIn n choices) (size ∙ e) check-zero (held _ b2 f2 t2) (fell _ b3 same-right t)
                   ∙ ap (checkProof (circuitOf s) y proof M n) choices-ask
 
               -- it passes
-              pub check-accepted : not b3 ≡ false → success [] ≡ checkProof (circuitOf s) y proof M n (challenged M tau n (headerHstar proof) message)
+              pub check-accepted : not b3 ≡ false → done [] ≡ checkProof (circuitOf s) y proof M n (challenged M tau n (headerHstar proof) message)
               check-accepted t =
                   asked-accepted (circuitOf s) y proof M n (asksIn n choices) (size ∙ e) check-zero (held _ b2 f2 t2) (held _ b3 same-right t)
                   ∙ ap (checkProof (circuitOf s) y proof M n) choices-ask

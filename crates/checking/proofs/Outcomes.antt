@@ -2,30 +2,30 @@
 -- Assumes nothing.
 use mathlib.Core.Path.{_≡_, sym, ap, ap₂, _∙_}
 use mathlib.Core.Bool.{Bool, true, false, not, _&&_}
-use mathlib.Core.List.{List}
+use mathlib.Core.List.{List, []}
 use Prim.Native.Nat.{ℕ}
 use borrow.Author.Tests.{leb-true}
 use lib.Dec.{eqb, leb}
 use lib.ListN.{length}
+use Rattle.instance.specs.Steps.{Tree}
+use Rattle.mpc.specs.Steps.{Known}
 use Rattle.bits.specs.Bits.{oct, unusedZero}
 use Rattle.bits.proofs.Tests.{and-true-right}
 use Rattle.refusal.specs.Refusal.{numberOf}
 use Rattle.refusal.specs.declared.Refusal.{Refusal}
+use Rattle.refusal.specs.Outcome.{Outcome, refuses}
 use Rattle.parties.specs.Parties.{heightOf}
 use Rattle.circuit.specs.File.{circuitOf, Reading}
-use Rattle.circuit.specs.Operations.{Answer, refusal, readOp}
+use Rattle.circuit.specs.Operations.{readOp, holds, onLegal}
 use Rattle.circuit.specs.Answers.{readPaper}
 use Rattle.circuit.specs.declared.Sizes.{Sizes}
 use Rattle.circuit.specs.declared.ReadAnswer.{ReadAnswer}
 use Rattle.circuit.specs.declared.ReadAnswer.the-variants as readAnswer
 use Rattle.circuit.proofs.Answered.{fell, held}
-use Rattle.mpc.specs.Operations.{holds}
-use Rattle.mpc.specs.Steps.{Known}
 use Rattle.mpc.proofs.Opened.{sized, opened-refused, opened-legal, circuit-outputs}
-use Rattle.instance.specs.Steps.{Tree}
 use Rattle.proof.specs.Protocol.{challenged}
 use Rattle.proof.specs.File.{headerM, headerTau, headerN, headerHstar, goodHeader}
-use Rattle.proof.specs.Check.{checkProof, checkLegal, checkRead, checkOp}
+use Rattle.proof.specs.Check.{checkProof, checkLegal, checkOp}
 use Rattle.checking.specs.Steps.{Headed}
 use Rattle.checking.proofs.Headers.{headed-parties}
 
@@ -38,7 +38,7 @@ module _ (s : List ℕ) (i o g a : ℕ) (k : Known s (sized i o g a)) (y message
       e2 ∙ ap (λ (t : Bool). t && leb (length message) 4096) (e1 ∙ ap (λ (x : ℕ). eqb (length y) (oct x)) (sym (circuit-outputs s i o g a k)))
 
   -- it fails
-  pub legal-length : not b2 ≡ true → refusal 6 ≡ checkLegal y message proof (circuitOf s)
+  pub legal-length : not b2 ≡ true → refuses 6 [] ≡ checkLegal y message proof (circuitOf s)
   unfolding checkLegal
   legal-length t = rw (fell _ b2 lengths-right t)
 
@@ -48,14 +48,14 @@ module _ (s : List ℕ) (i o g a : ℕ) (k : Known s (sized i o g a)) (y message
     unused-right = e3 ∙ ap (λ (x : ℕ). unusedZero x y) (sym (circuit-outputs s i o g a k))
 
     -- it fails
-    pub legal-unused : not b3 ≡ true → refusal 7 ≡ checkLegal y message proof (circuitOf s)
+    pub legal-unused : not b3 ≡ true → refuses 7 [] ≡ checkLegal y message proof (circuitOf s)
     unfolding checkLegal
     legal-unused t = rw (held _ b2 lengths-right t2, fell _ b3 unused-right t)
 
     -- it passes; the test of the header
     module _ (t3 : not b3 ≡ false) (b4 : Bool) (e4 : b4 ≡ goodHeader proof) where
       -- it fails
-      pub legal-header : not b4 ≡ true → refusal 11 ≡ checkLegal y message proof (circuitOf s)
+      pub legal-header : not b4 ≡ true → refuses 11 [] ≡ checkLegal y message proof (circuitOf s)
       unfolding checkLegal
       legal-header t = rw (held _ b2 lengths-right t2, held _ b3 unused-right t3, fell _ b4 e4 t)
 
@@ -76,7 +76,7 @@ module _ (s : List ℕ) (i o g a : ℕ) (k : Known s (sized i o g a)) (y message
         legal-tree h e = record { parties = headed-parties M tau n message proof legal-headed; height = e }
 
         -- the proof is looked into
-        pub legal-done : (r : Answer) → r ≡ checkProof (circuitOf s) y proof M n (challenged M tau n (headerHstar proof) message)
+        pub legal-done : (r : Outcome) → r ≡ checkProof (circuitOf s) y proof M n (challenged M tau n (headerHstar proof) message)
             → r ≡ checkLegal y message proof (circuitOf s)
         unfolding checkLegal
         legal-done r e =
@@ -88,11 +88,11 @@ module _ (s : List ℕ) (i o g a : ℕ) (k : Known s (sized i o g a)) (y message
 -- the file is read first
 module _ (s y message proof : List ℕ) (r : ReadAnswer) (e : readPaper r ≡ readOp s) where
   -- a refused file
-  pub check-refused : (k : Refusal) → r ≡ readAnswer.Refused k → refusal (numberOf k) ≡ checkOp s y message proof
-  unfolding checkOp checkRead
-  check-refused k p = sym (ap (λ (x : Reading). checkRead x y message proof) (opened-refused s k r p e))
+  pub check-refused : (k : Refusal) → r ≡ readAnswer.Refused k → refuses (numberOf k) [] ≡ checkOp s y message proof
+  unfolding checkOp
+  check-refused k p = sym (ap (λ (x : Reading). onLegal x [] (checkLegal y message proof)) (opened-refused s k r p e))
 
   -- a legal file
   pub check-read : (z : Sizes) → r ≡ readAnswer.Legal z → checkLegal y message proof (circuitOf s) ≡ checkOp s y message proof
-  unfolding checkOp checkRead
-  check-read z p = sym (ap (λ (x : Reading). checkRead x y message proof) (opened-legal s z r p e))
+  unfolding checkOp
+  check-read z p = sym (ap (λ (x : Reading). onLegal x [] (checkLegal y message proof)) (opened-legal s z r p e))

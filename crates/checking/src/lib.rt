@@ -8,7 +8,7 @@ ghost use Rattle.instance.specs.Steps.{Tree, Lent};
 ghost use Rattle.proof.specs.Protocol.{challenged};
 ghost use Rattle.proof.specs.File.{headerHstar, goodHeader};
 ghost use Rattle.proof.specs.Check.{checkProof, checkLegal, checkOp};
-ghost use Rattle.checking.specs.Answers.{paper};
+ghost use Rattle.checking.specs.Answers.{outcome};
 ghost use Rattle.checking.specs.Steps.{Headed};
 
 mod unused_bits;
@@ -63,7 +63,7 @@ fn check_in(
     memory: &mut [u8],
 ) -> Answer
     requires { ⌜ Lent (now s) z n h (now tapes) (now memory) × (Headed m tau n (now message) (now proof) × (length (now choices) ≡ 3 * tau)) ⌝ }
-    ensures { λ r. ⌜ paper r ≡ checkProof (circuitOf (now (s .entry))) (now (y .entry)) (now (proof .entry)) m n (challenged m tau n (headerHstar (now (proof .entry))) (now (message .entry))) ⌝ }
+    ensures { λ r. ⌜ outcome r ≡ checkProof (circuitOf (now (s .entry))) (now (y .entry)) (now (proof .entry)) m n (challenged m tau n (headerHstar (now (proof .entry))) (now (message .entry))) ⌝ }
 {
     let _ = challenge(m, tau, n, &proof[6..HEADER_BYTES], message, choices);
     if proof.len() != proof_bytes(s, z, m, n, h, choices) {
@@ -95,7 +95,7 @@ fn check_with(
     proof: &[u8],
 ) -> Answer
     requires { ⌜ Known (now s) z × (Tree n h × Headed m tau n (now message) (now proof)) ⌝ }
-    ensures { λ r. ⌜ paper r ≡ checkProof (circuitOf (now (s .entry))) (now (y .entry)) (now (proof .entry)) m n (challenged m tau n (headerHstar (now (proof .entry))) (now (message .entry))) ⌝ }
+    ensures { λ r. ⌜ outcome r ≡ checkProof (circuitOf (now (s .entry))) (now (y .entry)) (now (proof .entry)) m n (challenged m tau n (headerHstar (now (proof .entry))) (now (message .entry))) ⌝ }
 {
     let inputs = z.inputs;
     let gates = z.gates;
@@ -125,7 +125,7 @@ fn check_with(
 // Tests y, the message and the header, and checks a proof of a legal circuit.
 fn check_lent(s: &[u8], z: Sizes, y: &[u8], message: &[u8], proof: &[u8]) -> Answer
     requires { ⌜ Known (now s) z ⌝ }
-    ensures { λ r. ⌜ paper r ≡ checkLegal (now (y .entry)) (now (message .entry)) (now (proof .entry)) (circuitOf (now (s .entry))) ⌝ }
+    ensures { λ r. ⌜ outcome r ≡ checkLegal (now (y .entry)) (now (message .entry)) (now (proof .entry)) (circuitOf (now (s .entry))) ⌝ }
 {
     if !both(holds(y, z.outputs), message.len() <= MAX_MESSAGE) {
         return Answer::Refused(Refusal::BufferLength);
@@ -145,7 +145,7 @@ fn check_lent(s: &[u8], z: Sizes, y: &[u8], message: &[u8], proof: &[u8]) -> Ans
 
 // Checks a proof that the circuit gives y on some witness, under the message.
 pub fn check(s: &[u8], y: &[u8], message: &[u8], proof: &[u8]) -> Answer
-    ensures { λ r. ⌜ paper r ≡ checkOp (now (s .entry)) (now (y .entry)) (now (message .entry)) (now (proof .entry)) ⌝ }
+    ensures { λ r. ⌜ outcome r ≡ checkOp (now (s .entry)) (now (y .entry)) (now (message .entry)) (now (proof .entry)) ⌝ }
 {
     let answer = read(s);
     match answer {

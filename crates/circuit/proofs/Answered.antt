@@ -8,12 +8,13 @@ use native.Mathlib.Omega.{arith}
 use borrow.Author.Tests.{lt-ltb, le-ltb, ltb-false, not-false, not-true, leb-true, eq-eqb, ne-eqb}
 use lib.Dec.{leb, ltb}
 use lib.ListN.{length, length-map}
+use Rattle.circuit.specs.Steps.{inputsFirst, gatesFrom, limits, Framed}
 use Rattle.bits.proofs.Tests.{and-true-left, and-true-right}
 use Rattle.bits.proofs.Tabulate.{length-tabulate}
+use Rattle.refusal.specs.Outcome.{refusal, success}
 use Rattle.circuit.specs.Circuit.{Circuit, Gate, ands}
 use Rattle.circuit.specs.File.{inputsOf, outputsOf, gatesOf, headOf, outputWire, withinLimits, rightLength, goodRecords, goodChain, goodWires, goodOutputs, readsWritten, walks, chainFrom, gateAt, gatesInOrder, circuitOf, Reading, refused, legal, readCircuit}
-use Rattle.circuit.specs.Operations.{refusal, success, readAnswer, readOp}
-use Rattle.circuit.specs.Steps.{Framed, limits, gatesFrom, inputsFirst}
+use Rattle.circuit.specs.Operations.{readAnswer, readOp}
 use Rattle.circuit.proofs.Visits.{length-chain}
 
 -- a file of 8 bytes or more, with its limits and its length good

@@ -1,24 +1,25 @@
 -- What evaluating answers: on a refused file, on a legal one that is lent something else, and on a good witness.
 -- Assumes nothing.
 use mathlib.Core.Path.{_≡_, refl, sym, ap, ap₂, _∙_}
-use mathlib.Core.Bool.{Bool, true, false, not, cond, _&&_}
+use mathlib.Core.Bool.{Bool, true, false, not, _&&_}
 use mathlib.Core.List.{List, [], _∷_}
 use Prim.Native.Nat.{ℕ, zero, suc, _+_, _-_, _*_}
 use native.Mathlib.Omega.{arith}
 use borrow.Author.Tests.{eq-eqb, ne-eqb, eqb-true, ltb-true, not-true, not-false}
-use lib.Dec.{eqb, ltb}
+use lib.Dec.{ltb}
 use lib.ListN.{length, set, length-set, replicate, length-replicate}
+use Rattle.circuit.specs.Steps.{Legal, Ended, Ready, outBits, walked, loaded, gateByte, gatesFrom, limits}
 use Rattle.bits.specs.Bits.{bitAt, oct, pack, unusedZero}
 use Rattle.bits.proofs.Tabulate.{length-tabulate}
 use Rattle.bits.proofs.Tests.{and-true-left, and-true-right}
+use Rattle.refusal.specs.Outcome.{refusal, success, done as filled, unless}
 use Rattle.refusal.specs.Refusal.{numberOf}
 use Rattle.refusal.specs.declared.Refusal.{Refusal}
 use Rattle.refusal.specs.declared.Refusal.the-variants.{BufferLength, UnusedBits}
 use Rattle.circuit.specs.Circuit.{ands, evaluate}
 use Rattle.circuit.specs.File.{inputsOf, outputsOf, gatesOf, headOf, nextOf, outputWire, withinLimits, rightLength, walks, goodWires, goodOutputs, readsWritten, gatesInOrder, circuitOf}
-use Rattle.circuit.specs.Operations.{refusal, success, readOp, evaluateLegal, evaluateRead, evaluateOp}
+use Rattle.circuit.specs.Operations.{readOp, evaluateLegal, evaluateOp, holds}
 use Rattle.circuit.specs.Records.{gateOf}
-use Rattle.circuit.specs.Steps.{limits, gatesFrom, gateByte, loaded, walked, outBits, Ready, Ended, Legal}
 use Rattle.circuit.specs.Answers.{readPaper, outcome}
 use Rattle.circuit.specs.declared.Sizes.{Sizes}
 use Rattle.circuit.specs.declared.ReadAnswer.{ReadAnswer}
@@ -73,28 +74,26 @@ module _ (s : List ℕ) (i o g : ℕ) (f : Legal s i o g) where
       ∙ evaluated s i o g h w f p (omega (arith, f .laid)) (omega (arith, f .laid)) z
 
   -- the operation in the numbers that the code carries
-  lent-form : (w y : List ℕ) → evaluateLegal (circuitOf s) w y
-      ≡ cond (not (eqb (length w) (oct i) && eqb (length y) (oct o))) (record { answer = refusal 6; left = y })
-      (cond (not (unusedZero i w)) (record { answer = refusal 7; left = y })
-      (record { answer = success []; left = pack (evaluate (circuitOf s) (bitAt w)) }))
+  lent-form : (w y : List ℕ) → evaluateLegal w y (circuitOf s)
+      ≡ unless (holds i w && holds o y) 6 (y ∷ []) (unless (unusedZero i w) 7 (y ∷ []) (filled (pack (evaluate (circuitOf s) (bitAt w)) ∷ [])))
   unfolding evaluateLegal circuitOf
   lent-form w y = rw (f .laid .inputs, f .laid .outputs, length-tabulate (outputsOf s) (outputWire s))
 
   pub refuse-witness : (w y : List ℕ) (r : ℕ) → r ≡ oct i → (length w ≡ r → ⊥)
-      → outcome (evaluateAnswer.Refused BufferLength) y ≡ evaluateLegal (circuitOf s) w y
+      → outcome (evaluateAnswer.Refused BufferLength) y ≡ evaluateLegal w y (circuitOf s)
   refuse-witness w y r e h = sym (lent-form w y ∙ rw (ne-eqb (length w) (oct i) (λ q. h (q ∙ sym e))))
 
   pub refuse-output : (w y : List ℕ) (r t : ℕ) → r ≡ oct i → length w ≡ r → t ≡ oct o → (length y ≡ t → ⊥)
-      → outcome (evaluateAnswer.Refused BufferLength) y ≡ evaluateLegal (circuitOf s) w y
+      → outcome (evaluateAnswer.Refused BufferLength) y ≡ evaluateLegal w y (circuitOf s)
   refuse-output w y r t e a d h = sym (lent-form w y ∙ rw (eq-eqb (length w) (oct i) (a ∙ e), ne-eqb (length y) (oct o) (λ q. h (q ∙ sym d))))
 
   pub refuse-unused : (w y : List ℕ) (r t : ℕ) (b : Bool) → r ≡ oct i → length w ≡ r → t ≡ oct o → length y ≡ t → b ≡ unusedZero i w → not b ≡ true
-      → outcome (evaluateAnswer.Refused UnusedBits) y ≡ evaluateLegal (circuitOf s) w y
+      → outcome (evaluateAnswer.Refused UnusedBits) y ≡ evaluateLegal w y (circuitOf s)
   refuse-unused w y r t b e a d h q n =
       sym (lent-form w y ∙ rw (eq-eqb (length w) (oct i) (a ∙ e), eq-eqb (length y) (oct o) (h ∙ d), sym q ∙ not-true b n))
 
   pub done : (w y x : List ℕ) (r t : ℕ) (b : Bool) → r ≡ oct i → length w ≡ r → t ≡ oct o → length y ≡ t → b ≡ unusedZero i w → not b ≡ false
-      → x ≡ pack (evaluate (circuitOf s) (bitAt w)) → outcome evaluateAnswer.Done x ≡ evaluateLegal (circuitOf s) w y
+      → x ≡ pack (evaluate (circuitOf s) (bitAt w)) → outcome evaluateAnswer.Done x ≡ evaluateLegal w y (circuitOf s)
   done w y x r t b e a d h q n z =
       ap (outcome evaluateAnswer.Done) z
       ∙ sym (lent-form w y ∙ rw (eq-eqb (length w) (oct i) (a ∙ e), eq-eqb (length y) (oct o) (h ∙ d), sym q ∙ not-false b n))
@@ -102,7 +101,7 @@ module _ (s : List ℕ) (i o g : ℕ) (f : Legal s i o g) where
 -- a refused file
 pub evaluate-refused : (s w y : List ℕ) (k : Refusal) (r : ReadAnswer) → r ≡ readAnswer.Refused k → readPaper r ≡ readOp s
     → outcome (evaluateAnswer.Refused k) y ≡ evaluateOp s w y
-unfolding evaluateOp evaluateRead
+unfolding evaluateOp
 evaluate-refused s w y k r p e =
     let q : refusal (numberOf k) ≡ readOp s = sym (ap readPaper p) ∙ e in
     rw (refusal-refused s (numberOf k) q)
@@ -150,6 +149,6 @@ module _ (s : List ℕ) (z : Sizes) (r : ReadAnswer) (p : r ≡ readAnswer.Legal
         wires = t .wires;
       }
 
-  pub evaluate-read : (w y : List ℕ) → evaluateOp s w y ≡ evaluateLegal (circuitOf s) w y
-  unfolding evaluateOp evaluateRead
+  pub evaluate-read : (w y : List ℕ) → evaluateOp s w y ≡ evaluateLegal w y (circuitOf s)
+  unfolding evaluateOp
   evaluate-read w y = rw (read-legal s legal-passed)

@@ -5,10 +5,11 @@ use mathlib.Core.List.{List, [], _∷_}
 use Prim.Native.Nat.{ℕ, _≤_, _<_, _^_}
 use native.Mathlib.Omega.{arith}
 use lib.ListN.{length, getD}
+use Rattle.circuit.specs.Steps.{limits}
+use Rattle.refusal.specs.Outcome.{Answer, refusal, success}
 use Rattle.circuit.specs.Circuit.{Gate, xor, and, inv, ands}
 use Rattle.circuit.specs.File.{inputsOf, outputsOf, gatesOf, gatesInOrder}
-use Rattle.circuit.specs.Operations.{Answer, refusal, success, readOp}
-use Rattle.circuit.specs.Steps.{limits}
+use Rattle.circuit.specs.Operations.{readOp}
 use Rattle.circuit.specs.Answers.{readPaper}
 use Rattle.circuit.specs.declared.Sizes.{Sizes}
 use Rattle.circuit.specs.declared.ReadAnswer.the-variants as readAnswer

@@ -3,7 +3,7 @@
 use mathlib.Core.List.{List, [], _∷_}
 use Prim.Native.Nat.{ℕ}
 use Rattle.refusal.specs.Refusal.{numberOf}
-use Rattle.circuit.specs.Operations.{Answer, refusal, success, Outcome}
+use Rattle.refusal.specs.Outcome.{Answer, refusal, success, Outcome}
 use Rattle.circuit.specs.declared.ReadAnswer.{ReadAnswer}
 use Rattle.circuit.specs.declared.ReadAnswer.the-variants as readAnswer
 use Rattle.circuit.specs.declared.EvaluateAnswer.{EvaluateAnswer}
@@ -21,4 +21,4 @@ evaluatePaper (evaluateAnswer.Refused k) = refusal (numberOf k)
 
 -- the answer of evaluate, and what its output buffer then holds
 abbrev pub outcome : EvaluateAnswer → List ℕ → Outcome
-outcome r y = record { answer = evaluatePaper r; left = y }
+outcome r y = record { answer = evaluatePaper r; left = y ∷ [] }

@@ -141,7 +141,7 @@ fn evaluate_lent(
     y: &mut [u8],
 ) -> EvaluateAnswer
     requires { ⌜ Legal (now s) inputs outputs gates ⌝ }
-    ensures { λ r. ⌜ outcome r (now (y .exit)) ≡ evaluateLegal (circuitOf (now (s .entry))) (now (witness .entry)) (now (y .entry)) ⌝ }
+    ensures { λ r. ⌜ outcome r (now (y .exit)) ≡ evaluateLegal (now (witness .entry)) (now (y .entry)) (circuitOf (now (s .entry))) ⌝ }
 {
     if witness.len() != bits::oct(inputs) {
         return EvaluateAnswer::Refused(Refusal::BufferLength);

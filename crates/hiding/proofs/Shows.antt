@@ -12,12 +12,13 @@ use Rattle.bits.specs.Bits.{unusedZero}
 use Rattle.bits.proofs.Numbers.{lt-or-le, eq-or-ne}
 use Rattle.bits.proofs.Rows.{row-getD, row-fits}
 use Rattle.bits.proofs.Tests.{and-true-left, and-true-right}
+use Rattle.refusal.specs.Outcome.{Outcome, done}
 use Rattle.parties.specs.Parties.{isPartyCount}
 use Rattle.circuit.specs.Circuit.{Circuit}
 use Rattle.circuit.specs.File.{legal, readCircuit}
 use Rattle.mpc.specs.Tapes.{rowBytes, tapeRow, usedBits, unusedRows, withRow}
 use Rattle.mpc.specs.Showing.{Showing, showing}
-use Rattle.mpc.specs.Operations.{Outcome, done, partsOf, holdsShowing, showLegal, showOp}
+use Rattle.mpc.specs.Operations.{partsOf, holdsShowing, showLegal, showOp}
 use Rattle.hiding.specs.Hiding.{Row, Tapes, Witness, Partner, PartnerShown, HidingShown}
 use Rattle.hiding.proofs.Rows.{byte-other, length-withRow, row-here, row-other}
 use Rattle.hiding.proofs.Theorem.{hiding}

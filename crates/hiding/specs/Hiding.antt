@@ -7,12 +7,13 @@ use mathlib.Core.List.{List}
 use Prim.Native.Nat.{ℕ, _*_, _≤_, _<_}
 use lib.ListN.{length, getD}
 use Rattle.bits.specs.Bits.{oct, pack, bitAt, unusedZero}
+use Rattle.refusal.specs.Outcome.{Outcome, done}
 use Rattle.parties.specs.Parties.{isPartyCount}
 use Rattle.circuit.specs.Circuit.{Circuit, evaluate}
 use Rattle.circuit.specs.File.{legal, readCircuit}
 use Rattle.mpc.specs.Tapes.{rowBytes, usedBits, withRow, unusedRows}
 use Rattle.mpc.specs.Showing.{Showing, showing}
-use Rattle.mpc.specs.Operations.{Outcome, done, holdsShowing, showOp}
+use Rattle.mpc.specs.Operations.{holdsShowing, showOp}
 
 -- len bytes
 pub record Bytes (len : ℕ) (s : List ℕ) : Type 0 where

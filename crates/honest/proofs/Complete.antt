@@ -12,11 +12,11 @@ use lib.Seq.{take-at}
 use Rattle.bits.specs.Bits.{oct, pack, bitAt, unusedZero}
 use Rattle.bits.proofs.Equal.{same-eq}
 use Rattle.bits.proofs.Tabulate.{tabulate-cong}
+use Rattle.refusal.specs.Outcome.{done}
 use Rattle.parties.specs.Parties.{heightOf, isPartyCount}
 use Rattle.parties.proofs.Counts.{sizes}
 use Rattle.circuit.specs.Circuit.{Circuit, evaluate}
-use Rattle.circuit.specs.Operations.{success}
-use Rattle.mpc.specs.Operations.{holds}
+use Rattle.circuit.specs.Operations.{holds}
 use Rattle.hiding.specs.Hiding.{Witness}
 use Rattle.seeds.specs.Operations.{areCounts}
 use Rattle.seeds.proofs.Instances.{Fit, counts-fit}
@@ -25,7 +25,7 @@ use Rattle.proof.specs.Protocol.{hstarOf, mastersOf, firstMessage, challenged}
 use Rattle.proof.specs.File.{headerM, headerTau, headerN, headerHstar, goodHeader}
 use Rattle.proof.specs.Prove.{proofOf, witnesses}
 use Rattle.instance.specs.Opened.{openedRun}
-use Rattle.proof.specs.Check.{checkProof, checkLegal, checkRead, checkOp}
+use Rattle.proof.specs.Check.{checkProof, checkLegal, checkOp}
 use Rattle.honest.specs.Theorems.{Complete}
 use Rattle.honest.proofs.Passing.{and-true}
 use Rattle.honest.proofs.Opened.{opened-output}
@@ -45,7 +45,7 @@ hstar-cong M f f′ g g′ p q = rw (tabulate-cong M f f′ p, tabulate-cong M g
 legal-accepts : (c : Circuit) (y message proof : List ℕ) (M tau n : ℕ) (h : List ℕ)
     → headerM proof ≡ M → headerTau proof ≡ tau → headerN proof ≡ n → headerHstar proof ≡ h
     → holds (length (c .outputs)) y && leb (length message) 4096 ≡ true → unusedZero (length (c .outputs)) y ≡ true → goodHeader proof ≡ true
-    → checkProof c y proof M n (challenged M tau n h message) ≡ success [] → checkLegal y message proof c ≡ success []
+    → checkProof c y proof M n (challenged M tau n h message) ≡ done [] → checkLegal y message proof c ≡ done []
 unfolding checkLegal
 legal-accepts c y message proof M tau n h eM et en eh a b d e = rw (a, b, d, eM, et, en, eh) e
 
@@ -92,7 +92,7 @@ module _ (c : Circuit) (M tau n : ℕ) (witness message : List ℕ) (masters : �
 
   -- check accepts it
   accepts : holds (length (c .outputs)) y && leb (length message) 4096 ≡ true → unusedZero (length (c .outputs)) y ≡ true
-      → checkLegal y message proof c ≡ success []
+      → checkLegal y message proof c ≡ done []
   accepts a b =
       let m : M < 65536 = omega (arith, fit .most) in
       let t : tau < 65536 = omega (arith, fit .below) in
@@ -103,7 +103,7 @@ module _ (c : Circuit) (M tau n : ℕ) (witness message : List ℕ) (masters : �
 
 -- every honest proof passes
 pub complete : Complete
-unfolding witnesses checkOp checkRead
+unfolding witnesses checkOp
 complete s witness y message root buffer left M tau n k bytes e =
     let p = proved s witness y message root buffer left M tau n k e in
     let c : Circuit = p .circuit in

@@ -7,8 +7,8 @@ use native.Mathlib.Omega.{arith}
 use borrow.Author.Tests.{leb-true}
 use lib.ListN.{length, drop, length-append, length-drop}
 use lib.Seq.{drop-at}
+use Rattle.refusal.specs.Outcome.{success}
 use Rattle.circuit.specs.Circuit.{Circuit}
-use Rattle.circuit.specs.Operations.{success}
 use Rattle.proof.specs.Protocol.{mastersOf}
 use Rattle.proof.specs.File.{proofRoom}
 use Rattle.proof.specs.Prove.{proofOf, proveOp}

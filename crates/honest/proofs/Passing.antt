@@ -8,16 +8,15 @@ use Prim.Native.Nat.{ℕ, zero, suc, _<_}
 use native.Mathlib.Omega.{arith}
 use Rattle.bits.proofs.Numbers.{lt-or-le}
 use Rattle.bits.proofs.Tests.{and-true-left, and-true-right}
-use Rattle.circuit.specs.Operations.{Answer, refusal, success}
-use Rattle.mpc.specs.Operations.{Outcome, unless}
-use Rattle.proof.specs.Check.{every, elseRefuse}
+use Rattle.refusal.specs.Outcome.{Answer, refusal, success, Outcome, refuses, unless}
+use Rattle.proof.specs.Check.{every}
 
 -- the outcome of a success
 abbrev pub succeeded : List ℕ → List (List ℕ) → Outcome
 succeeded vs left = record { answer = success vs; left = left }
 
 -- a refusal is no success
-pub refused-not : (k : ℕ) (lent : List (List ℕ)) (vs : List ℕ) (left : List (List ℕ)) → record { answer = refusal k; left = lent } ≡ succeeded vs left → ⊥
+pub refused-not : (k : ℕ) (lent : List (List ℕ)) (vs : List ℕ) (left : List (List ℕ)) → refuses k lent ≡ succeeded vs left → ⊥
 refused-not k lent vs left e =
     let a : _≡_ {A = Answer} (refusal k) (success vs) = ap (λ (o : Outcome). o .answer) e in
     let z : _≡_ {A = ℕ} 0 1 = cc in
@@ -34,16 +33,6 @@ pub unless-rest : (b : Bool) (k : ℕ) (lent : List (List ℕ)) (o : Outcome) (v
     → unless b k lent o ≡ succeeded vs left → o ≡ succeeded vs left
 unless-rest true k lent o vs left e = e
 unless-rest false k lent o vs left e = absurd (refused-not k lent vs left e)
-
--- an accepting check has passed its first test
-pub refuse-test : (b : Bool) (k : ℕ) (rest : Answer) (vs : List ℕ) → elseRefuse b k rest ≡ success vs → b ≡ true
-refuse-test true k rest vs e = refl
-refuse-test false k rest vs e = cc
-
--- and accepts by what follows
-pub refuse-rest : (b : Bool) (k : ℕ) (rest : Answer) (vs : List ℕ) → elseRefuse b k rest ≡ success vs → rest ≡ success vs
-refuse-rest true k rest vs e = e
-refuse-rest false k rest vs e = cc
 
 -- both tests of an AND hold
 pub and-true : (a b : Bool) → a ≡ true → b ≡ true → a && b ≡ true

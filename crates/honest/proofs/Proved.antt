@@ -9,12 +9,12 @@ use lib.Dec.{eqb, leb}
 use lib.ListN.{length, drop}
 use Rattle.bits.specs.Bits.{unusedZero}
 use Rattle.bits.proofs.Tests.{and-true-left, and-true-right}
+use Rattle.refusal.specs.Outcome.{Answer, success, Outcome, unless}
 use Rattle.parties.specs.Parties.{heightOf, isPartyCount}
 use Rattle.parties.proofs.Counts.{count-no}
 use Rattle.circuit.specs.Circuit.{Circuit}
 use Rattle.circuit.specs.File.{Reading, refused, legal, readCircuit}
-use Rattle.circuit.specs.Operations.{Answer, success}
-use Rattle.mpc.specs.Operations.{Outcome, unless, onLegal, holds}
+use Rattle.circuit.specs.Operations.{onLegal, holds}
 use Rattle.seeds.specs.Operations.{areCounts}
 use Rattle.proof.specs.File.{proofRoom}
 use Rattle.proof.specs.Protocol.{mastersOf}

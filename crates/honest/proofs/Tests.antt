@@ -4,7 +4,6 @@ use mathlib.Core.Path.{_≡_, refl, sym, ap, _∙_}
 use mathlib.Core.Bool.{Bool, true, _&&_}
 use mathlib.Core.List.{List, []}
 use Prim.Native.Nat.{ℕ, _≤_, _<_}
-use native.Mathlib.Omega.{arith}
 use borrow.Author.Tests.{eq-eqb, eqb-true, le-leb, leb-true}
 use lib.Dec.{eqb, leb}
 use lib.ListN.{length}
@@ -12,16 +11,16 @@ use Rattle.bits.specs.Bits.{oct, pack, unusedZero}
 use Rattle.bits.specs.Bytes.{sameBytes}
 use Rattle.bits.proofs.Equal.{same-eq, eq-same}
 use Rattle.bits.proofs.Tests.{and-true-left, and-true-right}
+use Rattle.refusal.specs.Outcome.{Outcome, done, unless}
 use Rattle.circuit.specs.Circuit.{Circuit}
 use Rattle.circuit.specs.File.{Reading, refused, legal, readCircuit}
-use Rattle.circuit.specs.Operations.{Answer, success}
-use Rattle.mpc.specs.Operations.{holds}
+use Rattle.circuit.specs.Operations.{holds, onLegal}
 use Rattle.instance.specs.Instance.{Asked, opened, hiding}
 use Rattle.proof.specs.Protocol.{hstarOf, challenged}
 use Rattle.proof.specs.File.{headerM, headerTau, headerN, headerHstar, goodHeader, proofBytes, stretchAt}
 use Rattle.instance.specs.Opened.{openedRun, stretchCommitments, stretchOnline, stretchUnused, stretchOutput}
-use Rattle.proof.specs.Check.{every, elseRefuse, checkProof, checkLegal, checkRead, checkOp}
-use Rattle.honest.proofs.Passing.{and-true, refuse-test, refuse-rest, every-at, all-every}
+use Rattle.proof.specs.Check.{every, checkProof, checkLegal, checkOp}
+use Rattle.honest.proofs.Passing.{refused-not, unless-test, unless-rest, and-true, every-at, all-every}
 
 -- the tests of a proof whose header is good, where h* is hstar, and `ask` says what is asked of each instance
 pub record ProofTests (c : Circuit) (y proof hstar : List ℕ) (M n : ℕ) (ask : ℕ → Asked) : Type 0 where
@@ -61,8 +60,8 @@ module _ (c : Circuit) (y proof : List ℕ) (M n : ℕ) (ask : ℕ → Asked) wh
 
   -- check makes them in this order
   tests : checkProof c y proof M n ask
-      ≡ elseRefuse size 12 (elseRefuse (every M unused) 7
-      (elseRefuse (every M output) 10 (elseRefuse (sameBytes recomputed (headerHstar proof)) 13 (success []))))
+      ≡ unless size 12 [] (unless (every M unused) 7 []
+      (unless (every M output) 10 [] (unless (sameBytes recomputed (headerHstar proof)) 13 [] (done []))))
   unfolding checkProof
   tests = refl
 
@@ -80,22 +79,22 @@ module _ (c : Circuit) (y proof : List ℕ) (M n : ℕ) (ask : ℕ → Asked) wh
   output-passes j (hiding p) h = eq-same _ y (h p refl)
 
   -- they pass where check accepts
-  proof-passed : checkProof c y proof M n ask ≡ success [] → ProofTests c y proof (headerHstar proof) M n ask
+  proof-passed : checkProof c y proof M n ask ≡ done [] → ProofTests c y proof (headerHstar proof) M n ask
   proof-passed e =
       let e0 = sym tests ∙ e in
-      let e1 = refuse-rest size 12 _ [] e0 in
-      let e2 = refuse-rest (every M unused) 7 _ [] e1 in
-      let e3 = refuse-rest (every M output) 10 _ [] e2 in
+      let e1 = unless-rest size 12 [] _ [] [] e0 in
+      let e2 = unless-rest (every M unused) 7 [] _ [] [] e1 in
+      let e3 = unless-rest (every M output) 10 [] _ [] [] e2 in
       record {
-        size = eqb-true (length proof) (proofBytes c M n ask) (refuse-test size 12 _ [] e0);
-        unused = every-at M unused (refuse-test (every M unused) 7 _ [] e1);
+        size = eqb-true (length proof) (proofBytes c M n ask) (unless-test size 12 [] _ [] [] e0);
+        unused = every-at M unused (unless-test (every M unused) 7 [] _ [] [] e1);
         output = λ j p h q.
-            same-eq _ y (sym (output-is j p q) ∙ every-at M output (refuse-test (every M output) 10 _ [] e2) j h);
-        digest = same-eq recomputed (headerHstar proof) (refuse-test (sameBytes recomputed (headerHstar proof)) 13 _ [] e3);
+            same-eq _ y (sym (output-is j p q) ∙ every-at M output (unless-test (every M output) 10 [] _ [] [] e2) j h);
+        digest = same-eq recomputed (headerHstar proof) (unless-test (sameBytes recomputed (headerHstar proof)) 13 [] _ [] [] e3);
       }
 
   -- and check accepts where they pass
-  pub proof-accepted : ProofTests c y proof (headerHstar proof) M n ask → checkProof c y proof M n ask ≡ success []
+  pub proof-accepted : ProofTests c y proof (headerHstar proof) M n ask → checkProof c y proof M n ask ≡ done []
   proof-accepted h =
       let a : size ≡ true = eq-eqb (length proof) (proofBytes c M n ask) (h .size) in
       let b : every M unused ≡ true = all-every M unused (h .unused) in
@@ -115,47 +114,46 @@ module _ (y message proof : List ℕ) (c : Circuit) where
   abbrev asks : ℕ → Asked
   asks = challenged (headerM proof) (headerTau proof) (headerN proof) (headerHstar proof) message
 
-  abbrev rest : Answer
+  abbrev rest : Outcome
   rest = checkProof c y proof (headerM proof) (headerN proof) asks
 
   -- check makes them in this order
-  legal-tests : checkLegal y message proof c ≡ elseRefuse sizes 6 (elseRefuse clean 7 (elseRefuse (goodHeader proof) 11 rest))
+  legal-tests : checkLegal y message proof c ≡ unless sizes 6 [] (unless clean 7 [] (unless (goodHeader proof) 11 [] rest))
   unfolding checkLegal
   legal-tests = refl
 
   -- they pass where check accepts a legal circuit
-  legal-passed : (s : List ℕ) → readCircuit s ≡ legal c → checkLegal y message proof c ≡ success [] → CheckTests s y message proof
+  legal-passed : (s : List ℕ) → readCircuit s ≡ legal c → checkLegal y message proof c ≡ done [] → CheckTests s y message proof
   legal-passed s r e =
       let e0 = sym legal-tests ∙ e in
-      let e1 = refuse-rest sizes 6 _ [] e0 in
-      let e2 = refuse-rest clean 7 _ [] e1 in
-      let t = refuse-test sizes 6 _ [] e0 in
+      let e1 = unless-rest sizes 6 [] _ [] [] e0 in
+      let e2 = unless-rest clean 7 [] _ [] [] e1 in
+      let t = unless-test sizes 6 [] _ [] [] e0 in
       record {
         circuit = c;
         read = r;
         y-size = eqb-true (length y) _ (and-true-left (holds (length (c .outputs)) y) (leb (length message) 4096) t);
         short = leb-true (length message) 4096 (and-true-right (holds (length (c .outputs)) y) (leb (length message) 4096) t);
-        y-unused = refuse-test clean 7 _ [] e1;
-        header = refuse-test (goodHeader proof) 11 _ [] e2;
-        proof-tests = proof-passed c y proof (headerM proof) (headerN proof) asks (refuse-rest (goodHeader proof) 11 _ [] e2);
+        y-unused = unless-test clean 7 [] _ [] [] e1;
+        header = unless-test (goodHeader proof) 11 [] _ [] [] e2;
+        proof-tests = proof-passed c y proof (headerM proof) (headerN proof) asks (unless-rest (goodHeader proof) 11 [] _ [] [] e2);
       }
 
 -- whatever was read
-read-passed : (s y message proof : List ℕ) (r : Reading) → readCircuit s ≡ r → checkRead r y message proof ≡ success [] → CheckTests s y message proof
-unfolding checkRead
-read-passed s y message proof (refused k) r e = let z : _≡_ {A = ℕ} 0 1 = cc in absurd (omega arith)
+read-passed : (s y message proof : List ℕ) (r : Reading) → readCircuit s ≡ r → onLegal r [] (checkLegal y message proof) ≡ done [] → CheckTests s y message proof
+read-passed s y message proof (refused k) r e = absurd (refused-not k [] [] [] e)
 read-passed s y message proof (legal c) r e = legal-passed y message proof c s r e
 
 -- all tests pass where check accepts
-pub passed : (s y message proof : List ℕ) → checkOp s y message proof ≡ success [] → CheckTests s y message proof
+pub passed : (s y message proof : List ℕ) → checkOp s y message proof ≡ done [] → CheckTests s y message proof
 unfolding checkOp
 passed s y message proof e = read-passed s y message proof (readCircuit s) refl e
 
 -- and check accepts where they pass
-pub accepted : (s y message proof : List ℕ) → CheckTests s y message proof → checkOp s y message proof ≡ success []
-unfolding checkOp checkRead
+pub accepted : (s y message proof : List ℕ) → CheckTests s y message proof → checkOp s y message proof ≡ done []
+unfolding checkOp
 accepted s y message proof h =
     let c = h .circuit in
     let a : sizes y message proof c ≡ true = and-true _ _ (eq-eqb _ _ (h .y-size)) (le-leb (length message) 4096 (h .short)) in
-    let b : rest y message proof c ≡ success [] = proof-accepted c y proof (headerM proof) (headerN proof) (asks y message proof c) (h .proof-tests) in
-    ap (λ (x : Reading). checkRead x y message proof) (h .read) ∙ (legal-tests y message proof c ∙ rw (a, h .y-unused, h .header, b))
+    let b : rest y message proof c ≡ done [] = proof-accepted c y proof (headerM proof) (headerN proof) (asks y message proof c) (h .proof-tests) in
+    ap (λ (x : Reading). onLegal x [] (checkLegal y message proof)) (h .read) ∙ (legal-tests y message proof c ∙ rw (a, h .y-unused, h .header, b))

@@ -9,11 +9,10 @@ use lib.ListN.{length, length-map}
 use Rattle.bits.specs.Bits.{oct, pack, bitAt, unusedZero}
 use Rattle.bits.proofs.Packing.{length-pack, unused-pack}
 use Rattle.bits.proofs.Equal.{eq-same}
+use Rattle.refusal.specs.Outcome.{success, Outcome}
 use Rattle.parties.specs.Parties.{isPartyCount}
 use Rattle.circuit.specs.Circuit.{Circuit, evalGates, evaluate}
 use Rattle.circuit.specs.File.{legal, readCircuit}
-use Rattle.circuit.specs.Operations.{success}
-use Rattle.mpc.specs.Operations.{Outcome}
 use Rattle.seeds.specs.Operations.{areCounts}
 use Rattle.proof.specs.Protocol.{mastersOf, firstMessage, challenged}
 use Rattle.proof.specs.File.{proofBytes, proofRoom}

@@ -6,10 +6,10 @@ use mathlib.Core.List.{List, [], _∷_}
 use Prim.Native.Nat.{ℕ, _≤_, _<_}
 use lib.ListN.{length, getD, take}
 use Rattle.bits.specs.Bits.{oct, unusedZero}
+use Rattle.refusal.specs.Outcome.{success, done}
 use Rattle.parties.specs.Parties.{isPartyCount}
 use Rattle.circuit.specs.Circuit.{Circuit}
 use Rattle.circuit.specs.File.{readCircuit, legal}
-use Rattle.circuit.specs.Operations.{success}
 use Rattle.proof.specs.Protocol.{challenged}
 use Rattle.proof.specs.Prove.{proveOp}
 use Rattle.proof.specs.Check.{checkOp}
@@ -26,7 +26,7 @@ abbrev pub Complete : Type 0
 Complete =
     (s witness y message root buffer left : List ℕ) (M tau n k : ℕ) → AllBytes witness
     → proveOp s witness y message root M tau n buffer ≡ record { answer = success (k ∷ []); left = left ∷ [] }
-    → checkOp s y message (take k left) ≡ success []
+    → checkOp s y message (take k left) ≡ done []
 
 -- the header of a proof file: "11 a header under 38 bytes, out of limits or with its zero byte not 0"; "M is 2..512, τ 1..M−1, n 2, 4, 8
 -- or 16"
@@ -61,14 +61,14 @@ pub record Accepts (s y message proof : List ℕ) : Type 0 where
 
 -- Theorem, check is the published check: a proof is accepted exactly where that holds
 pub record CheckIsPublished : Type 0 where
-  pub sound : (s y message proof : List ℕ) → checkOp s y message proof ≡ success [] → Accepts s y message proof
-  pub complete : (s y message proof : List ℕ) → Accepts s y message proof → checkOp s y message proof ≡ success []
+  pub sound : (s y message proof : List ℕ) → checkOp s y message proof ≡ done [] → Accepts s y message proof
+  pub complete : (s y message proof : List ℕ) → Accepts s y message proof → checkOp s y message proof ≡ done []
 
 -- Theorem: every accepted file is the encoding of its header and its response, so that no byte of it is free; the list holds bytes, as a
 -- file does
 abbrev pub AcceptedEncoding : Type 0
 AcceptedEncoding =
-    (s y message proof : List ℕ) (c : Circuit) → AllBytes proof → readCircuit s ≡ legal c → checkOp s y message proof ≡ success []
+    (s y message proof : List ℕ) (c : Circuit) → AllBytes proof → readCircuit s ≡ legal c → checkOp s y message proof ≡ done []
     → proof ≡ encode (decodeHeader proof) (decode c message proof)
 
 -- Theorem: what is encoded is decoded again, where the header's numbers fit their bytes, and the response is to its challenge and has the
@@ -82,12 +82,12 @@ pub record EncodingDecodes : Type 0 where
 -- Theorem: in every accepted file, the messages of party p that go into h'_j are those sent
 abbrev pub MessagesAsSent : Type 0
 MessagesAsSent =
-    (s y message proof : List ℕ) (c : Circuit) → AllBytes proof → readCircuit s ≡ legal c → checkOp s y message proof ≡ success []
+    (s y message proof : List ℕ) (c : Circuit) → AllBytes proof → readCircuit s ≡ legal c → checkOp s y message proof ≡ done []
     → (j p : ℕ) (x : Chosen) → j < decodeHeader proof .M → decode c message proof j ≡ chosen p x
     → msgs c (decodeHeader proof .n) j p x p ≡ x .msgs-p
 
 -- Theorem: the length of every accepted proof is the one its challenge implies
 abbrev pub AcceptedLength : Type 0
 AcceptedLength =
-    (s y message proof : List ℕ) (c : Circuit) → readCircuit s ≡ legal c → checkOp s y message proof ≡ success []
+    (s y message proof : List ℕ) (c : Circuit) → readCircuit s ≡ legal c → checkOp s y message proof ≡ done []
     → length proof ≡ impliedLength c message proof

@@ -7,10 +7,10 @@ use native.Mathlib.Omega.{arith}
 use lib.ListN.{getD, replicate, getD-replicate}
 use Rattle.bits.specs.Bytes.{leAt}
 use Rattle.bits.proofs.Tabulate.{getD-tabulate}
+use Rattle.refusal.specs.Outcome.{success}
 use Rattle.parties.specs.Parties.{heightOf, isPartyCount}
 use Rattle.circuit.specs.Circuit.{ands}
 use Rattle.circuit.specs.File.{legal, withinLimits, rightLength, goodRecord, goodRecords, walks, goodChain, chainFrom, gateAt, gatesInOrder, readsWritten, goodOutputs, goodWires, circuitOf, readCircuit}
-use Rattle.circuit.specs.Operations.{success}
 use Rattle.hashing.specs.Inputs.{boundOf}
 use Rattle.choice.specs.Challenge.{streamOf, instances, hiddenParties, Ascending, more, Sound}
 use Rattle.seeds.specs.Operations.{areCounts}

@@ -13,14 +13,15 @@ use Rattle.bits.specs.Bytes.{leAt, sameBytes, rowOf}
 use Rattle.bits.specs.Xor.{xors}
 use Rattle.bits.proofs.Equal.{same-eq}
 use Rattle.bits.proofs.Tests.{and-true-left, and-true-right}
+use Rattle.refusal.specs.Outcome.{Answer, refusal, success, Outcome}
 use Rattle.circuit.specs.Circuit.{put, ands}
 use Rattle.circuit.specs.File.{withinLimits, rightLength, goodRecord, goodRecords, walks, goodChain, chainFrom, gateAt, gatesInOrder, readsWritten, goodOutputs, goodWires, circuitOf, readCircuit}
-use Rattle.circuit.specs.Operations.{Answer, refusal, success, readAnswer, readOp}
+use Rattle.circuit.specs.Operations.{readAnswer, readOp}
 use Rattle.parties.specs.Parties.{heightOf, isPartyCount}
 use Rattle.mpc.specs.Run.{corrections, corrected, says, outputs, run}
 use Rattle.mpc.specs.Tapes.{inputMasks, outputMasks, productShares, usedBits, unusedRows, withRow}
 use Rattle.mpc.specs.Showing.{correctionBits, maskedInput, maskedInputs, runWith, runOn, honestRun, rowBits, rowsOf, shownBits, firstBits, showing}
-use Rattle.mpc.specs.Operations.{Outcome, prepareLegal, prepareOp, ran, runLegal, runOp, holdsShowing, showLegal, showOp}
+use Rattle.mpc.specs.Operations.{prepareLegal, prepareOp, ran, runLegal, runOp, holdsShowing, showLegal, showOp}
 use Rattle.instance.specs.Stretch.{correctionBytes, stretchBytes}
 use Rattle.proof.specs.Protocol.{asked}
 use Rattle.proof.specs.File.{stretchStart}

@@ -6,11 +6,13 @@ use mathlib.Core.List.{List, [], _∷_, List·Memᴰ}
 use Prim.Native.Nat.{ℕ, _≤_, _<_}
 use lib.ListN.{length, getD, set}
 use Rattle.bits.specs.Bits.{tabulate, pack, bitAt, unusedZero}
+use Rattle.bits.specs.Bytes.{sameBytes}
+use Rattle.refusal.specs.Outcome.{Answer, refusal, success, Outcome, done}
 use Rattle.circuit.specs.Circuit.{evaluate}
 use Rattle.circuit.specs.File.{circuitOf}
-use Rattle.circuit.specs.Operations.{Answer, refusal, success, readOp}
+use Rattle.circuit.specs.Operations.{readOp}
 use Rattle.mpc.specs.Showing.{Showing}
-use Rattle.mpc.specs.Operations.{Outcome, done, prepareOp, runOp, showOp}
+use Rattle.mpc.specs.Operations.{prepareOp, runOp, showOp}
 use Rattle.hashing.specs.Inputs.{boundOf}
 use Rattle.choice.specs.Challenge.{streamOf, hiddenParties}
 use Rattle.proof.specs.Protocol.{mastersOf, firstMessage, asked}

@@ -8,17 +8,18 @@ use native.Mathlib.Omega.{arith}
 use borrow.Author.Tests.{ltb-true}
 use lib.Dec.{ltb}
 use lib.ListN.{length, replicate, length-replicate}
+use Rattle.circuit.specs.Steps.{gatesFrom}
 use Rattle.bits.specs.Bits.{oct}
 use Rattle.bits.proofs.Tabulate.{length-tabulate}
 use Rattle.bits.proofs.Tests.{and-true-left, and-true-right}
 use Rattle.refusal.specs.Refusal.{numberOf}
 use Rattle.refusal.specs.declared.Refusal.{Refusal}
+use Rattle.refusal.specs.Outcome.{refusal, success}
 use Rattle.parties.specs.Parties.{heightOf}
 use Rattle.parties.proofs.Counts.{sizes}
 use Rattle.circuit.specs.Circuit.{Gate, xor, and, inv, ands}
 use Rattle.circuit.specs.File.{inputsOf, outputsOf, gatesOf, headOf, outputWire, walks, readsWritten, goodOutputs, goodWires, gatesInOrder, circuitOf, refused, legal, readCircuit}
-use Rattle.circuit.specs.Steps.{gatesFrom}
-use Rattle.circuit.specs.Operations.{refusal, success, readOp}
+use Rattle.circuit.specs.Operations.{readOp}
 use Rattle.circuit.specs.Answers.{readPaper}
 use Rattle.circuit.specs.declared.Sizes.{Sizes}
 use Rattle.circuit.specs.declared.ReadAnswer.{ReadAnswer}

@@ -12,7 +12,7 @@ use Rattle.refusal.specs.declared.Refusal.the-variants.{BufferLength, UnusedBit
 use Rattle.parties.specs.Parties.{heightOf}
 use Rattle.parties.proofs.Counts.{count-yes, count-no}
 use Rattle.circuit.specs.File.{headOf, circuitOf, Reading}
-use Rattle.circuit.specs.Operations.{readOp}
+use Rattle.circuit.specs.Operations.{readOp, onLegal, holds}
 use Rattle.circuit.specs.Answers.{readPaper}
 use Rattle.circuit.specs.declared.Sizes.{Sizes}
 use Rattle.circuit.specs.declared.ReadAnswer.{ReadAnswer}
@@ -21,7 +21,7 @@ use Rattle.circuit.proofs.Answered.{fell, held}
 use Rattle.engine.specs.Steps.{packed, loadedTapes, walked}
 use Rattle.mpc.specs.Tapes.{andsOf, unusedRows}
 use Rattle.mpc.specs.Showing.{correctionBits}
-use Rattle.mpc.specs.Operations.{onLegal, holds, holdsRows, tapeBits, prepareLegal, prepareOp}
+use Rattle.mpc.specs.Operations.{holdsRows, tapeBits, prepareLegal, prepareOp}
 use Rattle.mpc.specs.Answers.{outcome}
 use Rattle.mpc.specs.Steps.{Known, Begun}
 use Rattle.mpc.specs.declared.Answer.the-variants.{Done, Refused}

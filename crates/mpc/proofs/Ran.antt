@@ -14,7 +14,7 @@ use Rattle.refusal.specs.declared.Refusal.the-variants.{BufferLength, UnusedBit
 use Rattle.parties.specs.Parties.{heightOf}
 use Rattle.parties.proofs.Counts.{count-yes, count-no}
 use Rattle.circuit.specs.File.{headOf, circuitOf, Reading}
-use Rattle.circuit.specs.Operations.{readOp}
+use Rattle.circuit.specs.Operations.{readOp, onLegal}
 use Rattle.circuit.specs.Answers.{readPaper}
 use Rattle.circuit.specs.declared.Sizes.{Sizes}
 use Rattle.circuit.specs.declared.ReadAnswer.{ReadAnswer}
@@ -24,7 +24,7 @@ use Rattle.engine.specs.Steps.{unpacked, packed, packedRows, loadedTapes, maske
 use Rattle.mpc.specs.Tapes.{andsOf, unusedRows}
 use Rattle.mpc.specs.Showing as shown
 use Rattle.mpc.specs.Showing.{runOn, rowsOf}
-use Rattle.mpc.specs.Operations.{onLegal, ran, runLegal, runOp}
+use Rattle.mpc.specs.Operations.{ran, runLegal, runOp}
 use Rattle.mpc.specs.Answers.{outcome}
 use Rattle.mpc.specs.Steps.{Known, Begun, WitnessFits, RunLent}
 use Rattle.mpc.specs.declared.Answer.the-variants.{Done, Refused}

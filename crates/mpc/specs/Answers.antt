@@ -3,14 +3,13 @@
 use mathlib.Core.List.{List, []}
 use Prim.Native.Nat.{ℕ}
 use Rattle.refusal.specs.Refusal.{numberOf}
-use Rattle.circuit.specs.Operations.{refusal, success}
-use Rattle.circuit.specs.Operations as circuits
-use Rattle.mpc.specs.Operations.{Outcome}
+use Rattle.refusal.specs.Outcome as outcomes
+use Rattle.refusal.specs.Outcome.{refusal, success, Outcome}
 use Rattle.mpc.specs.declared.Answer.{Answer}
 use Rattle.mpc.specs.declared.Answer.the-variants.{Done, Refused}
 
 -- a success has no values
-abbrev pub paper : Answer → circuits.Answer
+abbrev pub paper : Answer → outcomes.Answer
 paper Done = success []
 paper (Refused k) = refusal (numberOf k)
 

@@ -2,41 +2,21 @@
 -- "1 to 5, then 8 for n, 9 for p at or above n or a cut above G, 6 a lent length not as stated, 7 a nonzero unused bit, each where the
 -- operation has that input." "A refusal returns its number alone, and all lent buffers hold what they held."
 -- Assumes nothing.
-use mathlib.Core.Bool.{Bool, true, false, not, cond, _&&_, _||_}
+use mathlib.Core.Bool.{Bool, not, _&&_, _||_}
 use mathlib.Core.List.{List, [], _∷_}
-use Prim.Native.Nat.{ℕ, zero, suc, _+_, _*_}
+use Prim.Native.Nat.{ℕ, suc, _+_, _*_}
 use lib.Dec.{eqb, leb, ltb}
-use lib.ListN.{length, getD}
+use lib.ListN.{length}
 use Rattle.bits.specs.Bits.{oct, pack, bitAt, unusedZero}
 use Rattle.bits.specs.Bytes.{sameBytes}
+use Rattle.refusal.specs.Outcome.{Outcome, done, unless}
 use Rattle.parties.specs.Parties.{isPartyCount}
 use Rattle.circuit.specs.Circuit.{Circuit}
-use Rattle.circuit.specs.File.{Reading, refused, legal, readCircuit}
-use Rattle.circuit.specs.Operations.{Answer, refusal, success}
+use Rattle.circuit.specs.File.{readCircuit}
+use Rattle.circuit.specs.Operations.{onLegal, holds}
 use Rattle.mpc.specs.Run.{Transcript}
-use Rattle.mpc.specs.Tapes.{andsOf, rowBytes, tapeRow, unusedRows}
+use Rattle.mpc.specs.Tapes.{andsOf, tapeRow, unusedRows}
 use Rattle.mpc.specs.Showing.{correctionBits, maskedInputs, runOn, rowsOf, Showing, showing, replayOf}
-
--- the answer of an operation, and what its lent output buffers then hold, in the interface's order
-pub record Outcome : Type 0 where
-  pub answer : Answer
-  pub left : List (List ℕ)
-
--- the test passes, or the operation refuses and the buffers are as they were
-abbrev pub unless : Bool → ℕ → List (List ℕ) → Outcome → Outcome
-unless test k lent outcome = cond test outcome (record { answer = refusal k; left = lent })
-
--- the circuit is read first: 1 to 5
-abbrev pub onLegal : Reading → List (List ℕ) → (Circuit → Outcome) → Outcome
-onLegal (refused k) lent f = record { answer = refusal k; left = lent }
-onLegal (legal c) lent f = f c
-
-abbrev pub done : List (List ℕ) → Outcome
-done filled = record { answer = success []; left = filled }
-
--- a lent length as stated: k bits
-abbrev pub holds : ℕ → List ℕ → Bool
-holds k s = eqb (length s) (oct k)
 
 -- n rows for k bits each
 abbrev pub holdsRows : ℕ → ℕ → List ℕ → Bool

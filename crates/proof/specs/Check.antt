@@ -1,16 +1,16 @@
 -- The operation check (document 01, "Check"; source document 001, Figure 2, "Verification").
 -- Assumes nothing.
-use mathlib.Core.Bool.{Bool, true, cond, _&&_}
+use mathlib.Core.Bool.{Bool, true, _&&_}
 use mathlib.Core.List.{List, []}
-use Prim.Native.Nat.{ℕ, zero, suc, _*_}
+use Prim.Native.Nat.{ℕ, zero, suc}
 use lib.Dec.{eqb, leb}
 use lib.ListN.{length}
 use Rattle.bits.specs.Bits.{unusedZero}
 use Rattle.bits.specs.Bytes.{sameBytes}
+use Rattle.refusal.specs.Outcome.{Outcome, done, unless}
 use Rattle.circuit.specs.Circuit.{Circuit}
-use Rattle.circuit.specs.File.{Reading, refused, legal, readCircuit}
-use Rattle.circuit.specs.Operations.{Answer, refusal, success}
-use Rattle.mpc.specs.Operations.{holds}
+use Rattle.circuit.specs.File.{readCircuit}
+use Rattle.circuit.specs.Operations.{onLegal, holds}
 use Rattle.instance.specs.Instance.{Asked}
 use Rattle.instance.specs.Opened.{stretchCommitments, stretchOnline, stretchUnused, stretchOutput}
 use Rattle.proof.specs.Protocol.{hstarOf, challenged}
@@ -21,37 +21,29 @@ unfoldable pub every : ℕ → (ℕ → Bool) → Bool
 every zero test = true
 every (suc m) test = every m test && test m
 
--- a number, unless the test passes; then what follows
-abbrev pub elseRefuse : Bool → ℕ → Answer → Answer
-elseRefuse test k rest = cond test rest (refusal k)
-
 -- the tests of a proof whose header is good: "12 a length other than h* implies; 7 unused bits in the proof; 10 a replay with another
 -- output; 13 the recomputed h* differs"
-unfoldable pub checkProof : Circuit → List ℕ → List ℕ → ℕ → ℕ → (ℕ → Asked) → Answer
+unfoldable pub checkProof : Circuit → List ℕ → List ℕ → ℕ → ℕ → (ℕ → Asked) → Outcome
 checkProof c y proof M n ask =
-    elseRefuse (eqb (length proof) (proofBytes c M n ask)) 12
-    (elseRefuse (every M (λ j. stretchUnused c n (stretchAt c n ask proof j) (ask j))) 7
-    (elseRefuse (every M (λ j. stretchOutput c n j y (stretchAt c n ask proof j) (ask j))) 10
-    (elseRefuse
+    unless (eqb (length proof) (proofBytes c M n ask)) 12 []
+    (unless (every M (λ j. stretchUnused c n (stretchAt c n ask proof j) (ask j))) 7 []
+    (unless (every M (λ j. stretchOutput c n j y (stretchAt c n ask proof j) (ask j))) 10 []
+    (unless
     (sameBytes
     (hstarOf M (λ j. stretchCommitments c n j (stretchAt c n ask proof j) (ask j)) (λ j. stretchOnline c n j (stretchAt c n ask proof j) (ask j)))
     (headerHstar proof))
-    13
-    (success []))))
+    13 []
+    (done []))))
 
 -- "The check draws the challenge from the header's h*."
-unfoldable pub checkLegal : List ℕ → List ℕ → List ℕ → Circuit → Answer
+unfoldable pub checkLegal : List ℕ → List ℕ → List ℕ → Circuit → Outcome
 checkLegal y message proof c =
-    elseRefuse (holds (length (c .outputs)) y && leb (length message) 4096) 6
-    (elseRefuse (unusedZero (length (c .outputs)) y) 7
-    (elseRefuse (goodHeader proof) 11
+    unless (holds (length (c .outputs)) y && leb (length message) 4096) 6 []
+    (unless (unusedZero (length (c .outputs)) y) 7 []
+    (unless (goodHeader proof) 11 []
     (checkProof c y proof (headerM proof) (headerN proof)
     (challenged (headerM proof) (headerTau proof) (headerN proof) (headerHstar proof) message))))
 
--- "Check: 1 to 5", then these
-unfoldable pub checkRead : Reading → List ℕ → List ℕ → List ℕ → Answer
-checkRead (refused k) y message proof = refusal k
-checkRead (legal c) y message proof = checkLegal y message proof c
-
-unfoldable pub checkOp : List ℕ → List ℕ → List ℕ → List ℕ → Answer
-checkOp s y message proof = checkRead (readCircuit s) y message proof
+-- "Check: 1 to 5", then these; it is lent no buffer to fill
+unfoldable pub checkOp : List ℕ → List ℕ → List ℕ → List ℕ → Outcome
+checkOp s y message proof = onLegal (readCircuit s) [] (checkLegal y message proof)

@@ -7,11 +7,11 @@ use lib.Dec.{eqb, leb}
 use lib.ListN.{length, drop}
 use Rattle.bits.specs.Bits.{pack, bitAt, unusedZero}
 use Rattle.bits.specs.Bytes.{sameBytes}
+use Rattle.refusal.specs.Outcome.{success, Outcome, unless}
 use Rattle.parties.specs.Parties.{isPartyCount}
 use Rattle.circuit.specs.Circuit.{Circuit, evaluate}
 use Rattle.circuit.specs.File.{readCircuit}
-use Rattle.circuit.specs.Operations.{success}
-use Rattle.mpc.specs.Operations.{Outcome, unless, onLegal, holds}
+use Rattle.circuit.specs.Operations.{onLegal, holds}
 use Rattle.seeds.specs.Operations.{maxMessage, areCounts}
 use Rattle.proof.specs.Protocol.{mastersOf, firstMessage, challenged, responseOf}
 use Rattle.proof.specs.File.{headerOf, proofRoom}

@@ -2,7 +2,7 @@
 -- Assumes nothing.
 use mathlib.Core.Path.{_≡_, sym, ap, _∙_}
 use mathlib.Core.Bool.{Bool, true}
-use mathlib.Core.List.{List, [], _++_}
+use mathlib.Core.List.{List, [], _∷_, _++_}
 use Prim.Native.Nat.{ℕ, _≤_}
 use native.Mathlib.Omega.{arith}
 use borrow.Author.Tests.{eq-eqb}
@@ -10,9 +10,10 @@ use lib.ListN.{length, take}
 use lib.Seq.{take-at}
 use Rattle.bits.specs.Bits.{oct, pack, bitAt, unusedZero}
 use Rattle.bits.specs.Bytes.{sameBytes}
+use Rattle.refusal.specs.Outcome.{Outcome, done}
 use Rattle.circuit.specs.Circuit.{evaluate}
 use Rattle.circuit.specs.File.{circuitOf, readCircuit, legal}
-use Rattle.circuit.specs.Operations.{Outcome, success, evaluateLegal, evaluateRead, evaluateOp}
+use Rattle.circuit.specs.Operations.{evaluateLegal, evaluateOp}
 use Rattle.circuit.specs.Answers.{outcome}
 use Rattle.circuit.specs.declared.EvaluateAnswer.{EvaluateAnswer}
 use Rattle.mpc.specs.Steps.{Known, WitnessFits}
@@ -27,8 +28,8 @@ few-output s i o g a r k e = omega (arith, e, k .legal .laid .few-outputs)
 module _ (s : List ℕ) (i o g a : ℕ) (w z : List ℕ) (read : readCircuit s ≡ legal (circuitOf s)) (k : Known s (sized i o g a)) (fits : WitnessFits (sized i o g a) w)
     (room : length z ≡ oct o) where
   -- evaluating fills it
-  evaluates : evaluateOp s w z ≡ record { answer = success []; left = pack (evaluate (circuitOf s) (bitAt w)) }
-  unfolding evaluateOp evaluateRead evaluateLegal
+  evaluates : evaluateOp s w z ≡ done (pack (evaluate (circuitOf s) (bitAt w)) ∷ [])
+  unfolding evaluateOp evaluateLegal
   evaluates =
       let p : length w ≡ oct (circuitOf s .inputs) = fits .size ∙ ap oct (sym (circuit-inputs s i o g a k)) in
       let q : length z ≡ oct (length (circuitOf s .outputs)) = room ∙ ap oct (sym (circuit-outputs s i o g a k)) in
@@ -40,4 +41,6 @@ module _ (s : List ℕ) (i o g a : ℕ) (w z : List ℕ) (read : readCircuit s �
       → b ≡ sameBytes (take len (left ++ rest)) y → b ≡ witnesses (circuitOf s) w y
   unfolding witnesses
   gives-made y left rest len r b e l f =
-      f ∙ ap (λ (t : List ℕ). sameBytes t y) (take-at left rest len l ∙ ap (λ (x : Outcome). x .left) (e ∙ evaluates))
+      let q : _≡_ {A = List (List ℕ)} (left ∷ []) (pack (evaluate (circuitOf s) (bitAt w)) ∷ []) = ap (λ (x : Outcome). x .left) (e ∙ evaluates) in
+      let d : left ≡ pack (evaluate (circuitOf s) (bitAt w)) = cc in
+      f ∙ ap (λ (t : List ℕ). sameBytes t y) (take-at left rest len l ∙ d)

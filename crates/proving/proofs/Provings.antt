@@ -8,20 +8,19 @@ use native.Mathlib.Omega.{arith}
 use borrow.Author.Tests.{eqb-true, leb-true}
 use lib.Dec.{eqb, leb}
 use lib.ListN.{length, drop}
+use Rattle.mpc.specs.Steps.{WitnessFits, Known}
 use Rattle.bits.specs.Bits.{oct, unusedZero}
 use Rattle.bits.proofs.Tests.{and-true-left, and-true-right}
 use Rattle.refusal.specs.declared.Refusal.{Refusal}
 use Rattle.refusal.specs.declared.Refusal.the-variants.{BufferLength, UnusedBits, Parameter, Output}
 use Rattle.parties.specs.Parties.{heightOf, isPartyCount}
 use Rattle.circuit.specs.File.{circuitOf, Reading}
-use Rattle.circuit.specs.Operations.{readOp}
+use Rattle.circuit.specs.Operations.{readOp, onLegal}
 use Rattle.circuit.specs.Answers.{readPaper}
 use Rattle.circuit.specs.declared.Sizes.{Sizes}
 use Rattle.circuit.specs.declared.ReadAnswer.{ReadAnswer}
 use Rattle.circuit.specs.declared.ReadAnswer.the-variants as readAnswer
 use Rattle.circuit.proofs.Answered.{fell, held}
-use Rattle.mpc.specs.Operations.{onLegal}
-use Rattle.mpc.specs.Steps.{Known, WitnessFits}
 use Rattle.mpc.proofs.Opened.{sized, opened-refused, opened-legal, circuit-inputs, circuit-outputs}
 use Rattle.seeds.specs.Operations.{areCounts}
 use Rattle.seeds.proofs.Instances.{counts-fit}

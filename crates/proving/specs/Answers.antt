@@ -3,14 +3,13 @@
 use mathlib.Core.List.{List, [], _∷_}
 use Prim.Native.Nat.{ℕ}
 use Rattle.refusal.specs.Refusal.{numberOf}
-use Rattle.circuit.specs.Operations.{refusal, success}
-use Rattle.circuit.specs.Operations as circuits
-use Rattle.mpc.specs.Operations.{Outcome}
+use Rattle.refusal.specs.Outcome as outcomes
+use Rattle.refusal.specs.Outcome.{refusal, success, Outcome}
 use Rattle.proving.specs.declared.Answer.{Answer}
 use Rattle.proving.specs.declared.Answer.the-variants.{Written, Refused}
 
 -- "Success gives the length written"
-abbrev pub paper : Answer → circuits.Answer
+abbrev pub paper : Answer → outcomes.Answer
 paper (Written k) = success (k ∷ [])
 paper (Refused k) = refusal (numberOf k)
 

@@ -18,7 +18,7 @@ use Rattle.refusal.specs.declared.Refusal.the-variants.{BufferLength, UnusedBit
 use Rattle.parties.specs.Parties.{heightOf, isPartyCount}
 use Rattle.parties.proofs.Counts.{count-yes, count-no}
 use Rattle.circuit.specs.File.{headOf, circuitOf, Reading}
-use Rattle.circuit.specs.Operations.{readOp}
+use Rattle.circuit.specs.Operations.{readOp, onLegal, holds}
 use Rattle.circuit.specs.Answers.{readPaper}
 use Rattle.circuit.specs.declared.Sizes.{Sizes}
 use Rattle.circuit.specs.declared.ReadAnswer.{ReadAnswer}
@@ -28,7 +28,7 @@ use Rattle.engine.specs.Steps.{unpacked, packed, packedRows, loadedTapes, walke
 use Rattle.mpc.specs.Run.{Transcript}
 use Rattle.mpc.specs.Tapes.{andsOf, tapeRow, unusedRows}
 use Rattle.mpc.specs.Showing.{Showing, rowsOf, replayOf}
-use Rattle.mpc.specs.Operations.{onLegal, holds, holdsRows, holdsShowing, broadcastBits, unusedShowing, replayLegal, replayOp}
+use Rattle.mpc.specs.Operations.{holdsRows, holdsShowing, broadcastBits, unusedShowing, replayLegal, replayOp}
 use Rattle.mpc.specs.Answers.{outcome}
 use Rattle.mpc.specs.Steps.{Known, Parties, Begun, ShowingFits}
 use Rattle.mpc.specs.declared.Answer.the-variants.{Done, Refused}

@@ -6,22 +6,23 @@ use mathlib.Core.Logic.{⊎-elim}
 use Prim.Native.Nat.{ℕ, zero, suc, _+_, _≤_}
 use native.Mathlib.Omega.{arith}
 use lib.ListN.{take}
-use Rattle.shelf.specs.Page.{drawsOf}
-use Rattle.shelf.specs.Operations.{accepted, refused, drawOp}
+use Rattle.refusal.specs.Outcome.{refusal, success}
+use Rattle.shelf.specs.Page.{readyHead, drawsOf, rootOf}
+use Rattle.shelf.specs.Operations.{pageLeft, drawOp}
 use Rattle.shelf.specs.History.{Event, stock, draw, back, Host, present, next, counted, start, step, run, IsHistory, HistoryCounts}
 use Rattle.shelf.proofs.Simulation.{draws-u32, history-cons, step-place}
 use Rattle.shelf.proofs.Host.{draw-keeps, AllKept, start-kept, step-kept, run-kept}
 
 -- an accepted draw was not the last that a u32 counts
-draw-u32 : (h : Host (List ℕ)) → AllKept h → h .log ≤ 4294967295 → counted (drawOp (present h) (h .log) .0) (h .log) ≤ 4294967295
+draw-u32 : (h : Host (List ℕ)) → AllKept h → h .log ≤ 4294967295 → counted (drawOp (present h) (h .log) .answer) (h .log) ≤ 4294967295
 draw-u32 h c l =
     let p = present h in
     let n = h .log in
     let k = c (h .place) (omega arith) in
     let d = draw-keeps p n (k .isSound) (k .u32) in
     ⊎-elim
-    (λ (w : (m : ℕ) × ((drawOp p n .0 ≡ refused m) × (drawOp p n .2 ≡ p))). rw (w .1 .0) l)
-    (λ (w : (drawOp p n .0 ≡ accepted) × ((n ≡ drawsOf p) × (drawsOf (drawOp p n .2) ≡ n + 1))). rw (w .0) (omega (arith, d .u32, w .1 .1)))
+    (λ (w : (m : ℕ) × ((drawOp p n .answer ≡ refusal m) × (pageLeft (drawOp p n) ≡ p))). rw (w .1 .0) l)
+    (λ (w : (drawOp p n .answer ≡ success (rootOf p (readyHead p))) × ((n ≡ drawsOf p) × (drawsOf (pageLeft (drawOp p n)) ≡ n + 1))). rw (w .0) (omega (arith, d .u32, w .1 .1)))
     (d .which)
 
 -- so the log's count stays a u32

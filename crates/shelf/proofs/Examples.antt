@@ -2,13 +2,14 @@
 -- Assumes nothing.
 use mathlib.Core.Path.{_≡_, refl}
 use mathlib.Core.Bool.{true, false}
-use mathlib.Core.List.{List, _∷_}
+use mathlib.Core.List.{List, [], _∷_}
 use Prim.Native.Nat.{ℕ}
 use lib.ListN.{replicate}
 use Rattle.bits.specs.Bytes.{leAt, leBytes, sameBytes}
 use Rattle.bits.specs.Counting.{count}
-use Rattle.shelf.specs.Page.{sizeOf, readyHead, spareHead, zeroField, drawsOf, nextOf, rootOf, chain, ended, allOne, blank, headerSound, chainsFrom, sound, zeroRoot}
-use Rattle.shelf.specs.Operations.{accepted, refused, putSlot, putHeads, stocked, drawn, stockOp, drawOp}
+use Rattle.refusal.specs.Outcome.{refuses as refused, done}
+use Rattle.shelf.specs.Page.{sizeOf, readyHead, spareHead, zeroField, drawsOf, nextOf, rootOf, chain, ended, allOne, blank, headerSound, chainsFrom, sound}
+use Rattle.shelf.specs.Operations.{putSlot, putHeads, stocked, drawn, stockOp, gives, drawOp}
 
 -- one slot, spare
 unfoldable pub fresh : List ℕ
@@ -35,15 +36,15 @@ pub crossed-unsound : sound crossed ≡ false
 unfolding crossed sizeOf readyHead spareHead zeroField nextOf rootOf chain ended count allOne blank headerSound chainsFrom sound leAt sameBytes
 crossed-unsound = refl
 
-pub stocks : stockOp fresh (replicate 16 7) ≡ (accepted, one)
+pub stocks : stockOp fresh (replicate 16 7) ≡ done (one ∷ [])
 unfolding fresh one sizeOf readyHead spareHead zeroField nextOf rootOf chain ended count allOne blank headerSound chainsFrom sound leAt leBytes sameBytes stockOp stocked putSlot putHeads
 stocks = refl
 
-pub draws : drawOp one 0 ≡ (accepted, replicate 16 7, once)
+pub draws : drawOp one 0 ≡ gives (replicate 16 7) once
 unfolding one once sizeOf readyHead spareHead zeroField drawsOf nextOf rootOf chain ended count allOne blank headerSound chainsFrom sound leAt leBytes sameBytes drawOp drawn putSlot putHeads
 draws = refl
 
 -- the page from before the draw, put back
-pub refuses : drawOp one 1 ≡ (refused 15, zeroRoot, one)
+pub refuses : drawOp one 1 ≡ refused 15 (one ∷ [])
 unfolding one sizeOf readyHead spareHead zeroField drawsOf nextOf rootOf chain ended count allOne blank headerSound chainsFrom sound leAt sameBytes drawOp
 refuses = refl

@@ -10,9 +10,10 @@ use native.Mathlib.Omega.{arith}
 use borrow.Author.Tests.{le-leb, lt-leb}
 use lib.ListN.{length, getD}
 use Rattle.bits.proofs.Numbers.{eq-or-ne}
-use Rattle.shelf.specs.Page.{sizeOf, readyHead, spareHead, drawsOf, zeroRoot, sound}
-use Rattle.shelf.specs.Operations.{Answer, accepted, refused, stockOp, drawOp}
-use Rattle.shelf.specs.History.{Event, stock, draw, back, Host, present, next, counted, Reply, start, step, run, IsHistory}
+use Rattle.refusal.specs.Outcome.{Answer, refusal, success, refuses}
+use Rattle.shelf.specs.Page.{sizeOf, readyHead, spareHead, drawsOf, rootOf, sound}
+use Rattle.shelf.specs.Operations.{pageLeft, stockOp, drawOp}
+use Rattle.shelf.specs.History.{Event, stock, draw, back, Host, present, next, counted, start, step, run, IsHistory}
 use Rattle.shelf.proofs.Operations.{stock-6, stock-17, stock-accepted, draw-15, draw-16, draw-18, draw-accepted}
 use Rattle.shelf.proofs.Moves.{after-stock, after-draw}
 use Rattle.shelf.proofs.Simulation.{draws-u32, next-all, Legal, history-cons, step-place}
@@ -23,7 +24,7 @@ pub record StockKeeps (p q : List ℕ) : Type 0 where
   pub size : sizeOf q ≡ sizeOf p
   pub draws : drawsOf q ≡ drawsOf p
 
-pub stock-keeps : (p root : List ℕ) → sound p ≡ true → StockKeeps p (stockOp p root .1)
+pub stock-keeps : (p root : List ℕ) → sound p ≡ true → StockKeeps p (pageLeft (stockOp p root))
 stock-keeps p root t =
     let same : StockKeeps p p = record { isSound = t; size = refl; draws = refl } in
     ⊎-elim
@@ -39,13 +40,13 @@ stock-keeps p root t =
 
 -- what a draw does to a sound page: it stays sound; either it is refused, and the page is as it was, or the count was the page's draws, which are one more then
 pub record DrawKeeps (p : List ℕ) (n : ℕ) : Type 0 where
-  pub isSound : sound (drawOp p n .2) ≡ true
-  pub size : sizeOf (drawOp p n .2) ≡ sizeOf p
-  pub u32 : drawsOf (drawOp p n .2) < 4294967296
-  pub which : ((m : ℕ) × ((drawOp p n .0 ≡ refused m) × (drawOp p n .2 ≡ p)))
-      ⊎ ((drawOp p n .0 ≡ accepted) × ((n ≡ drawsOf p) × (drawsOf (drawOp p n .2) ≡ n + 1)))
+  pub isSound : sound (pageLeft (drawOp p n)) ≡ true
+  pub size : sizeOf (pageLeft (drawOp p n)) ≡ sizeOf p
+  pub u32 : drawsOf (pageLeft (drawOp p n)) < 4294967296
+  pub which : ((m : ℕ) × ((drawOp p n .answer ≡ refusal m) × (pageLeft (drawOp p n) ≡ p)))
+      ⊎ ((drawOp p n .answer ≡ success (rootOf p (readyHead p))) × ((n ≡ drawsOf p) × (drawsOf (pageLeft (drawOp p n)) ≡ n + 1)))
 
-refused-keeps : (p : List ℕ) (n m : ℕ) → sound p ≡ true → drawsOf p < 4294967296 → drawOp p n ≡ (refused m, zeroRoot, p) → DrawKeeps p n
+refused-keeps : (p : List ℕ) (n m : ℕ) → sound p ≡ true → drawsOf p < 4294967296 → drawOp p n ≡ refuses m (p ∷ []) → DrawKeeps p n
 refused-keeps p n m t u e = record { isSound = rw e t; size = rw e; u32 = rw e u; which = inl (m, (rw e, rw e)) }
 
 pub draw-keeps : (p : List ℕ) (n : ℕ) → sound p ≡ true → drawsOf p < 4294967296 → DrawKeeps p n
@@ -89,18 +90,18 @@ kept-next : (h : Host (List ℕ)) (p : List ℕ) (m : ℕ) → h .log ≤ m → 
 unfolding next
 kept-next h p m l c x = next-all (Kept m) h p m (λ k o. kept-more (h .log) m (h .pages k) l (c k o)) x
 
-draw-kept : (h : Host (List ℕ)) → AllKept h → AllKept (next h (drawOp (present h) (h .log) .2) (counted (drawOp (present h) (h .log) .0) (h .log)))
+draw-kept : (h : Host (List ℕ)) → AllKept h → AllKept (next h (pageLeft (drawOp (present h) (h .log))) (counted (drawOp (present h) (h .log) .answer) (h .log)))
 draw-kept h c =
     let p = present h in
     let n = h .log in
     let k = c (h .place) (omega arith) in
     let d = draw-keeps p n (k .isSound) (k .u32) in
     ⊎-elim
-    (λ (w : (m : ℕ) × ((drawOp p n .0 ≡ refused m) × (drawOp p n .2 ≡ p))).
+    (λ (w : (m : ℕ) × ((drawOp p n .answer ≡ refusal m) × (pageLeft (drawOp p n) ≡ p))).
     rw (w .1 .0, w .1 .1) (kept-next h p n (omega arith) c k))
-    (λ (w : (drawOp p n .0 ≡ accepted) × ((n ≡ drawsOf p) × (drawsOf (drawOp p n .2) ≡ n + 1))).
+    (λ (w : (drawOp p n .answer ≡ success (rootOf p (readyHead p))) × ((n ≡ drawsOf p) × (drawsOf (pageLeft (drawOp p n)) ≡ n + 1))).
     rw (w .0)
-    (kept-next h (drawOp p n .2) (n + 1) (omega arith) c
+    (kept-next h (pageLeft (drawOp p n)) (n + 1) (omega arith) c
     (record { isSound = d .isSound; behind = omega (arith, w .1 .1); u32 = d .u32 })))
     (d .which)
 
@@ -114,7 +115,7 @@ unfolding step
 step-kept h (stock r) l c =
     let k = c (h .place) (omega arith) in
     let s = stock-keeps (present h) r (k .isSound) in
-    kept-next h (stockOp (present h) r .1) (h .log) (omega arith) c
+    kept-next h (pageLeft (stockOp (present h) r)) (h .log) (omega arith) c
     (record { isSound = s .isSound; behind = omega (arith, s .draws, k .behind); u32 = omega (arith, s .draws, k .u32) })
 step-kept h draw l c = draw-kept h c
 step-kept h (back k) l c = kept-next h (h .pages k) (h .log) (omega arith) c (c k l)
@@ -135,14 +136,14 @@ step-pages h draw k l = rw (le-leb k (h .place) l)
 step-pages h (back j) k l = rw (le-leb k (h .place) l)
 
 counted-more : (s : Answer) (n : ℕ) → n ≤ counted s n
-counted-more accepted n = omega arith
-counted-more (refused m) n = omega arith
+counted-more (refusal m) n = omega arith
+counted-more (success root) n = omega arith
 
 -- the log's count never falls
 step-log : (h : Host (List ℕ)) (e : Event) → h .log ≤ step h e .1 .log
 unfolding step next
 step-log h (stock r) = omega arith
-step-log h draw = counted-more (drawOp (present h) (h .log) .0) (h .log)
+step-log h draw = counted-more (drawOp (present h) (h .log) .answer) (h .log)
 step-log h (back j) = omega arith
 
 -- a page with fewer draws than the log has fewer ever after
@@ -153,30 +154,30 @@ older-stays (e ∷ es) h k l o =
     let a = ap drawsOf (step-pages h e k l) in
     older-stays es (step h e .1) k (omega (arith, step-place h e)) (omega (arith, step-log h e))
 
-draw-log : (h : Host (List ℕ)) → drawOp (present h) (h .log) .0 ≡ accepted → step h draw .1 .log ≡ h .log + 1
+draw-log : (h : Host (List ℕ)) (root : List ℕ) → drawOp (present h) (h .log) .answer ≡ success root → step h draw .1 .log ≡ h .log + 1
 unfolding step next
-draw-log h e = ap (λ (s : Answer). counted s (h .log)) e
+draw-log h root e = ap (λ (s : Answer). counted s (h .log)) e
 
 -- each page that was had before an accepted draw has fewer draws than the log after it
-pub older-after-draw : (h : Host (List ℕ)) (k : ℕ) → AllKept h → k ≤ h .place → drawOp (present h) (h .log) .0 ≡ accepted
+pub older-after-draw : (h : Host (List ℕ)) (k : ℕ) (root : List ℕ) → AllKept h → k ≤ h .place → drawOp (present h) (h .log) .answer ≡ success root
     → drawsOf (step h draw .1 .pages k) < step h draw .1 .log
-older-after-draw h k c l e =
+older-after-draw h k root c l e =
     let a = ap drawsOf (step-pages h draw k l) in
-    let g = draw-log h e in
+    let g = draw-log h root e in
     omega (arith, c k l .behind)
 
 -- and ever after
-older-run : (h : Host (List ℕ)) (k : ℕ) (es : List Event) → AllKept h → k ≤ h .place → drawOp (present h) (h .log) .0 ≡ accepted
+older-run : (h : Host (List ℕ)) (k : ℕ) (root : List ℕ) (es : List Event) → AllKept h → k ≤ h .place → drawOp (present h) (h .log) .answer ≡ success root
     → drawsOf (run h (draw ∷ es) .1 .pages k) < run h (draw ∷ es) .1 .log
 unfolding run
-older-run h k es c l a = older-stays es (step h draw .1) k (omega (arith, step-place h draw)) (older-after-draw h k c l a)
+older-run h k root es c l a = older-stays es (step h draw .1) k (omega (arith, step-place h draw)) (older-after-draw h k root c l a)
 
 -- every draw of the list is answered by 15
-abbrev pub Refused15 : List Event → List Reply → Type 0
+abbrev pub Refused15 : List Event → List Answer → Type 0
 Refused15 [] rs = Unit {0}
 Refused15 (e ∷ es) [] = ⊥
 Refused15 (stock r ∷ es) (a ∷ rs) = Refused15 es rs
-Refused15 (draw ∷ es) (a ∷ rs) = (a ≡ (refused 15, zeroRoot)) × Refused15 es rs
+Refused15 (draw ∷ es) (a ∷ rs) = (a ≡ refusal 15) × Refused15 es rs
 Refused15 (back k ∷ es) (a ∷ rs) = Refused15 es rs
 
 -- no page of the present count is put back
@@ -192,9 +193,9 @@ unfolding next
 next-present h p n = rw (lt-leb (suc (h .place)) (h .place) (omega arith))
 
 -- the page and the log's count after each event
-stock-present : (h : Host (List ℕ)) (r : List ℕ) → present (step h (stock r) .1) ≡ stockOp (present h) r .1
+stock-present : (h : Host (List ℕ)) (r : List ℕ) → present (step h (stock r) .1) ≡ pageLeft (stockOp (present h) r)
 unfolding step
-stock-present h r = next-present h (stockOp (present h) r .1) (h .log)
+stock-present h r = next-present h (pageLeft (stockOp (present h) r)) (h .log)
 
 stock-log : (h : Host (List ℕ)) (r : List ℕ) → step h (stock r) .1 .log ≡ h .log
 unfolding step next
@@ -208,14 +209,14 @@ back-log : (h : Host (List ℕ)) (k : ℕ) → step h (back k) .1 .log ≡ h .lo
 unfolding step next
 back-log h k = refl
 
-module _ (h : Host (List ℕ)) (e : drawOp (present h) (h .log) ≡ (refused 15, zeroRoot, present h)) where
-  draw-reply : step h draw .0 ≡ (refused 15, zeroRoot)
+module _ (h : Host (List ℕ)) (e : drawOp (present h) (h .log) ≡ refuses 15 (present h ∷ [])) where
+  draw-reply : step h draw .0 ≡ refusal 15
   unfolding step
   draw-reply = rw e
 
   draw-present : present (step h draw .1) ≡ present h
   unfolding step
-  draw-present = next-present h (drawOp (present h) (h .log) .2) (counted (drawOp (present h) (h .log) .0) (h .log)) ∙ rw e
+  draw-present = next-present h (pageLeft (drawOp (present h) (h .log))) (counted (drawOp (present h) (h .log) .answer) (h .log)) ∙ rw e
 
   draw-same : step h draw .1 .log ≡ h .log
   unfolding step next
@@ -243,13 +244,13 @@ refused-until (back k ∷ es) h c l u n =
     (λ e. (u .0) (sym (ap drawsOf (back-present h k)) ∙ e ∙ back-log h k))
 
 -- a page put back from before an accepted draw: every draw is refused with 15, until a page of the present count is put back
-pub put-back-refused : (h : Host (List ℕ)) (k : ℕ) (es fs : List Event) → AllKept h → k ≤ h .place → drawOp (present h) (h .log) .0 ≡ accepted
+pub put-back-refused : (h : Host (List ℕ)) (k : ℕ) (root : List ℕ) (es fs : List Event) → AllKept h → k ≤ h .place → drawOp (present h) (h .log) .answer ≡ success root
     → IsHistory (h .place) (draw ∷ es) → IsHistory (run h (draw ∷ es) .1 .place) (back k ∷ fs) → Until (step (run h (draw ∷ es) .1) (back k) .1) fs
     → Refused15 fs (run (step (run h (draw ∷ es) .1) (back k) .1) fs .0)
-put-back-refused h k es fs c l a m n u =
+put-back-refused h k root es fs c l a m n u =
     let g = run h (draw ∷ es) .1 in
     let kept = run-kept (draw ∷ es) h m c in
     let o = history-cons (g .place) (back k) fs n in
-    let older : drawsOf (g .pages k) < g .log = older-run h k es c l a in
+    let older : drawsOf (g .pages k) < g .log = older-run h k root es c l a in
     refused-until fs (step g (back k) .1) (step-kept g (back k) (o .0) kept) (subst (λ (i : ℕ). IsHistory i fs) (sym (step-place g (back k))) (o .1)) u
     (λ e. absurd (omega (arith, older, ap drawsOf (back-present g k), e, back-log g k)))

@@ -10,7 +10,7 @@ use lib.ListN.{length, drop}
 use Rattle.bits.proofs.Numbers.{eq-or-ne}
 use Rattle.bits.specs.Counting.{count}
 use Rattle.bits.proofs.Counting.{count-nil, count-cons, count-same, count-other, count-append}
-use Rattle.shelf.specs.Operations.{accepted}
+use Rattle.refusal.specs.Outcome.{success}
 use Rattle.shelf.specs.Plain.{Named, Plain, names, plainStock, PlainDrawn, noDraw, plainDraw}
 use Rattle.shelf.specs.History.{Event, stock, draw, back, Host, present, next, counted, plainStep, plainRun, IsHistory}
 use Rattle.shelf.proofs.Simulation.{plain-6, plain-17, plain-stocked, plain-15, plain-16, plain-18, plain-given, next-all, Legal, history-cons}
@@ -98,7 +98,7 @@ given-later end i log given y s c =
 
 -- an accepted one
 draw-given : (end : ℕ) (h : Host Plain) (given : List ℕ) (r : Named) (l : List Named) → h .log ≡ present h .draws → present h .ready ≡ r ∷ l → Clean end h given
-    → After end h given (record { answer = accepted; root = r .root; given = r .name ∷ []; shelf = record { size = present h .size; draws = present h .draws + 1; ready = l } })
+    → After end h given (record { answer = success (r .root); given = r .name ∷ []; shelf = record { size = present h .size; draws = present h .draws + 1; ready = l } })
 unfolding next
 draw-given end h given r l e q c =
     let s = present h in

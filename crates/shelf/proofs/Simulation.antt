@@ -10,8 +10,9 @@ use borrow.Author.Tests.{eq-eqb, ne-eqb, le-leb, lt-leb}
 use lib.ListN.{length, getD, length-map}
 use Rattle.bits.proofs.Numbers.{lt-or-le, eq-or-ne}
 use Rattle.bits.proofs.Little.{leAt-lt}
-use Rattle.shelf.specs.Page.{readyHead, spareHead, drawsOf, rootOf, zeroRoot, readySlots, spareSlots, sound, readyRoots}
-use Rattle.shelf.specs.Operations.{Answer, accepted, refused, drawn, stockOp, drawOp}
+use Rattle.refusal.specs.Outcome.{refusal, success}
+use Rattle.shelf.specs.Page.{readyHead, spareHead, drawsOf, rootOf, readySlots, spareSlots, sound, readyRoots}
+use Rattle.shelf.specs.Operations.{pageLeft, drawn, stockOp, drawOp}
 use Rattle.shelf.specs.Plain.{Named, Plain, roots, plainStock, noDraw, frontDrawn, plainDraw}
 use Rattle.shelf.specs.History.{Event, stock, draw, back, Host, present, next, counted, step, run, plainStep, plainRun, IsHistory, Agrees}
 use Rattle.shelf.proofs.Operations.{stock-6, stock-17, stock-accepted, draw-15, draw-16, draw-18, draw-accepted}
@@ -20,16 +21,16 @@ use Rattle.shelf.proofs.Moves.{after-stock, after-draw, full, no-ready,
 
 -- the plain shelf, case by case
 module _ (i : ℕ) (root : List ℕ) (s : Plain) where
-  pub plain-6 : length root ≢ 16 → plainStock i root s ≡ (refused 6, s)
+  pub plain-6 : length root ≢ 16 → plainStock i root s ≡ (refusal 6, s)
   unfolding plainStock
   plain-6 h = rw (ne-eqb (length root) 16 h)
 
-  pub plain-17 : length root ≡ 16 → length (s .ready) ≡ s .size → plainStock i root s ≡ (refused 17, s)
+  pub plain-17 : length root ≡ 16 → length (s .ready) ≡ s .size → plainStock i root s ≡ (refusal 17, s)
   unfolding plainStock
   plain-17 l h = rw (eq-eqb (length root) 16 l, eq-eqb (length (s .ready)) (s .size) h)
 
   pub plain-stocked : length root ≡ 16 → length (s .ready) ≢ s .size
-      → plainStock i root s ≡ (accepted, record { size = s .size; draws = s .draws; ready = record { name = i; root = root } ∷ s .ready })
+      → plainStock i root s ≡ (success [], record { size = s .size; draws = s .draws; ready = record { name = i; root = root } ∷ s .ready })
   unfolding plainStock
   plain-stocked l h = rw (eq-eqb (length root) 16 l, ne-eqb (length (s .ready)) (s .size) h)
 
@@ -48,7 +49,7 @@ module _ (n : ℕ) (s : Plain) where
     plain-18 h = rw (eq-eqb n (s .draws) c, e, eq-eqb (s .draws) 4294967295 h)
 
     pub plain-given : s .draws ≢ 4294967295
-        → plainDraw n s ≡ record { answer = accepted; root = r .root; given = r .name ∷ []; shelf = record { size = s .size; draws = s .draws + 1; ready = l } }
+        → plainDraw n s ≡ record { answer = success (r .root); given = r .name ∷ []; shelf = record { size = s .size; draws = s .draws + 1; ready = l } }
     unfolding plainDraw frontDrawn
     plain-given h = rw (eq-eqb n (s .draws) c, e, ne-eqb (s .draws) 4294967295 h)
 
@@ -68,7 +69,7 @@ ready-length p s c = sym (length-map (s .ready) (λ (r : Named). r .root)) ∙ s
 
 -- a stocking on both
 pub beside-stock : (p : List ℕ) (s : Plain) (i : ℕ) (root : List ℕ) → Beside p s
-    → (stockOp p root .0 ≡ plainStock i root s .0) × Beside (stockOp p root .1) (plainStock i root s .1)
+    → (stockOp p root .answer ≡ plainStock i root s .0) × Beside (pageLeft (stockOp p root)) (plainStock i root s .1)
 beside-stock p s i root b =
     let c = b .same in
     let t = c .isSound in
@@ -108,9 +109,8 @@ some-ready p t h e = h (none-from p (readySlots p) (spareSlots p) (sound-chains 
 
 -- what a draw does on both
 pub record BesideDraw (p : List ℕ) (n : ℕ) (s : Plain) : Type 0 where
-  pub answer : drawOp p n .0 ≡ plainDraw n s .answer
-  pub root : drawOp p n .1 ≡ plainDraw n s .root
-  pub after : Beside (drawOp p n .2) (plainDraw n s .shelf)
+  pub answer : drawOp p n .answer ≡ plainDraw n s .answer
+  pub after : Beside (pageLeft (drawOp p n)) (plainDraw n s .shelf)
 
 draw-front : (p : List ℕ) (n : ℕ) (s : Plain) (l : List Named) → Beside p s → n ≡ drawsOf p → readyHead p ≢ 0 → s .ready ≡ l → BesideDraw p n s
 draw-front p n s [] b d h e = absurd (some-ready p (b .same .isSound) h (b .same .ready ∙ ap roots e))
@@ -122,11 +122,7 @@ draw-front p n s (r ∷ l) b d h e =
     (λ (q : drawsOf p ≡ 4294967295).
     let y = draw-18 p n t d h q in
     let z = plain-18 n s r l m e (sym (c .draws) ∙ q) in
-    record {
-      answer = rw (y, z);
-      root = rw (y, z);
-      after = rw (y, z) b;
-    })
+    record { answer = rw (y, z); after = rw (y, z) b })
     (λ (q : drawsOf p ≢ 4294967295).
     let y = draw-accepted p n t d h q in
     let z = plain-given n s r l m e (λ w. q (c .draws ∙ w)) in
@@ -136,8 +132,7 @@ draw-front p n s (r ∷ l) b d h e =
     let kr : rootOf p (readyHead p) ≡ r .root = cc in
     let kl : readyRoots (drawn p) ≡ roots l = cc in
     record {
-      answer = rw (y, z);
-      root = rw (y, z) kr;
+      answer = rw (y, z) (ap success kr);
       after =
           rw (y, z)
           (record {
@@ -157,13 +152,13 @@ beside-draw p n s b =
     (λ (h : readyHead p ≡ 0).
     let y = draw-16 p n t d h in
     let z = plain-16 n s (d ∙ c .draws) (roots-nil (s .ready) (sym (c .ready) ∙ no-ready p t h)) in
-    record { answer = rw (y, z); root = rw (y, z); after = rw (y, z) b })
+    record { answer = rw (y, z); after = rw (y, z) b })
     (λ (h : readyHead p ≢ 0). draw-front p n s (s .ready) b d h refl)
     (eq-or-ne (readyHead p) 0))
     (λ (d : n ≢ drawsOf p).
     let y = draw-15 p n t d in
     let z = plain-15 n s (λ w. d (w ∙ sym (c .draws))) in
-    record { answer = rw (y, z); root = rw (y, z); after = rw (y, z) b })
+    record { answer = rw (y, z); after = rw (y, z) b })
     (eq-or-ne n (drawsOf p))
 
 -- what holds of every page had, and of the page after one event more, holds of every page had then
@@ -229,17 +224,17 @@ pub step-along : (g : Host (List ℕ)) (h : Host Plain) (e : Event) → Along g 
 unfolding step plainStep
 step-along g h (stock r) a l =
     let b = beside-stock (present g) (present h) (h .place) r (along-present g h a) in (
-      ap (λ (x : Answer). (x, zeroRoot)) (b .0),
-      along-next g h (stockOp (present g) r .1) (plainStock (h .place) r (present h) .1) (g .log) (h .log) a (a .log) (b .1),
+      b .0,
+      along-next g h (pageLeft (stockOp (present g) r)) (plainStock (h .place) r (present h) .1) (g .log) (h .log) a (a .log) (b .1),
     )
 step-along g h draw a l =
     let n = g .log in
     let b0 = beside-draw (present g) n (present h) (along-present g h a) in
-    let b : (drawOp (present g) n .0 ≡ plainDraw (h .log) (present h) .answer) × ((drawOp (present g) n .1 ≡ plainDraw (h .log) (present h) .root) × Beside (drawOp (present g) n .2) (plainDraw (h .log) (present h) .shelf)) =
-    rw (sym (a .log)) (b0 .answer, (b0 .root, b0 .after)) in (
-      ap₂ (λ (x : Answer) (y : List ℕ). (x, y)) (b .0) (b .1 .0),
-      along-next g h (drawOp (present g) n .2) (plainDraw (h .log) (present h) .shelf) (counted (drawOp (present g) n .0) n) (counted (plainDraw (h .log) (present h) .answer) (h .log)) a
-          (ap₂ counted (b .0) (a .log)) (b .1 .1),
+    let b : (drawOp (present g) n .answer ≡ plainDraw (h .log) (present h) .answer) × Beside (pageLeft (drawOp (present g) n)) (plainDraw (h .log) (present h) .shelf) =
+    rw (sym (a .log)) (b0 .answer, b0 .after) in (
+      b .0,
+      along-next g h (pageLeft (drawOp (present g) n)) (plainDraw (h .log) (present h) .shelf) (counted (drawOp (present g) n .answer) n) (counted (plainDraw (h .log) (present h) .answer) (h .log)) a
+          (ap₂ counted (b .0) (a .log)) (b .1),
     )
 step-along g h (back k) a l = (refl, along-next g h (g .pages k) (h .pages k) (g .log) (h .log) a (a .log) (a .each k l))
 

@@ -8,8 +8,9 @@ use Prim.Native.Nat.{ℕ, suc, _+_, _≤_, _<_}
 use lib.Dec.{leb}
 use lib.ListN.{length, getD, take}
 use Rattle.bits.specs.Counting.{count}
-use Rattle.shelf.specs.Page.{sizeOf, drawsOf, readyRoots, zeroRoot, sound}
-use Rattle.shelf.specs.Operations.{Answer, accepted, refused, stockOp, drawOp}
+use Rattle.refusal.specs.Outcome.{Answer, refusal, success}
+use Rattle.shelf.specs.Page.{sizeOf, drawsOf, readyRoots, sound}
+use Rattle.shelf.specs.Operations.{pageLeft, stockOp, drawOp}
 use Rattle.shelf.specs.Plain.{Plain, names, roots, plainStock, plainDraw}
 
 -- "a list of stockings, draws and pages put back": the bytes lent as the root; the k of the page put back
@@ -34,30 +35,26 @@ next h p n = record { place = suc (h .place); pages = λ k. cond (leb k (h .plac
 
 -- the log "has counted each accepted draw before the next call"
 abbrev pub counted : Answer → ℕ → ℕ
-counted accepted n = n + 1
-counted (refused r) n = n
-
--- what an event answers: accepted or a refusal's number, and the root that goes out, a zero root where none does
-abbrev pub Reply : Type 0
-Reply = Answer × List ℕ
+counted (refusal k) n = n
+counted (success root) n = n + 1
 
 -- "Each call is lent the page as the event before left it, a draw the log's count too"
-unfoldable pub step : Host (List ℕ) → Event → Reply × Host (List ℕ)
-step h (stock r) = ((stockOp (present h) r .0, zeroRoot), next h (stockOp (present h) r .1) (h .log))
+unfoldable pub step : Host (List ℕ) → Event → Answer × Host (List ℕ)
+step h (stock r) = (stockOp (present h) r .answer, next h (pageLeft (stockOp (present h) r)) (h .log))
 step h draw = (
-  (drawOp (present h) (h .log) .0, drawOp (present h) (h .log) .1),
-  next h (drawOp (present h) (h .log) .2) (counted (drawOp (present h) (h .log) .0) (h .log)),
+  drawOp (present h) (h .log) .answer,
+  next h (pageLeft (drawOp (present h) (h .log))) (counted (drawOp (present h) (h .log) .answer) (h .log)),
 )
-step h (back k) = ((accepted, zeroRoot), next h (h .pages k) (h .log))
+step h (back k) = (success [], next h (h .pages k) (h .log))
 
 -- the answers to a list of events, one by one, and the host after them
-unfoldable pub run : Host (List ℕ) → List Event → List Reply × Host (List ℕ)
+unfoldable pub run : Host (List ℕ) → List Event → List Answer × Host (List ℕ)
 run h [] = ([], h)
 run h (e ∷ es) = (step h e .0 ∷ run (step h e .1) es .0, run (step h e .1) es .1)
 
 -- what the plain shelf does at an event: its answer, the name given, if any, and the plain host
 pub record PlainStep : Type 0 where
-  pub reply : Reply
+  pub reply : Answer
   pub given : List ℕ
   pub host : Host Plain
 
@@ -65,20 +62,20 @@ pub record PlainStep : Type 0 where
 -- "Putting back restores draws and named roots as after those k events, not the log's count."
 unfoldable pub plainStep : Host Plain → Event → PlainStep
 plainStep h (stock r) = record {
-  reply = (plainStock (h .place) r (present h) .0, zeroRoot);
+  reply = plainStock (h .place) r (present h) .0;
   given = [];
   host = next h (plainStock (h .place) r (present h) .1) (h .log);
 }
 plainStep h draw = record {
-  reply = (plainDraw (h .log) (present h) .answer, plainDraw (h .log) (present h) .root);
+  reply = plainDraw (h .log) (present h) .answer;
   given = plainDraw (h .log) (present h) .given;
   host = next h (plainDraw (h .log) (present h) .shelf) (counted (plainDraw (h .log) (present h) .answer) (h .log));
 }
-plainStep h (back k) = record { reply = (accepted, zeroRoot); given = []; host = next h (h .pages k) (h .log) }
+plainStep h (back k) = record { reply = success []; given = []; host = next h (h .pages k) (h .log) }
 
 -- the plain shelf's answers, the names given by accepted draws in order, and the plain host afterwards
 pub record PlainRun : Type 0 where
-  pub replies : List Reply
+  pub replies : List Answer
   pub given : List ℕ
   pub host : Host Plain
 

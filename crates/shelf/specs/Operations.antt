@@ -1,27 +1,37 @@
--- The operations stock and draw (document 01, "Each operation's refusals, in order"): answer, root and page.
+-- The operations stock and draw (document 01, "Each operation's refusals, in order"): answer and page.
 -- Assumes nothing.
-use mathlib.Core.Bool.{cond}
-use mathlib.Core.List.{List}
+use mathlib.Core.Bool.{not, cond}
+use mathlib.Core.List.{List, [], _∷_}
 use Prim.Native.Nat.{ℕ, _+_}
 use lib.Dec.{eqb}
-use lib.ListN.{length}
+use lib.ListN.{length, getD}
 use lib.Seq.{sets}
-use Rattle.bits.specs.Bytes.{leBytes}
+use Rattle.bits.specs.Bytes.{leBytes, leAt}
 use Rattle.refusal.specs.declared.Refusal.the-variants.{BufferLength, Shelf, Count, Empty, Full, Exhausted}
+use Rattle.refusal.specs.declared.Refusal.{Refusal}
 use Rattle.refusal.specs.Refusal.{numberOf}
+use Rattle.refusal.specs.Outcome.{Answer, refusal, success, Outcome, done, unless}
 use Rattle.shelf.specs.declared.Answer as declared
 use Rattle.shelf.specs.declared.Answer.the-variants.{Accepted, Refused}
 use Rattle.shelf.specs.Page.{readyHead, spareHead, drawsOf, slotAt, nextOf, rootOf, zeroRoot, sound}
 
--- an answer in the paper's terms: accepted, or the number of the refusal
-pub data Answer : Type 0 where
-  accepted : Answer
-  refused : ℕ → Answer
+-- the answer of stock and of draw in the paper's terms, where a success has these values: of stock none, of draw the root's bytes
+abbrev pub paper : declared.Answer → List ℕ → Answer
+paper Accepted values = success values
+paper (Refused r) values = refusal (numberOf r)
 
--- the answer of stock and of draw in these terms
-unfoldable pub paper : declared.Answer → Answer
-paper Accepted = accepted
-paper (Refused r) = refused (numberOf r)
+-- the answer, and what the one lent buffer, the page, then holds
+abbrev pub outcome : declared.Answer → List ℕ → List ℕ → Outcome
+outcome r values page = record { answer = paper r values; left = page ∷ [] }
+
+-- the page that an outcome leaves
+abbrev pub pageLeft : Outcome → List ℕ
+pageLeft o = getD (o .left) 0 []
+
+-- the root that goes out beside an answer of draw: a refusal has a zero root beside it
+abbrev pub rootOut : Answer → List ℕ
+rootOut (refusal k) = zeroRoot
+rootOut (success root) = root
 
 -- slot k with this next slot and this root
 unfoldable pub putSlot : ℕ → ℕ → List ℕ → List ℕ → List ℕ
@@ -44,26 +54,24 @@ drawn p =
     sets (putHeads (nextOf p k) k (putSlot k (spareHead p) zeroRoot p)) 8 (leBytes 4 (drawsOf p + 1))
 
 -- "Stock: 14 an unsound shelf; 6 a root not of 16 bytes; 17 the spare chain is empty."
-unfoldable pub stockOp : List ℕ → List ℕ → Answer × List ℕ
+unfoldable pub stockOp : List ℕ → List ℕ → Outcome
 stockOp p root =
-    cond (sound p)
-    (cond (eqb (length root) 16)
-    (cond (eqb (spareHead p) 0)
-    (refused (numberOf Full), p)
-    (accepted, stocked p root))
-    (refused (numberOf BufferLength), p))
-    (refused (numberOf Shelf), p)
+    let lent : List (List ℕ) = p ∷ [] in
+    unless (sound p) 14 lent
+    (unless (eqb (length root) 16) 6 lent
+    (unless (not (eqb (spareHead p) 0)) 17 lent
+    (done (stocked p root ∷ []))))
+
+-- a draw that gives a root, and leaves a page
+abbrev pub gives : List ℕ → List ℕ → Outcome
+gives root page = record { answer = success root; left = page ∷ [] }
 
 -- "Draw: 14; 15 the host's count is not draws; 16 the ready chain is empty; 18 draws is 4,294,967,295."
--- The answer, the root that goes out (zero on a refusal), and the page.
-unfoldable pub drawOp : List ℕ → ℕ → Answer × List ℕ × List ℕ
+unfoldable pub drawOp : List ℕ → ℕ → Outcome
 drawOp p n =
-    cond (sound p)
-    (cond (eqb n (drawsOf p))
-    (cond (eqb (readyHead p) 0)
-    (refused (numberOf Empty), zeroRoot, p)
-    (cond (eqb (drawsOf p) 4294967295)
-    (refused (numberOf Exhausted), zeroRoot, p)
-    (accepted, rootOf p (readyHead p), drawn p)))
-    (refused (numberOf Count), zeroRoot, p))
-    (refused (numberOf Shelf), zeroRoot, p)
+    let lent : List (List ℕ) = p ∷ [] in
+    unless (sound p) 14 lent
+    (unless (eqb n (drawsOf p)) 15 lent
+    (unless (not (eqb (readyHead p) 0)) 16 lent
+    (unless (not (eqb (drawsOf p) 4294967295)) 18 lent
+    (gives (rootOf p (readyHead p)) (drawn p)))))

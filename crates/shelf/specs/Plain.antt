@@ -5,8 +5,7 @@ use mathlib.Core.List.{List, [], _∷_, map}
 use Prim.Native.Nat.{ℕ, _+_}
 use lib.Dec.{eqb}
 use lib.ListN.{length}
-use Rattle.shelf.specs.Page.{zeroRoot}
-use Rattle.shelf.specs.Operations.{Answer, accepted, refused}
+use Rattle.refusal.specs.Outcome.{Answer, refusal, success}
 
 -- a root with the name of its stocking
 pub record Named : Type 0 where
@@ -32,20 +31,19 @@ unfoldable pub plainStock : ℕ → List ℕ → Plain → Answer × Plain
 plainStock place root s =
     cond (eqb (length root) 16)
     (cond (eqb (length (s .ready)) (s .size))
-    (refused 17, s)
-    (accepted, record { size = s .size; draws = s .draws; ready = record { name = place; root = root } ∷ s .ready }))
-    (refused 6, s)
+    (refusal 17, s)
+    (success [], record { size = s .size; draws = s .draws; ready = record { name = place; root = root } ∷ s .ready }))
+    (refusal 6, s)
 
--- what a draw does: its answer, the root that goes out (zero on a refusal), the name that it gives, if any, and the shelf
+-- what a draw does: its answer, with the root where one is given; the name that it gives, if any; and the shelf
 pub record PlainDrawn : Type 0 where
   pub answer : Answer
-  pub root : List ℕ
   pub given : List ℕ
   pub shelf : Plain
 
 -- a refusal gives no root and changes nothing
 abbrev pub noDraw : ℕ → Plain → PlainDrawn
-noDraw n s = record { answer = refused n; root = zeroRoot; given = []; shelf = s }
+noDraw n s = record { answer = refusal n; given = []; shelf = s }
 
 -- "16 if none is ready; 18 if draws is 4,294,967,295; else the front root is given and leaves, and draws .. grow by 1."
 unfoldable pub frontDrawn : List Named → Plain → PlainDrawn
@@ -53,7 +51,7 @@ frontDrawn [] s = noDraw 16 s
 frontDrawn (r ∷ l) s =
     cond (eqb (s .draws) 4294967295)
     (noDraw 18 s)
-    (record { answer = accepted; root = r .root; given = r .name ∷ []; shelf = record { size = s .size; draws = s .draws + 1; ready = l } })
+    (record { answer = success (r .root); given = r .name ∷ []; shelf = record { size = s .size; draws = s .draws + 1; ready = l } })
 
 -- "Draw: 15 if the log's count is not draws", else as above
 unfoldable pub plainDraw : ℕ → Plain → PlainDrawn

@@ -6,12 +6,13 @@ use Prim.Native.Nat.{ℕ, _+_}
 use lib.Dec.{eqb}
 use lib.Seq.{sets}
 use Rattle.bits.specs.Bytes.{leAt, leBytes}
+use Rattle.bits.specs.Counting.{count}
 use Rattle.refusal.specs.declared.Refusal.{Refusal}
 use Rattle.shelf.specs.declared.Answer.the-variants.{Refused}
 use Rattle.shelf.specs.declared.Checked.{Checked}
 use Rattle.shelf.specs.declared.Drawn.{Drawn}
 use Rattle.shelf.specs.declared.Checked.the-variants.{Sound, Broken}
-use Rattle.shelf.specs.Page.{sizeOf, readyHead, spareHead, drawsOf, slotAt, zeroRoot, sound, chain, count, ended, nextOf}
+use Rattle.shelf.specs.Page.{sizeOf, readyHead, spareHead, drawsOf, slotAt, zeroRoot, sound, chain, ended, nextOf}
 use Rattle.shelf.specs.Operations.{putSlot}
 use mathlib.Core.Path.{_≡_}
 use lib.ListN.{getD}

@@ -1,12 +1,13 @@
 // The shelf of prepared roots: a page in the host's cache, stocked and drawn from.
 ghost use mathlib.Core.Path.{_≡_};
 ghost use mathlib.Core.Bool.{true};
+ghost use mathlib.Core.List.{[]};
 ghost use Prim.Native.Nat.{ℕ, _+_, _*_, _≤_, _<_};
 ghost use lib.ListN.{length, take, drop, getD};
 ghost use lib.Seq.{sets};
+ghost use Rattle.shelf.specs.Steps.{movedAfter, linkAfter, checked, noRoot, Tallied};
 ghost use Rattle.shelf.specs.Page.{slotAt, nextOf, chain, ended, allOne, blank, chainsFrom};
-ghost use Rattle.shelf.specs.Steps.{Tallied, noRoot, checked, linkAfter, movedAfter};
-ghost use Rattle.shelf.specs.Operations.{paper, putSlot, putHeads, stockOp, drawOp};
+ghost use Rattle.shelf.specs.Operations.{paper, putSlot, putHeads, stockOp, drawOp, outcome, rootOut};
 use refusal::Refusal;
 
 // The answer of stock and of draw.
@@ -225,7 +226,7 @@ fn move_after(page: &mut [u8], before: u16, slot: u16, next: u16, root: &[u8])
 
 // Stocks a root: into the first spare slot, which goes to the front of ready.
 pub fn stock(page: &mut [u8], root: &[u8]) -> Answer
-    ensures { λ r. ⌜ (paper r, now (page .exit)) ≡ stockOp (now (page .entry)) (now (root .entry)) ⌝ }
+    ensures { λ r. ⌜ outcome r [] (now (page .exit)) ≡ stockOp (now (page .entry)) (now (root .entry)) ⌝ }
 {
     let Checked::Sound(shelf) = check(page) else {
         return Answer::Refused(Refusal::Shelf);
@@ -255,7 +256,7 @@ fn refuse(r: Refusal) -> Drawn
 
 // Draws the first ready root, whose slot goes to the front of spare. `count` is the count of the host's log.
 pub fn draw(page: &mut [u8], count: u64) -> Drawn
-    ensures { λ r. ⌜ (paper (r .answer), r .root, now (page .exit)) ≡ drawOp (now (page .entry)) count ⌝ }
+    ensures { λ r. ⌜ (outcome (r .answer) (r .root) (now (page .exit)) ≡ drawOp (now (page .entry)) count) × (r .root ≡ rootOut (drawOp (now (page .entry)) count .answer)) ⌝ }
 {
     let Checked::Sound(shelf) = check(page) else {
         return refuse(Refusal::Shelf);

@@ -11,6 +11,7 @@ use borrow.Rule.Slice.PartMut.{midOf, postOf, putMid, mid-len, post-is}
 use lib.Dec.{eqb, leb, ltb}
 use lib.ListN.{length, getD, set, take, drop, replicate, length-replicate}
 use lib.Seq.{take-suc, take-suc-set, take-all}
+use Rattle.circuit.specs.Steps.{gatesFrom, Chained}
 use Rattle.bits.specs.Bits.{tabulate, oct, pack, unusedZero}
 use Rattle.bits.proofs.Tabulate.{length-tabulate}
 use Rattle.bits.proofs.Tests.{and-true-left, and-true-right}
@@ -20,8 +21,7 @@ use Rattle.parties.specs.Parties.{heightOf}
 use Rattle.parties.proofs.Counts.{count-yes, count-no}
 use Rattle.circuit.specs.Circuit.{ands, Circuit, Gate, xor, and, inv}
 use Rattle.circuit.specs.File.{outputsOf, gatesOf, headOf, outputWire, nextOf, walks, chainFrom, gateAt, gatesInOrder, circuitOf, Reading}
-use Rattle.circuit.specs.Steps.{Chained, gatesFrom}
-use Rattle.circuit.specs.Operations.{readOp}
+use Rattle.circuit.specs.Operations.{readOp, onLegal, holds}
 use Rattle.circuit.specs.Answers.{readPaper}
 use Rattle.circuit.specs.declared.Sizes.{Sizes}
 use Rattle.circuit.specs.declared.ReadAnswer.{ReadAnswer}
@@ -32,7 +32,7 @@ use Rattle.engine.specs.Steps.{packed, loadedTapes, maskedInputs, walked, spoke
 use Rattle.mpc.specs.Tapes.{andsOf, unusedRows, withRow}
 use Rattle.mpc.specs.Showing as shown
 use Rattle.mpc.specs.Showing.{correctionBits, honestRun, rowBits, shownBits, firstBits, Showing, hidden, showing}
-use Rattle.mpc.specs.Operations.{onLegal, holds, holdsRows, tapeBits, partsOf, holdsShowing, showLegal, showOp}
+use Rattle.mpc.specs.Operations.{holdsRows, tapeBits, partsOf, holdsShowing, showLegal, showOp}
 use Rattle.mpc.specs.Answers.{outcome}
 use Rattle.mpc.specs.Steps.{Known, Begun, WitnessFits, TapesFit, ShowingFits}
 use Rattle.mpc.specs.declared.Answer.the-variants.{Done, Refused}

@@ -20,7 +20,7 @@ use Rattle.checking.specs.Answers as checking
 use Rattle.checking.specs.declared.Answer.the-variants as checkAnswer
 use Rattle.shelf.specs.Operations.{paper as shelfPaper}
 use Rattle.shelf.specs.declared.Answer.the-variants as shelfAnswer
-use Rattle.wivulameno.specs.Interface.{status, values, shelfStatus}
+use Rattle.wivulameno.specs.Interface.{status, values}
 use Rattle.wivulameno.specs.Answers.{Injective, DifferentAnswers, reported, DifferentStatuses}
 
 -- what is different after another step was different before it
@@ -84,12 +84,12 @@ check-status checkAnswer.Accepted (checkAnswer.Refused k) e = not-zero k e
 check-status (checkAnswer.Refused k) checkAnswer.Accepted e = not-zero k (sym e)
 check-status (checkAnswer.Refused k) (checkAnswer.Refused l) e = ap checkAnswer.Refused (numberOf-injective k l e)
 
-shelf-status : Injective (λ a. shelfStatus (shelfPaper a))
-unfolding shelfStatus shelfPaper
-shelf-status shelfAnswer.Accepted shelfAnswer.Accepted e = refl
-shelf-status shelfAnswer.Accepted (shelfAnswer.Refused k) e = not-zero k e
-shelf-status (shelfAnswer.Refused k) shelfAnswer.Accepted e = not-zero k (sym e)
-shelf-status (shelfAnswer.Refused k) (shelfAnswer.Refused l) e = ap shelfAnswer.Refused (numberOf-injective k l e)
+shelf-status : (vs : List ℕ) → Injective (λ a. status (shelfPaper a vs))
+unfolding status
+shelf-status vs shelfAnswer.Accepted shelfAnswer.Accepted e = refl
+shelf-status vs shelfAnswer.Accepted (shelfAnswer.Refused k) e = not-zero k e
+shelf-status vs (shelfAnswer.Refused k) shelfAnswer.Accepted e = not-zero k (sym e)
+shelf-status vs (shelfAnswer.Refused k) (shelfAnswer.Refused l) e = ap shelfAnswer.Refused (numberOf-injective k l e)
 
 -- the C functions say different things of different answers
 pub different-statuses : DifferentStatuses
@@ -107,5 +107,5 @@ different-answers =
       derive = derive-number;
       prove = before proving.paper (reported []) (prove-status []);
       check = before checking.paper status check-status;
-      shelf = before shelfPaper shelfStatus shelf-status;
+      shelf = λ vs. before (λ a. shelfPaper a vs) status (shelf-status vs);
     }

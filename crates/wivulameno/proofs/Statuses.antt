@@ -5,7 +5,8 @@ use mathlib.Core.List.{List, [], _∷_}
 use Prim.Native.Nat.{ℕ, _<_, _^_}
 use Rattle.refusal.specs.Refusal.{numberOf}
 use Rattle.refusal.specs.declared.Refusal.{Refusal}
-use Rattle.circuit.specs.Operations.{Answer, Outcome, readOp}
+use Rattle.refusal.specs.Outcome.{Answer, Outcome}
+use Rattle.circuit.specs.Operations.{readOp}
 use Rattle.circuit.specs.Answers.{readPaper, outcome}
 use Rattle.circuit.specs.declared.Sizes.{Sizes}
 use Rattle.circuit.specs.declared.ReadAnswer.{ReadAnswer}
@@ -13,10 +14,9 @@ use Rattle.circuit.specs.declared.ReadAnswer.the-variants as readAnswer
 use Rattle.circuit.specs.declared.EvaluateAnswer.{EvaluateAnswer}
 use Rattle.circuit.specs.declared.EvaluateAnswer.the-variants as evaluateAnswer
 use Rattle.circuit.proofs.Small.{read-small}
-use Rattle.shelf.specs.Operations.{Answer as ShelfAnswer, paper as shelfPaper}
-use Rattle.shelf.specs.declared.Answer.{Answer as DeclaredAnswer}
+use Rattle.shelf.specs.Operations.{outcome as shelfOutcome}
+use Rattle.shelf.specs.declared.Answer.{Answer as ShelfAnswer}
 use Rattle.shelf.specs.declared.Answer.the-variants as shelfAnswer
-use Rattle.mpc.specs.Operations.{Outcome as MpcOutcome}
 use Rattle.mpc.specs.Answers.{outcome as mpcOutcome}
 use Rattle.mpc.specs.declared.Answer.{Answer as MpcAnswer}
 use Rattle.mpc.specs.declared.Answer.the-variants as mpcAnswer
@@ -26,10 +26,10 @@ use Rattle.seeds.specs.declared.Answer.the-variants as seedsAnswer
 use Rattle.proving.specs.Answers.{outcome as proveOutcome}
 use Rattle.proving.specs.declared.Answer.{Answer as ProveAnswer}
 use Rattle.proving.specs.declared.Answer.the-variants as proveAnswer
-use Rattle.checking.specs.Answers.{paper as checkPaper}
+use Rattle.checking.specs.Answers.{outcome as checkOutcome}
 use Rattle.checking.specs.declared.Answer.{Answer as CheckAnswer}
 use Rattle.checking.specs.declared.Answer.the-variants as checkAnswer
-use Rattle.wivulameno.specs.Interface.{status, values, shelfStatus, rootLeft}
+use Rattle.wivulameno.specs.Interface.{status, values}
 
 -- the numbers of a legal circuit fit 32 bits
 pub legal-small : (s : List ℕ) (r : ReadAnswer) (z : Sizes) → r ≡ readAnswer.Legal z → readPaper r ≡ readOp s
@@ -54,7 +54,7 @@ read-refused a r k n lent e f h =
 
 -- evaluate's success
 pub evaluate-done : (o : Outcome) (r : EvaluateAnswer) (y : List ℕ) → r ≡ evaluateAnswer.Done → outcome r y ≡ o
-    → (_≡_ {A = ℕ} 0 (status (o .answer))) × (y ≡ o .left)
+    → (_≡_ {A = ℕ} 0 (status (o .answer))) × (y ∷ [] ≡ o .left)
 unfolding status
 evaluate-done o r y e f =
     let g : outcome evaluateAnswer.Done y ≡ o = ap (λ (x : EvaluateAnswer). outcome x y) (sym e) ∙ f in
@@ -62,71 +62,59 @@ evaluate-done o r y e f =
 
 -- evaluate's refusal
 pub evaluate-refused : (o : Outcome) (r : EvaluateAnswer) (k : Refusal) (n : ℕ) (y : List ℕ) → r ≡ evaluateAnswer.Refused k → outcome r y ≡ o → n ≡ numberOf k
-    → (n ≡ status (o .answer)) × (y ≡ o .left)
+    → (n ≡ status (o .answer)) × (y ∷ [] ≡ o .left)
 unfolding status
 evaluate-refused o r k n y e f h =
     let g : outcome (evaluateAnswer.Refused k) y ≡ o = ap (λ (x : EvaluateAnswer). outcome x y) (sym e) ∙ f in
     (h ∙ ap (λ (x : Outcome). status (x .answer)) g, ap (λ (x : Outcome). x .left) g)
 
 -- a run, or a part of one, that is done
-pub mpc-done : (o : MpcOutcome) (r : MpcAnswer) (bs : List (List ℕ)) → r ≡ mpcAnswer.Done → mpcOutcome r bs ≡ o
+pub mpc-done : (o : Outcome) (r : MpcAnswer) (bs : List (List ℕ)) → r ≡ mpcAnswer.Done → mpcOutcome r bs ≡ o
     → (_≡_ {A = ℕ} 0 (status (o .answer))) × (bs ≡ o .left)
 unfolding status
 mpc-done o r bs e f =
     let g : mpcOutcome mpcAnswer.Done bs ≡ o = ap (λ (x : MpcAnswer). mpcOutcome x bs) (sym e) ∙ f in
-    (ap (λ (x : MpcOutcome). status (x .answer)) g, ap (λ (x : MpcOutcome). x .left) g)
+    (ap (λ (x : Outcome). status (x .answer)) g, ap (λ (x : Outcome). x .left) g)
 
 -- one that is refused
-pub mpc-refused : (o : MpcOutcome) (r : MpcAnswer) (k : Refusal) (n : ℕ) (bs : List (List ℕ)) → r ≡ mpcAnswer.Refused k → mpcOutcome r bs ≡ o → n ≡ numberOf k
+pub mpc-refused : (o : Outcome) (r : MpcAnswer) (k : Refusal) (n : ℕ) (bs : List (List ℕ)) → r ≡ mpcAnswer.Refused k → mpcOutcome r bs ≡ o → n ≡ numberOf k
     → (n ≡ status (o .answer)) × (bs ≡ o .left)
 unfolding status
 mpc-refused o r k n bs e f h =
     let g : mpcOutcome (mpcAnswer.Refused k) bs ≡ o = ap (λ (x : MpcAnswer). mpcOutcome x bs) (sym e) ∙ f in
-    (h ∙ ap (λ (x : MpcOutcome). status (x .answer)) g, ap (λ (x : MpcOutcome). x .left) g)
+    (h ∙ ap (λ (x : Outcome). status (x .answer)) g, ap (λ (x : Outcome). x .left) g)
 
 -- a stocking that is accepted
-pub stock-done : (o : ShelfAnswer × List ℕ) (r : DeclaredAnswer) (p : List ℕ) → r ≡ shelfAnswer.Accepted → _≡_ {A = ShelfAnswer × List ℕ} (shelfPaper r, p) o
-    → (_≡_ {A = ℕ} 0 (shelfStatus (o .0))) × (p ≡ o .1)
-unfolding shelfStatus shelfPaper
-stock-done o r p e f = (
-  ap (λ (x : DeclaredAnswer). shelfStatus (shelfPaper x)) (sym e) ∙ ap (λ (x : ShelfAnswer × List ℕ). shelfStatus (x .0)) f,
-  ap (λ (x : ShelfAnswer × List ℕ). x .1) f,
-)
+pub stock-done : (o : Outcome) (r : ShelfAnswer) (p : List ℕ) → r ≡ shelfAnswer.Accepted → shelfOutcome r [] p ≡ o
+    → (_≡_ {A = ℕ} 0 (status (o .answer))) × ((p ∷ []) ≡ o .left)
+unfolding status
+stock-done o r p e f =
+    let g : shelfOutcome shelfAnswer.Accepted [] p ≡ o = ap (λ (x : ShelfAnswer). shelfOutcome x [] p) (sym e) ∙ f in
+    (ap (λ (x : Outcome). status (x .answer)) g, ap (λ (x : Outcome). x .left) g)
 
 -- a stocking that is refused
-pub stock-refused : (o : ShelfAnswer × List ℕ) (r : DeclaredAnswer) (k : Refusal) (n : ℕ) (p : List ℕ) → r ≡ shelfAnswer.Refused k → _≡_ {A = ShelfAnswer × List ℕ} (shelfPaper r, p) o
-    → n ≡ numberOf k → (n ≡ shelfStatus (o .0)) × (p ≡ o .1)
-unfolding shelfStatus shelfPaper
-stock-refused o r k n p e f h = (
-  h ∙ ap (λ (x : DeclaredAnswer). shelfStatus (shelfPaper x)) (sym e) ∙ ap (λ (x : ShelfAnswer × List ℕ). shelfStatus (x .0)) f,
-  ap (λ (x : ShelfAnswer × List ℕ). x .1) f,
-)
+pub stock-refused : (o : Outcome) (r : ShelfAnswer) (k : Refusal) (n : ℕ) (p : List ℕ) → r ≡ shelfAnswer.Refused k → shelfOutcome r [] p ≡ o
+    → n ≡ numberOf k → (n ≡ status (o .answer)) × ((p ∷ []) ≡ o .left)
+unfolding status
+stock-refused o r k n p e f h =
+    let g : shelfOutcome (shelfAnswer.Refused k) [] p ≡ o = ap (λ (x : ShelfAnswer). shelfOutcome x [] p) (sym e) ∙ f in
+    (h ∙ ap (λ (x : Outcome). status (x .answer)) g, ap (λ (x : Outcome). x .left) g)
 
 -- a draw that is accepted
-pub draw-done : (o : ShelfAnswer × List ℕ × List ℕ) (r : DeclaredAnswer) (root p lent : List ℕ) → r ≡ shelfAnswer.Accepted
-    → _≡_ {A = ShelfAnswer × List ℕ × List ℕ} (shelfPaper r, root, p) o
-    → (_≡_ {A = ℕ} 0 (shelfStatus (o .0))) × ((p ≡ o .2) × (root ≡ rootLeft (o .0) (o .1) lent))
-unfolding shelfStatus shelfPaper rootLeft
-draw-done o r root p lent e f = (
-  ap (λ (x : DeclaredAnswer). shelfStatus (shelfPaper x)) (sym e) ∙ ap (λ (x : ShelfAnswer × List ℕ × List ℕ). shelfStatus (x .0)) f,
-  (
-    ap (λ (x : ShelfAnswer × List ℕ × List ℕ). x .2) f,
-    ap (λ (x : DeclaredAnswer). rootLeft (shelfPaper x) root lent) (sym e) ∙ ap (λ (x : ShelfAnswer × List ℕ × List ℕ). rootLeft (x .0) (x .1) lent) f,
-  ),
-)
+pub draw-done : (o : Outcome) (r : ShelfAnswer) (root p lent : List ℕ) → r ≡ shelfAnswer.Accepted → shelfOutcome r root p ≡ o
+    → (_≡_ {A = ℕ} 0 (status (o .answer))) × ((root ≡ values (o .answer) lent) × ((p ∷ []) ≡ o .left))
+unfolding status values
+draw-done o r root p lent e f =
+    let g : shelfOutcome shelfAnswer.Accepted root p ≡ o = ap (λ (x : ShelfAnswer). shelfOutcome x root p) (sym e) ∙ f in
+    (ap (λ (x : Outcome). status (x .answer)) g, (ap (λ (x : Outcome). values (x .answer) lent) g, ap (λ (x : Outcome). x .left) g))
 
 -- a draw that is refused
-pub draw-refused : (o : ShelfAnswer × List ℕ × List ℕ) (r : DeclaredAnswer) (k : Refusal) (n : ℕ) (root p lent : List ℕ) → r ≡ shelfAnswer.Refused k
-    → _≡_ {A = ShelfAnswer × List ℕ × List ℕ} (shelfPaper r, root, p) o → n ≡ numberOf k
-    → (n ≡ shelfStatus (o .0)) × ((p ≡ o .2) × (lent ≡ rootLeft (o .0) (o .1) lent))
-unfolding shelfStatus shelfPaper rootLeft
-draw-refused o r k n root p lent e f h = (
-  h ∙ ap (λ (x : DeclaredAnswer). shelfStatus (shelfPaper x)) (sym e) ∙ ap (λ (x : ShelfAnswer × List ℕ × List ℕ). shelfStatus (x .0)) f,
-  (
-    ap (λ (x : ShelfAnswer × List ℕ × List ℕ). x .2) f,
-    ap (λ (x : DeclaredAnswer). rootLeft (shelfPaper x) root lent) (sym e) ∙ ap (λ (x : ShelfAnswer × List ℕ × List ℕ). rootLeft (x .0) (x .1) lent) f,
-  ),
-)
+pub draw-refused : (o : Outcome) (r : ShelfAnswer) (k : Refusal) (n : ℕ) (root p lent : List ℕ) → r ≡ shelfAnswer.Refused k → shelfOutcome r root p ≡ o
+    → n ≡ numberOf k → (n ≡ status (o .answer)) × ((lent ≡ values (o .answer) lent) × ((p ∷ []) ≡ o .left))
+unfolding status values
+draw-refused o r k n root p lent e f h =
+    let g : shelfOutcome (shelfAnswer.Refused k) root p ≡ o = ap (λ (x : ShelfAnswer). shelfOutcome x root p) (sym e) ∙ f in
+    (h ∙ ap (λ (x : Outcome). status (x .answer)) g, (ap (λ (x : Outcome). values (x .answer) lent) g, ap (λ (x : Outcome). x .left) g))
 
 -- an operation on seeds that is done
 pub seeds-done : (o : SeedsOutcome) (r : SeedsAnswer) (y : List ℕ) → r ≡ seedsAnswer.Done → seedsOutcome r y ≡ o
@@ -140,27 +128,28 @@ seeds-refused o r k n y e f h =
     (h ∙ ap paper (sym e) ∙ ap (λ (x : SeedsOutcome). x .number) f, ap (λ (x : SeedsOutcome). x .buffer) f)
 
 -- a proof that is accepted
-pub check-done : (a : Answer) (r : CheckAnswer) → r ≡ checkAnswer.Accepted → checkPaper r ≡ a → _≡_ {A = ℕ} 0 (status a)
+pub check-done : (o : Outcome) (r : CheckAnswer) → r ≡ checkAnswer.Accepted → checkOutcome r ≡ o → _≡_ {A = ℕ} 0 (status (o .answer))
 unfolding status
-check-done a r e f = ap status (ap checkPaper (sym e) ∙ f)
+check-done o r e f = ap (λ (x : Outcome). status (x .answer)) (ap checkOutcome (sym e) ∙ f)
 
 -- one that is refused
-pub check-refused : (a : Answer) (r : CheckAnswer) (k : Refusal) (n : ℕ) → r ≡ checkAnswer.Refused k → checkPaper r ≡ a → n ≡ numberOf k → n ≡ status a
+pub check-refused : (o : Outcome) (r : CheckAnswer) (k : Refusal) (n : ℕ) → r ≡ checkAnswer.Refused k → checkOutcome r ≡ o → n ≡ numberOf k
+    → n ≡ status (o .answer)
 unfolding status
-check-refused a r k n e f h = h ∙ ap status (ap checkPaper (sym e) ∙ f)
+check-refused o r k n e f h = h ∙ ap (λ (x : Outcome). status (x .answer)) (ap checkOutcome (sym e) ∙ f)
 
 -- a proof that is written
-pub prove-done : (o : MpcOutcome) (r : ProveAnswer) (k : ℕ) (b lent : List ℕ) → r ≡ proveAnswer.Written k → proveOutcome r b ≡ o
+pub prove-done : (o : Outcome) (r : ProveAnswer) (k : ℕ) (b lent : List ℕ) → r ≡ proveAnswer.Written k → proveOutcome r b ≡ o
     → (_≡_ {A = ℕ} 0 (status (o .answer))) × (((k ∷ []) ≡ values (o .answer) lent) × ((b ∷ []) ≡ o .left))
 unfolding status values
 prove-done o r k b lent e f =
     let g : proveOutcome (proveAnswer.Written k) b ≡ o = ap (λ (x : ProveAnswer). proveOutcome x b) (sym e) ∙ f in
-    (ap (λ (x : MpcOutcome). status (x .answer)) g, (ap (λ (x : MpcOutcome). values (x .answer) lent) g, ap (λ (x : MpcOutcome). x .left) g))
+    (ap (λ (x : Outcome). status (x .answer)) g, (ap (λ (x : Outcome). values (x .answer) lent) g, ap (λ (x : Outcome). x .left) g))
 
 -- one that is refused
-pub prove-refused : (o : MpcOutcome) (r : ProveAnswer) (k : Refusal) (n : ℕ) (b lent : List ℕ) → r ≡ proveAnswer.Refused k → proveOutcome r b ≡ o
+pub prove-refused : (o : Outcome) (r : ProveAnswer) (k : Refusal) (n : ℕ) (b lent : List ℕ) → r ≡ proveAnswer.Refused k → proveOutcome r b ≡ o
     → n ≡ numberOf k → (n ≡ status (o .answer)) × ((lent ≡ values (o .answer) lent) × ((b ∷ []) ≡ o .left))
 unfolding status values
 prove-refused o r k n b lent e f h =
     let g : proveOutcome (proveAnswer.Refused k) b ≡ o = ap (λ (x : ProveAnswer). proveOutcome x b) (sym e) ∙ f in
-    (h ∙ ap (λ (x : MpcOutcome). status (x .answer)) g, (ap (λ (x : MpcOutcome). values (x .answer) lent) g, ap (λ (x : MpcOutcome). x .left) g))
+    (h ∙ ap (λ (x : Outcome). status (x .answer)) g, (ap (λ (x : Outcome). values (x .answer) lent) g, ap (λ (x : Outcome). x .left) g))

@@ -5,21 +5,21 @@ use mathlib.Core.Path.{_≡_}
 use mathlib.Core.List.{List}
 use Prim.Native.Nat.{ℕ}
 use Rattle.refusal.specs.Refusal.{numberOf}
-use Rattle.circuit.specs.Operations.{Answer}
+use Rattle.refusal.specs.Outcome.{Answer}
 use Rattle.circuit.specs.Answers.{readPaper, evaluatePaper}
 use Rattle.mpc.specs.Answers as mpc
 use Rattle.seeds.specs.Operations as seeds
 use Rattle.proving.specs.Answers as proving
 use Rattle.checking.specs.Answers as checking
 use Rattle.shelf.specs.Operations.{paper as shelfPaper}
-use Rattle.wivulameno.specs.Interface.{status, values, shelfStatus}
+use Rattle.wivulameno.specs.Interface.{status, values}
 
 -- different arguments have different results
 abbrev pub Injective : {A B : Type 0} → (A → B) → Type 0
 Injective {A} f = (a b : A) → f a ≡ f b → a ≡ b
 
 -- the definitions that put each answer enum into the paper's terms: of the refusals; of read; of evaluate; of prepare, run, show and
--- replay; of expand, open and challenge; of prove; of check; of stock and draw
+-- replay; of expand, open and challenge; of prove; of check; of stock and draw, with the values of a success
 pub record DifferentAnswers : Type 0 where
   pub refusals : Injective numberOf
   pub read : Injective readPaper
@@ -28,7 +28,7 @@ pub record DifferentAnswers : Type 0 where
   pub derive : Injective seeds.paper
   pub prove : Injective proving.paper
   pub check : Injective checking.paper
-  pub shelf : Injective shelfPaper
+  pub shelf : (vs : List ℕ) → Injective (λ a. shelfPaper a vs)
 
 -- what a C function with numbers to fill in says: its status, and those numbers, where `lent` is what they were
 abbrev pub reported : List ℕ → Answer → ℕ × List ℕ
@@ -41,4 +41,4 @@ pub record DifferentStatuses : Type 0 where
   pub run : Injective (λ a. status (mpc.paper a))
   pub prove : (lent : List ℕ) → Injective (λ a. reported lent (proving.paper a))
   pub check : Injective (λ a. status (checking.paper a))
-  pub shelf : Injective (λ a. shelfStatus (shelfPaper a))
+  pub shelf : (vs : List ℕ) → Injective (λ a. status (shelfPaper a vs))

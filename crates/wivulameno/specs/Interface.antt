@@ -2,8 +2,7 @@
 -- Assumes nothing.
 use mathlib.Core.List.{List}
 use Prim.Native.Nat.{ℕ}
-use Rattle.circuit.specs.Operations.{Answer, refusal, success}
-use Rattle.shelf.specs.Operations.{Answer as ShelfAnswer, accepted, refused}
+use Rattle.refusal.specs.Outcome.{Answer, refusal, success}
 
 -- the status of an answer
 unfoldable pub status : Answer → ℕ
@@ -14,13 +13,3 @@ status (success vs) = 0
 unfoldable pub values : Answer → List ℕ → List ℕ
 values (refusal k) lent = lent
 values (success vs) lent = vs
-
--- the status of a shelf's answer
-unfoldable pub shelfStatus : ShelfAnswer → ℕ
-shelfStatus accepted = 0
-shelfStatus (refused k) = k
-
--- the root that an accepted draw gives, or what the lent root was
-unfoldable pub rootLeft : ShelfAnswer → List ℕ → List ℕ → List ℕ
-rootLeft accepted root lent = root
-rootLeft (refused k) root lent = lent

@@ -10,7 +10,7 @@ ghost use Rattle.proof.specs.Prove.{proveOp};
 ghost use Rattle.proof.specs.Check.{checkOp};
 ghost use Rattle.shelf.specs.Operations.{stockOp, drawOp};
 ghost use Rattle.seeds.specs.Operations.{expandOp, openOp, challengeOp};
-ghost use Rattle.wivulameno.specs.Interface.{status, values, shelfStatus, rootLeft};
+ghost use Rattle.wivulameno.specs.Interface.{status, values};
 ghost use Rattle.keccak.specs.Sponge.{«sha3-256», «shake128», «shake256»};
 
 // SHA3-256 of the data, into 32 lent bytes.
@@ -63,7 +63,7 @@ pub extern "C" fn wv_read(circuit: &[u8], sizes: &mut [u32; 4]) -> u32
 // Evaluates a circuit on a witness, into y.
 #[no_mangle]
 pub extern "C" fn wv_evaluate(circuit: &[u8], witness: &[u8], y: &mut [u8]) -> u32
-    ensures { λ r. ⌜ (r ≡ status (evaluateOp (now (circuit .entry)) (now (witness .entry)) (now (y .entry)) .answer)) × (now (y .exit) ≡ evaluateOp (now (circuit .entry)) (now (witness .entry)) (now (y .entry)) .left) ⌝ }
+    ensures { λ r. ⌜ (r ≡ status (evaluateOp (now (circuit .entry)) (now (witness .entry)) (now (y .entry)) .answer)) × (now (y .exit) ∷ [] ≡ evaluateOp (now (circuit .entry)) (now (witness .entry)) (now (y .entry)) .left) ⌝ }
 {
     let a = circuit::evaluation::evaluate(circuit, witness, y);
     match a {
@@ -190,7 +190,7 @@ pub extern "C" fn wv_prove(
 // Checks a proof that the circuit gives y on some witness, under the message.
 #[no_mangle]
 pub extern "C" fn wv_check(circuit: &[u8], y: &[u8], message: &[u8], proof: &[u8]) -> u32
-    ensures { λ r. ⌜ r ≡ status (checkOp (now (circuit .entry)) (now (y .entry)) (now (message .entry)) (now (proof .entry))) ⌝ }
+    ensures { λ r. ⌜ r ≡ status (checkOp (now (circuit .entry)) (now (y .entry)) (now (message .entry)) (now (proof .entry)) .answer) ⌝ }
 {
     let a = checking::check(circuit, y, message, proof);
     match a {
@@ -202,7 +202,7 @@ pub extern "C" fn wv_check(circuit: &[u8], y: &[u8], message: &[u8], proof: &[u8
 // Stocks a root on the shelf's page.
 #[no_mangle]
 pub extern "C" fn wv_stock(page: &mut [u8], root: &[u8]) -> u32
-    ensures { λ r. ⌜ (r ≡ shelfStatus (stockOp (now (page .entry)) (now (root .entry)) .0)) × (now (page .exit) ≡ stockOp (now (page .entry)) (now (root .entry)) .1) ⌝ }
+    ensures { λ r. ⌜ (r ≡ status (stockOp (now (page .entry)) (now (root .entry)) .answer)) × (now (page .exit) ∷ [] ≡ stockOp (now (page .entry)) (now (root .entry)) .left) ⌝ }
 {
     let a = shelf::stock(page, root);
     match a {
@@ -223,7 +223,7 @@ fn put_given(given: bool, drawn: [u8; 16], root: &mut [u8; 16])
 // Draws a root from the shelf's page; count is that of the host's log. The lent root stays as it was on a refusal.
 #[no_mangle]
 pub extern "C" fn wv_draw(page: &mut [u8], count: u64, root: &mut [u8; 16]) -> u32
-    ensures { λ r. ⌜ (r ≡ shelfStatus (drawOp (now (page .entry)) count .0)) × ((now (page .exit) ≡ drawOp (now (page .entry)) count .2) × (now (root .exit) ≡ rootLeft (drawOp (now (page .entry)) count .0) (drawOp (now (page .entry)) count .1) (now (root .entry)))) ⌝ }
+    ensures { λ r. ⌜ (r ≡ status (drawOp (now (page .entry)) count .answer)) × ((now (root .exit) ≡ values (drawOp (now (page .entry)) count .answer) (now (root .entry))) × (now (page .exit) ∷ [] ≡ drawOp (now (page .entry)) count .left)) ⌝ }
 {
     let d = shelf::draw(page, count);
     let a = d.answer;

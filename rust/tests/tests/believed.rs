@@ -157,7 +157,7 @@ fn a_definition_is_followed() {
     let below = specs.closure(BTreeSet::from([from]));
     for (krate, file, name) in [
         ("circuit", "File", "readCircuit"),
-        ("circuit", "Operations", "Answer"),
+        ("refusal", "Outcome", "Answer"),
         ("keccak", "Sponge", "sha3-256"),
         ("permutation", "Permutation", "χ"),
         ("bits", "Bits", "oct"),

@@ -1,19 +1,16 @@
 -- `shelf::draw` meets its contract: each refusal, and the writes of a draw.
 -- Assumes nothing.
-use mathlib.Core.List.{List}
 use mathlib.Core.Logic.{_≢_}
-use mathlib.Core.Path.{ap₂, _≡_, sym, ap, _∙_}
+use mathlib.Core.Path.{_≡_, sym, ap, _∙_}
 use mathlib.Core.Bool.{true}
-use Prim.Native.Nat.{ℕ}
 use native.Mathlib.Omega.{arith}
 use borrow.Author.Needs.{needs}
-use Rattle.shelf.specs.declared.Drawn.{Drawn}
+use Rattle.refusal.specs.declared.Refusal.the-variants as refusals
 use Rattle.shelf.specs.declared.Shelf.{Shelf}
 use Rattle.shelf.specs.Page.{nextOf, sound, rootOf, readyHead}
-use Rattle.shelf.specs.Operations.{accepted, paper}
 use Rattle.shelf.proofs.Walks.{next-read}
 use Rattle.shelf.proofs.Soundness.{shelfOf, opened, broken, ready-slot, spare-end}
-use Rattle.shelf.proofs.Operations.{draw-14, draw-15, draw-16, draw-18, draw-accepted, draw-done, root-read}
+use Rattle.shelf.proofs.Operations.{draw-14, draw-15, draw-16, draw-18, draw-accepted, draw-refused, draw-given, draw-done, root-read}
 use Rattle.shelf.proofs.draw.Statement.{statement}
 use Rattle.shelf.proofs.draw.Tie as tie
 
@@ -37,11 +34,10 @@ same-length : tie.Need-same-length
 same-length c = search needs
 
 returns : tie.Need-returns
-unfolding paper
 returns c =
     let x = c .before .before .before .before .before .before .args in
-    ap (λ (t : Drawn). (paper (t .answer), t .root, x .page .now)) (c .refuse .ensures)
-    ∙ sym (draw-14 (x .page .now) (x .count) (broken (x .page .now) (sym (c .before .enum-told .given .1) ∙ c .before .before .before .check .ensures)))
+    draw-refused (x .page .now) (x .count) refusals.Shelf _ (c .refuse .ensures)
+    (draw-14 (x .page .now) (x .count) (broken (x .page .now) (sym (c .before .enum-told .given .1) ∙ c .before .before .before .check .ensures)))
 
 cast-due : tie.Need-cast-due
 cast-due c = search needs
@@ -53,13 +49,12 @@ same-length-2 : tie.Need-same-length-2
 same-length-2 c = search needs
 
 returns-2 : tie.Need-returns-2
-unfolding paper
 returns-2 c =
     let x = c .before .before .before .before .before .before .before .before .before .args in
     let s = c .before .before .before .before .shelf .given .0 .0 in
     let o = taken-apart (c .before .before .before .before) in
-    ap (λ (t : Drawn). (paper (t .answer), t .root, x .page .now)) (c .refuse2 .ensures)
-    ∙ sym (draw-15 (x .page .now) (x .count) (o .0) (λ q. (c .before .if1 .taken) (q ∙ sym (ap (λ (t : Shelf). t .draws) (o .1)))))
+    draw-refused (x .page .now) (x .count) refusals.Count _ (c .refuse2 .ensures)
+    (draw-15 (x .page .now) (x .count) (o .0) (λ q. (c .before .if1 .taken) (q ∙ sym (ap (λ (t : Shelf). t .draws) (o .1)))))
 
 cast-first : tie.Need-cast-first
 cast-first c = search needs
@@ -71,13 +66,12 @@ same-length-3 : tie.Need-same-length-3
 same-length-3 c = search needs
 
 returns-3 : tie.Need-returns-3
-unfolding paper
 returns-3 c =
     let x = c .before .before .before .before .before .before .before .before .before .before .args in
     let s = c .before .before .before .before .before .shelf .given .0 .0 in
     let o = taken-apart (c .before .before .before .before .before) in
-    ap (λ (t : Drawn). (paper (t .answer), t .root, x .page .now)) (c .refuse3 .ensures)
-    ∙ sym (draw-16 (x .page .now) (x .count) (o .0) (c .before .before .if1 .left ∙ ap (λ (t : Shelf). t .draws) (o .1)) (sym (ap (λ (t : Shelf). t .ready) (o .1)) ∙ c .before .if2 .taken))
+    draw-refused (x .page .now) (x .count) refusals.Empty _ (c .refuse3 .ensures)
+    (draw-16 (x .page .now) (x .count) (o .0) (c .before .before .if1 .left ∙ ap (λ (t : Shelf). t .draws) (o .1)) (sym (ap (λ (t : Shelf). t .ready) (o .1)) ∙ c .before .if2 .taken))
 
 refuse-requires-4 : tie.Need-refuse-requires-4
 refuse-requires-4 c κs = search needs
@@ -86,14 +80,13 @@ same-length-4 : tie.Need-same-length-4
 same-length-4 c = search needs
 
 returns-4 : tie.Need-returns-4
-unfolding paper
 returns-4 c =
     let x = c .before .before .before .before .before .before .before .before .before .before .before .args in
     let s = c .before .before .before .before .before .before .shelf .given .0 .0 in
     let o = taken-apart (c .before .before .before .before .before .before) in
     let z : s .ready ≢ 0 = c .before .before .if2 .left in
-    ap (λ (t : Drawn). (paper (t .answer), t .root, x .page .now)) (c .refuse4 .ensures)
-    ∙ sym (draw-18 (x .page .now) (x .count) (o .0) (c .before .before .before .if1 .left ∙ ap (λ (t : Shelf). t .draws) (o .1)) (λ q. z (ap (λ (t : Shelf). t .ready) (o .1) ∙ q))
+    draw-refused (x .page .now) (x .count) refusals.Exhausted _ (c .refuse4 .ensures)
+    (draw-18 (x .page .now) (x .count) (o .0) (c .before .before .before .if1 .left ∙ ap (λ (t : Shelf). t .draws) (o .1)) (λ q. z (ap (λ (t : Shelf). t .ready) (o .1) ∙ q))
     (sym (ap (λ (t : Shelf). t .draws) (o .1)) ∙ c .before .if3 .taken))
 
 slot-at-requires : tie.Need-slot-at-requires
@@ -143,7 +136,6 @@ same-length-5 : tie.Need-same-length-5
 same-length-5 c = search needs
 
 returns-5 : tie.Need-returns-5
-unfolding paper
 returns-5 c =
     let x = c .before .before .before .before .before .before .before .before .before .before .before .before .before .before .before .before .before .before .before .before .before .before .before .before .args in
     let s = c .before .before .before .before .before .before .before .before .before .before .before .before .before .before .before .before .before .before .before .shelf .given .0 .0 in
@@ -153,9 +145,9 @@ returns-5 c =
     let f : c .before .before .before .before .before .before .before .before .before .before .before .read-u16 .result ≡ nextOf p (s .ready) = next-read p (s .ready) _ _ (c .before .before .before .before .before .before .before .before .before .before .before .before .before .slot-at .ensures) (c .before .before .before .before .before .before .before .before .before .before .before .read-u16 .ensures) in
     let r : c .before .before .before .before .before .before .before .before .before .take-root .result ≡ rootOf p (readyHead p) = root-read p s _ _ (o .1) (c .before .before .before .before .before .before .before .before .before .before .before .before .before .slot-at .ensures) (c .before .before .before .before .before .before .before .before .before .take-root .ensures) in
     let d = draw-done p s _ _ _ (o .1) f (c .before .before .before .before .before .before .move-after .ensures) (c .before .before .write-u32 .ensures) in
-    sym (draw-accepted p (x .count) (o .0) (c .before .before .before .before .before .before .before .before .before .before .before .before .before .before .before .before .if1 .left ∙ ap (λ (t : Shelf). t .draws) (o .1)) (λ q. z (ap (λ (t : Shelf). t .ready) (o .1) ∙ q))
-    (λ q. (c .before .before .before .before .before .before .before .before .before .before .before .before .before .before .if3 .left) (ap (λ (t : Shelf). t .draws) (o .1) ∙ q))
-    ∙ ap₂ (λ (a b : List ℕ). (accepted, a, b)) (sym r) (sym d))
+    draw-given p (x .count) _ _ r d
+    (draw-accepted p (x .count) (o .0) (c .before .before .before .before .before .before .before .before .before .before .before .before .before .before .before .before .if1 .left ∙ ap (λ (t : Shelf). t .draws) (o .1)) (λ q. z (ap (λ (t : Shelf). t .ready) (o .1) ∙ q))
+    (λ q. (c .before .before .before .before .before .before .before .before .before .before .before .before .before .before .if3 .left) (ap (λ (t : Shelf). t .draws) (o .1) ∙ q)))
 
 pub draw-spec : {M : Type 1} → statement M
 draw-spec =

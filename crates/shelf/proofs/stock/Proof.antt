@@ -1,15 +1,15 @@
 -- `shelf::stock` meets its contract: each refusal, and the writes of a stocking.
 -- Assumes nothing.
-use mathlib.Core.List.{List}
+use mathlib.Core.List.{List, [], _∷_}
 use mathlib.Core.Logic.{_≢_}
 use mathlib.Core.Bool.{true}
 use mathlib.Core.Path.{_≡_, sym, ap, _∙_}
 use Prim.Native.Nat.{ℕ}
 use native.Mathlib.Omega.{arith}
 use borrow.Author.Needs.{needs}
+use Rattle.refusal.specs.Outcome.{done}
 use Rattle.shelf.specs.declared.Shelf.{Shelf}
 use Rattle.shelf.specs.Page.{nextOf, sound}
-use Rattle.shelf.specs.Operations.{accepted, paper}
 use Rattle.shelf.proofs.Walks.{next-read}
 use Rattle.shelf.proofs.Soundness.{shelfOf, opened, broken, spare-slot}
 use Rattle.shelf.proofs.Operations.{stock-14, stock-6, stock-17, stock-accepted, stock-done}
@@ -33,7 +33,6 @@ same-length : tie.Need-same-length
 same-length c = search needs
 
 returns : tie.Need-returns
-unfolding paper
 returns c =
     let x = c .before .before .before .before .before .before .args in
     sym (stock-14 (x .page .now) (x .root .now) (broken (x .page .now) (sym (c .enum-told .given .1) ∙ c .before .before .check .ensures)))
@@ -42,7 +41,6 @@ same-length-2 : tie.Need-same-length-2
 same-length-2 c = search needs
 
 returns-2 : tie.Need-returns-2
-unfolding paper
 returns-2 c =
     let x = c .before .before .before .before .before .before .before .before .args in
     let s = c .before .before .shelf .given .0 .0 in
@@ -56,7 +54,6 @@ same-length-3 : tie.Need-same-length-3
 same-length-3 c = search needs
 
 returns-3 : tie.Need-returns-3
-unfolding paper
 returns-3 c =
     let x = c .before .before .before .before .before .before .before .before .before .before .args in
     let s = c .before .before .before .before .shelf .given .0 .0 in
@@ -93,7 +90,6 @@ same-length-4 : tie.Need-same-length-4
 same-length-4 c = search needs
 
 returns-4 : tie.Need-returns-4
-unfolding paper
 returns-4 c =
     let x = c .before .before .before .before .before .before .before .before .before .before .before .before .before .before .before .before .before .before .before .before .before .args in
     let s = c .before .before .before .before .before .before .before .before .before .before .before .before .before .before .before .shelf .given .0 .0 in
@@ -102,7 +98,7 @@ returns-4 c =
     let z : s .spare ≢ 0 = c .before .before .before .before .before .before .before .before .before .before .before .if2 .left in
     let f : c .before .before .before .before .before .before .before .before .read-u16 .result ≡ nextOf p (s .spare) = next-read p (s .spare) _ _ (c .before .before .before .before .before .before .before .before .before .slot-at .ensures) (c .before .before .before .before .before .before .before .before .read-u16 .ensures) in
     sym (stock-accepted p (x .root .now) (o .0) (c .before .before .before .before .before .before .before .before .before .before .before .before .before .if1 .left) (λ q. z (ap (λ (t : Shelf). t .spare) (o .1) ∙ q))
-    ∙ ap (λ (q : List ℕ). (accepted, q)) (sym (stock-done p (x .root .now) s _ _ _ (o .1) f (c .before .before .before .before .before .before .put-slot .ensures) (c .before .before .put-heads .ensures))))
+    ∙ ap (λ (q : List ℕ). done (q ∷ [])) (sym (stock-done p (x .root .now) s _ _ _ (o .1) f (c .before .before .before .before .before .before .put-slot .ensures) (c .before .before .put-heads .ensures))))
 
 pub stock-spec : {M : Type 1} → statement M
 stock-spec =
