@@ -13,15 +13,15 @@ use Rattle.bits.specs.Bytes.{leAt, leBytes}
 use Rattle.bits.proofs.Little.{sets-append, length-leBytes, leBytes-lt}
 use Rattle.keccak.specs.declared.sponge.Sponge.{Sponge}
 use Rattle.keccak.specs.declared.sponge.Squeezed.{Squeezed}
+use Rattle.keccak.specs.declared.sponge.SqueezedNumber.{SqueezedNumber}
 use Rattle.keccak.specs.Sponge.{shake256}
-use Rattle.keccak.specs.Steps.{padded, squeezeByte, squeezes, squeezed}
+use Rattle.keccak.specs.Steps.{padded, squeezeByte, squeezes, squeezed, squeezeNumber}
 use Rattle.keccak.proofs.Absorbing.{Bytes}
 use Rattle.keccak.proofs.Steps.{squeezes-length, squeezed-room}
 use Rattle.keccak.proofs.Squeezing.{shake256-steps}
 use Rattle.hashing.specs.Inputs.{boundOf, challengeInput}
 use Rattle.choice.specs.Challenge.{choose, drawn, chosenFrom, partiesOf, beside, instances, hiddenParties, streamOf, challengeOf}
-use Rattle.choice.specs.declared.Number.{Number}
-use Rattle.choice.specs.Steps.{ready, numberFrom}
+use Rattle.choice.specs.Steps.{ready}
 use Rattle.hashing.proofs.Hashes.{bytes-append, bytes-one}
 use Rattle.choice.proofs.Streams.{byte-at, number-at, after-byte, after-number, rest-at}
 
@@ -246,18 +246,18 @@ module _ (M tau : ℕ) (s₀ : Sponge) where
   S = squeezes 136 (9 * tau) s₀
 
   -- one draw more, by the next 8 bytes
-  pub draw-more : (t : ℕ) (s : Sponge) (q : Number) (f f′ : List Bool) → t < tau → s ≡ squeezed 136 (8 * t) s₀ → f ≡ drawn M S t
-      → q ≡ numberFrom s → f′ ≡ choose (q .value % (M - t)) f → f′ ≡ drawn M S (t + 1)
-  unfolding numberFrom
+  pub draw-more : (t : ℕ) (s : Sponge) (q : SqueezedNumber) (f f′ : List Bool) → t < tau → s ≡ squeezed 136 (8 * t) s₀ → f ≡ drawn M S t
+      → q ≡ squeezeNumber 136 s → f′ ≡ choose (q .number % (M - t)) f → f′ ≡ drawn M S (t + 1)
+  unfolding squeezeNumber
   draw-more t s q f f′ w a e n g =
-      let v : q .value ≡ leAt 8 S (8 * t) =
-      ap (λ (z : Number). z .value) n ∙ (ap (λ (z : Sponge). leAt 8 (squeezes 136 8 z) 0) a ∙ sym (number-at (9 * tau) (8 * t) s₀ (omega arith))) in
+      let v : q .number ≡ leAt 8 S (8 * t) =
+      ap (λ (z : SqueezedNumber). z .number) n ∙ (ap (λ (z : Sponge). leAt 8 (squeezes 136 8 z) 0) a ∙ sym (number-at (9 * tau) (8 * t) s₀ (omega arith))) in
       g ∙ (ap₂ (λ (x : ℕ) (z : List Bool). choose (x % (M - t)) z) v e ∙ drawn-more M S t)
 
   -- the sponge after it
-  pub draw-after : (t : ℕ) (s : Sponge) (q : Number) → s ≡ squeezed 136 (8 * t) s₀ → q ≡ numberFrom s → q .sponge ≡ squeezed 136 (8 * (t + 1)) s₀
-  unfolding numberFrom
-  draw-after t s q a n = ap (λ (z : Number). z .sponge) n ∙ after-number t s₀ s a
+  pub draw-after : (t : ℕ) (s : Sponge) (q : SqueezedNumber) → s ≡ squeezed 136 (8 * t) s₀ → q ≡ squeezeNumber 136 s → q .sponge ≡ squeezed 136 (8 * (t + 1)) s₀
+  unfolding squeezeNumber
+  draw-after t s q a n = ap (λ (z : SqueezedNumber). z .sponge) n ∙ after-number t s₀ s a
 
   -- the instances are chosen by the first 8 tau bytes, their parties by the bytes after these
   pub chosen-is : (n : ℕ) (s : Sponge) (f : List Bool) (o : List ℕ) → tau ≤ M → f ≡ drawn M S tau → s ≡ squeezed 136 (8 * tau) s₀
@@ -292,6 +292,6 @@ challenge-is M tau n h g s o p q e k =
     k ∙ ap (λ (z : List ℕ). beside (instances M tau z) (hiddenParties tau n z)) t
 
 -- before the first byte of the challenge's stream
-pub ready-room : (M : List ℕ) (s : Sponge) → s ≡ ready M → s .fill ≤ 136
+pub ready-start : (M : List ℕ) (s : Sponge) → s ≡ ready M → s .fill ≡ 0
 unfolding ready padded
-ready-room M s e = rw e (omega arith)
+ready-start M s e = ap (λ (z : Sponge). z .fill) e

@@ -2,18 +2,15 @@
 -- Assumes nothing.
 use native.Mathlib.Omega.{arith}
 use native.Mathlib.Nat.{zero-add}
-use mathlib.Core.Path.{_≡_, refl, sym, ap, ap₂, _∙_}
-use mathlib.Core.List.{List, _++_}
+use mathlib.Core.Path.{_≡_, refl, sym, ap, _∙_}
 use Prim.Native.Nat.{ℕ, zero, suc, _+_, _*_, _≤_, _<_}
-use lib.ListN.{length, getD, drop, replicate}
+use lib.ListN.{getD, drop}
 use lib.Seq.{drop-at}
 use Rattle.bits.specs.Bytes.{leAt}
 use Rattle.bits.proofs.Little.{leAt-cong}
 use Rattle.keccak.specs.declared.sponge.Sponge.{Sponge}
-use Rattle.keccak.specs.Steps.{squeezeByte, squeezes, squeezed, Given}
+use Rattle.keccak.specs.Steps.{squeezeByte, squeezes, squeezed}
 use Rattle.keccak.proofs.Steps.{squeezed-add, squeezes-add, squeezes-length}
-use Rattle.choice.specs.declared.Number.{Number}
-use Rattle.choice.specs.Steps.{numberFrom}
 
 -- byte k is the next one after k bytes
 pub byte-at : (m k : ℕ) (s : Sponge) → k < m → getD (squeezes 136 m s) k 0 ≡ squeezeByte 136 (squeezed 136 k s) .byte
@@ -44,9 +41,3 @@ after-number t s u e =
 -- what follows the first k bytes
 pub rest-at : (k n : ℕ) (s : Sponge) → drop k (squeezes 136 (k + n) s) ≡ squeezes 136 n (squeezed 136 k s)
 rest-at k n s = ap (drop k) (squeezes-add 136 k n s) ∙ drop-at (squeezes 136 k s) (squeezes 136 n (squeezed 136 k s)) k (squeezes-length 136 k s)
-
--- 8 bytes given out one by one
-pub number-is : (s t : Sponge) (bytes : List ℕ) (x : ℕ) → Given 136 s (replicate 8 0) t bytes → x ≡ leAt 8 bytes 0
-    → _≡_ {A = Number} (record { sponge = t; value = x }) (numberFrom s)
-unfolding numberFrom
-number-is s t bytes x g e = ap₂ (λ (u : Sponge) (v : ℕ). record { sponge = u; value = v }) (g .sponge) (e ∙ ap (λ (b : List ℕ). leAt 8 b 0) (g .bytes))

@@ -4,15 +4,9 @@
 -- Assumes nothing.
 use mathlib.Core.List.{List}
 use Prim.Native.Nat.{ℕ}
-use Rattle.bits.specs.Bytes.{leAt}
 use Rattle.keccak.specs.declared.sponge.Sponge.{Sponge}
-use Rattle.keccak.specs.Steps.{empty, absorbs, padded, squeezes, squeezed}
-use Rattle.choice.specs.declared.Number.{Number}
+use Rattle.keccak.specs.Steps.{empty, absorbs, padded}
 
 -- the sponge that has taken in M and its padding
 unfoldable pub ready : List ℕ → Sponge
 ready M = padded 136 0x1f (absorbs 136 empty M)
-
--- the next 8 bytes as a number, beside the sponge after them
-unfoldable pub numberFrom : Sponge → Number
-numberFrom s = record { sponge = squeezed 136 8 s; value = leAt 8 (squeezes 136 8 s) 0 }

@@ -1,5 +1,5 @@
 // The challenge: its stream, the instances that it chooses, and their hidden parties.
-// The stream is given out byte by byte by a sponge, which is handed on after each byte.
+// The stream is given out by a sponge, which is handed on after each number and each byte taken.
 ghost use mathlib.Core.Path.{_≡_};
 ghost use mathlib.Core.Bool.{false};
 ghost use mathlib.Core.List.{[], _∷_, _++_};
@@ -10,16 +10,10 @@ ghost use lib.ListN.{length, replicate};
 ghost use Rattle.keccak.specs.Steps.{absorbs, squeezes, squeezed};
 ghost use Rattle.hashing.specs.Inputs.{boundOf, challengeInput};
 ghost use Rattle.choice.specs.Challenge.{choose as «choose-at», drawn, chosenFrom, partiesOf, instances, hiddenParties, beside, challengeOf};
-ghost use Rattle.choice.specs.Steps.{ready, numberFrom};
+ghost use Rattle.choice.specs.Steps.{ready};
 use keccak::SHAKE_FIRST;
 use keccak::SHAKE256_RATE;
 use keccak::sponge::Sponge;
-
-// A number given out, and the sponge after it.
-struct Number {
-    sponge: Sponge,
-    value: u64,
-}
 
 // Takes in what the challenge is bound to: the message's length as u16, and the message.
 fn absorb_bound(sponge: Sponge, message: &[u8]) -> Sponge
@@ -43,26 +37,6 @@ fn stream(hstar: &[u8], message: &[u8]) -> Sponge
     absorb_bound(s, message).pad(SHAKE256_RATE, SHAKE_FIRST)
 }
 
-// The next 8 bytes as a number.
-fn next_number(sponge: Sponge) -> Number
-    requires { ⌜ sponge .fill ≤ 136 ⌝ }
-    ensures { λ r. ⌜ r ≡ numberFrom sponge ⌝ }
-{
-    let mut s = sponge;
-    let mut bytes = [0u8; 8];
-    let mut i = 0;
-    while i < 8 {
-        let given = s.squeeze_byte(SHAKE256_RATE);
-        bytes[i] = given.byte;
-        s = given.sponge;
-        i += 1;
-    }
-    Number {
-        sponge: s,
-        value: bits::read_u64(&bytes, 0),
-    }
-}
-
 // Chooses the instance at place x among those not yet chosen, ascending.
 fn choose(flags: &mut [bool], x: usize)
     ensures { λ _. ⌜ now (flags .exit) ≡ «choose-at» x (now (flags .entry)) ⌝ }
@@ -83,7 +57,7 @@ fn choose(flags: &mut [bool], x: usize)
 
 // Makes tau draws from the stream: the flags of the chosen instances. Hands back the sponge after them.
 fn draw(tau: usize, sponge: Sponge, flags: &mut [bool]) -> Sponge
-    requires { ⌜ (sponge .fill ≤ 136) × ((tau ≤ length (now flags)) × (now flags ≡ replicate (length (now flags)) false)) ⌝ }
+    requires { ⌜ (sponge .fill ≡ 0) × ((tau ≤ length (now flags)) × (now flags ≡ replicate (length (now flags)) false)) ⌝ }
     ensures flags { λ _. ⌜ now (flags .exit) ≡ drawn (length (now (flags .entry))) (squeezes 136 (9 * tau) sponge) tau ⌝ }
     ensures sponge { λ r. ⌜ r ≡ squeezed 136 (8 * tau) sponge ⌝ }
 {
@@ -91,10 +65,10 @@ fn draw(tau: usize, sponge: Sponge, flags: &mut [bool]) -> Sponge
     let mut s = sponge;
     let mut t = 0;
     while t < tau {
-        let number = next_number(s);
-        let x = number.value % ((m - t) as u64);
+        let given = s.squeeze_number(SHAKE256_RATE);
+        let x = given.number % ((m - t) as u64);
         choose(flags, x as usize);
-        s = number.sponge;
+        s = given.sponge;
         t += 1;
     }
     s
@@ -130,7 +104,7 @@ fn write_chosen(flags: &[bool], n: u8, sponge: Sponge, out: &mut [u8])
 
 // The chosen instances with their hidden parties, from the stream; the flags are lent, none of them set.
 fn choose_with(tau: usize, n: u8, sponge: Sponge, flags: &mut [bool], out: &mut [u8])
-    requires { ⌜ (sponge .fill ≤ 136) × ((length (now flags) ≤ 512) × ((tau ≤ length (now flags)) × ((0 < n) × ((length (now out) ≡ 3 * tau) × (now flags ≡ replicate (length (now flags)) false))))) ⌝ }
+    requires { ⌜ (sponge .fill ≡ 0) × ((length (now flags) ≤ 512) × ((tau ≤ length (now flags)) × ((0 < n) × ((length (now out) ≡ 3 * tau) × (now flags ≡ replicate (length (now flags)) false))))) ⌝ }
     ensures { λ _. ⌜ now (out .exit) ≡ beside (instances (length (now (flags .entry))) tau (squeezes 136 (9 * tau) sponge)) (hiddenParties tau n (squeezes 136 (9 * tau) sponge)) ⌝ }
 {
     let s = draw(tau, sponge, flags);

@@ -9,8 +9,10 @@ use Prim.Native.Nat.{ℕ, zero, suc, _+_, _-_, _*_, _/_, _%_, _^_}
 use lib.Bits.{bitXor}
 use lib.Dec.{eqb}
 use lib.ListN.{length, getD, set, replicate}
+use Rattle.bits.specs.Bytes.{leAt}
 use Rattle.keccak.specs.declared.sponge.Sponge.{Sponge}
 use Rattle.keccak.specs.declared.sponge.Squeezed.{Squeezed}
+use Rattle.keccak.specs.declared.sponge.SqueezedNumber.{SqueezedNumber}
 use Rattle.permutation.specs.Permutation.{lanes, laneArray, rounds}
 
 -- Keccak-f[1600] on lanes
@@ -71,6 +73,10 @@ squeezes rate (suc n) s = squeezeByte rate s .byte ∷ squeezes rate n (squeezeB
 unfoldable pub squeezed : ℕ → ℕ → Sponge → Sponge
 squeezed rate zero s = s
 squeezed rate (suc n) s = squeezed rate n (squeezeByte rate s .sponge)
+
+-- the next 8 bytes as a number, beside the sponge after them
+unfoldable pub squeezeNumber : ℕ → Sponge → SqueezedNumber
+squeezeNumber rate s = record { sponge = squeezed rate 8 s; number = leAt 8 (squeezes rate 8 s) 0 }
 
 -- what giving out as many bytes as the lent slice has leaves: the sponge after them, and the slice holding them
 pub record Given (rate : ℕ) (s : Sponge) (lent : List ℕ) (after : Sponge) (left : List ℕ) : Type 0 where

@@ -3,8 +3,9 @@
 ghost use mathlib.Core.Path.{_≡_};
 ghost use Prim.Native.Nat.{_+_, _≤_, _<_, _%_, min};
 ghost use lib.ListN.{length};
-ghost use Rattle.keccak.specs.Steps.{empty, turned, absorbByte, absorbs, padded, givenByte, squeezeByte, Given};
+ghost use Rattle.keccak.specs.Steps.{empty, turned, absorbByte, absorbs, padded, givenByte, squeezeByte, squeezeNumber, Given};
 use crate::state::byte_at;
+use crate::state::lane_at;
 use crate::state::xor_byte;
 use crate::state::xor_lanes;
 use rounds::permute;
@@ -19,6 +20,12 @@ pub struct Sponge {
 pub struct Squeezed {
     pub sponge: Sponge,
     pub byte: u8,
+}
+
+// The number in 8 bytes given out, and the sponge after them.
+pub struct SqueezedNumber {
+    pub sponge: Sponge,
+    pub number: u64,
 }
 
 // The lesser of two numbers.
@@ -160,6 +167,21 @@ impl Sponge {
             return self.turn(rate).give();
         }
         self.give()
+    }
+
+    // Gives out the next 8 bytes as a number: at a lane's start they are a lane.
+    pub fn squeeze_number(self, rate: usize) -> SqueezedNumber
+        requires { ⌜ (0 < rate) × ((rate < 200) × ((rate % 8 ≡ 0) × ((self .fill % 8 ≡ 0) × (self .fill ≤ rate)))) ⌝ }
+        ensures { λ r. ⌜ r ≡ squeezeNumber rate self ⌝ }
+    {
+        let mut s = self.turn(rate);
+        let at = s.fill;
+        let x = lane_at(&s.lanes, at / 8);
+        s.fill = at + 8;
+        SqueezedNumber {
+            sponge: s,
+            number: x,
+        }
     }
 
     // Gives out bytes one by one.

@@ -22,7 +22,7 @@ write-chosen-requires c κs =
     let b = c .before .before .before .before .before .before .before .before in
     let x = b .args in
     let d = c .before .before .before .before .draw in (
-      rw (d .ensures .1) (squeezed-room 136 (omega arith) (8 * x .tau) (x .sponge) (b .pre .0)),
+      rw (d .ensures .1) (squeezed-room 136 (omega arith) (8 * x .tau) (x .sponge) (omega (arith, b .pre .0))),
       (
         b .pre .1 .1 .1 .0,
         (

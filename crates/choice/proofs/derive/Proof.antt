@@ -4,7 +4,7 @@ use mathlib.Core.Bool.{false}
 use Rattle.keccak.specs.Steps.{squeezes}
 use Rattle.hashing.specs.Inputs.{boundOf}
 use Rattle.choice.specs.Challenge.{beside, instances, hiddenParties}
-use Rattle.choice.proofs.Choosing.{length-same, all-free, challenge-is, bytes-bound, ready-room}
+use Rattle.choice.proofs.Choosing.{length-same, all-free, challenge-is, bytes-bound, ready-start}
 use native.Mathlib.Omega.{arith}
 use mathlib.Core.Path.{sym, ap, _∙_}
 use Prim.Native.Nat.{ℕ, _*_}
@@ -26,7 +26,7 @@ choose-with-requires c κs =
     let x = c .before .before .before .before .before .before .args in
     let p = c .before .before .before .before .before .before .pre in
     let n = length-same (x .m) 512 false (p .0) in
-    (ready-room _ _ (c .before .before .stream .ensures), (omega (arith, n, p .0), (omega (arith, n, p .1 .0), (p .1 .1 .0, (p .1 .1 .1, all-free (x .m) 512 (p .0))))))
+    (ready-start _ _ (c .before .before .stream .ensures), (omega (arith, n, p .0), (omega (arith, n, p .1 .0), (p .1 .1 .0, (p .1 .1 .1, all-free (x .m) 512 (p .0))))))
 
 same-length : tie.Need-same-length
 same-length c = search needs

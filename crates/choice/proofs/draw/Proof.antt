@@ -1,7 +1,7 @@
 -- `choice::draw` meets its contract: the loop's invariant is that the flags and the sponge are those after t draws.
 -- Assumes nothing.
 use Rattle.keccak.specs.Steps.{squeezes, squeezed}
-use Rattle.keccak.proofs.Steps.{squeezed-room}
+use Rattle.keccak.proofs.Steps.{squeezed-room, squeezed-aligned}
 use Rattle.choice.specs.Challenge.{drawn}
 use Rattle.choice.proofs.Choosing.{drawn-none, draw-more, draw-after, length-drawn}
 use borrow.Author.Needs.{needs}
@@ -25,11 +25,13 @@ loop-holds c =
     let x = b .args in
     (omega arith, (drawn-none (length (x .flags .now)) (squeezes 136 (9 * x .tau) (x .sponge)) (x .flags .now) (b .pre .1 .1), refl))
 
-next-number-requires : tie.Need-next-number-requires Inv-loop μ-loop
-next-number-requires c κs =
+squeeze-number-requires : tie.Need-squeeze-number-requires Inv-loop μ-loop
+squeeze-number-requires c κs =
     let b = c .before .before .before in
     let l = c .before .loop in
-    rw (l .inv .1 .1) (squeezed-room 136 (omega arith) (8 * l .t) (b .args .sponge) (b .pre .0))
+    let room = squeezed-room 136 (omega arith) (8 * l .t) (b .args .sponge) (omega (arith, b .pre .0)) in
+    let start = squeezed-aligned 136 (omega arith) refl (8 * l .t) (b .args .sponge) (omega (arith, b .pre .0)) in
+    (omega arith, (omega arith, (refl, rw (l .inv .1 .1) (omega (arith, start, b .pre .0), room))))
 
 sub-x : tie.Need-sub-x Inv-loop μ-loop
 sub-x c = omega arith
@@ -50,7 +52,7 @@ loop-again : tie.Need-loop-again Inv-loop μ-loop
 loop-again c =
     let x = c .before .before .before .before .before .before .before .before .before .before .args in
     let l = c .before .before .before .before .before .before .before .before .loop in
-    let q = c .before .before .before .before .before .before .next-number in
+    let q = c .before .before .before .before .before .before .squeeze-number in
     let M : ℕ = length (x .flags .now) in (
       omega arith,
       (
@@ -79,7 +81,7 @@ draw-spec =
     Inv-loop
     μ-loop
     loop-holds
-    next-number-requires
+    squeeze-number-requires
     sub-x
     rem-x
     choose-requires
