@@ -50,7 +50,7 @@ unfolding checkLegal
 legal-accepts c y message proof M tau n h eM et en eh a b d e = rw (a, b, d, eM, et, en, eh) e
 
 -- an honest proof, from a witness of y and with counts in their limits
-module _ (c : Circuit) (M tau n : ℕ) (witness message : List ℕ) (masters : ℕ → List ℕ) (sizes : (j : ℕ) → length (masters j) ≡ 16) (y : List ℕ) (hw : Witness c witness) (hy : pack (evaluate c (bitAt witness)) ≡ y)
+module _ (c : Circuit) (M tau n : ℕ) (witness message : List ℕ) (masters : ℕ → List ℕ) (master-size : (j : ℕ) → length (masters j) ≡ 16) (y : List ℕ) (hw : Witness c witness) (hy : pack (evaluate c (bitAt witness)) ≡ y)
     (counts : areCounts M tau ≡ true) (parties : isPartyCount n ≡ true) where
   -- its first message, its challenge, and the proof
   abbrev hstar : List ℕ
@@ -77,17 +77,17 @@ module _ (c : Circuit) (M tau n : ℕ) (witness message : List ℕ) (masters : �
   honest : ProofTests c y proof (headerHstar proof) M n ask
   unfolding firstMessage
   honest = record {
-    size = length-proof c M tau n witness message masters sizes;
-    unused = λ j h. rw (stretch-there c M tau n witness message masters sizes j h) (unused-given c n j height witness (masters j) (sizes j) (ask j) (below j));
+    size = length-proof c M tau n witness message masters master-size;
+    unused = λ j h. rw (stretch-there c M tau n witness message masters master-size j h) (unused-given c n j height witness (masters j) (master-size j) (ask j) (below j));
     output = λ j p h e.
         ap (λ (s : List ℕ). pack (openedRun c n j p s .output))
-        (stretch-there c M tau n witness message masters sizes j h ∙ ap (stretchOf c n j witness (masters j)) e)
-        ∙ (ap pack (opened-output c n j p height (below j p e) witness (masters j) (sizes j) hw) ∙ hy);
+        (stretch-there c M tau n witness message masters master-size j h ∙ ap (stretchOf c n j witness (masters j)) e)
+        ∙ (ap pack (opened-output c n j p height (below j p e) witness (masters j) (master-size j) hw) ∙ hy);
     digest =
         hstar-cong M _ (λ j. masterCommitments c n j (masters j)) _ (λ j. masterOnline c n j witness (masters j))
-        (λ j h. rw (stretch-there c M tau n witness message masters sizes j h) (commitments-given c n j height witness (masters j) (sizes j) (ask j) (below j)))
-        (λ j h. rw (stretch-there c M tau n witness message masters sizes j h) (online-given c n j height witness (masters j) (sizes j) hw (ask j) (below j)))
-        ∙ sym (hstar-there c M tau n witness message masters sizes);
+        (λ j h. rw (stretch-there c M tau n witness message masters master-size j h) (commitments-given c n j height witness (masters j) (master-size j) (ask j) (below j)))
+        (λ j h. rw (stretch-there c M tau n witness message masters master-size j h) (online-given c n j height witness (masters j) (master-size j) hw (ask j) (below j)))
+        ∙ sym (hstar-there c M tau n witness message masters master-size);
   }
 
   -- check accepts it
@@ -96,9 +96,9 @@ module _ (c : Circuit) (M tau n : ℕ) (witness message : List ℕ) (masters : �
   accepts a b =
       let m : M < 65536 = omega (arith, fit .most) in
       let t : tau < 65536 = omega (arith, fit .below) in
-      legal-accepts c y message proof M tau n hstar (M-there c M tau n witness message masters sizes m)
-      (tau-there c M tau n witness message masters sizes t) (n-there c M tau n witness message masters sizes) (hstar-there c M tau n witness message masters sizes) a b
-      (good-there c M tau n witness message masters sizes m t counts parties)
+      legal-accepts c y message proof M tau n hstar (M-there c M tau n witness message masters master-size m)
+      (tau-there c M tau n witness message masters master-size t) (n-there c M tau n witness message masters master-size) (hstar-there c M tau n witness message masters master-size) a b
+      (good-there c M tau n witness message masters master-size m t counts parties)
       (proof-accepted c y proof M n ask honest)
 
 -- every honest proof passes

@@ -125,5 +125,5 @@ challenge-fits c M tau n hstar message h i =
 -- so is that of an honest proof
 pub proof-fits : (c : Circuit) (M tau n : ℕ) (witness message : List ℕ) (masters : ℕ → List ℕ) → ((j : ℕ) → length (masters j) ≡ 16) → areCounts M tau ≡ true → isPartyCount n ≡ true
     → length (proofOf c M tau n witness message masters) ≤ proofRoom c M tau n
-proof-fits c M tau n witness message masters sizes h i =
-    omega (arith, length-proof c M tau n witness message masters sizes, challenge-fits c M tau n (firstMessage c M n witness masters) message h i)
+proof-fits c M tau n witness message masters master-size h i =
+    omega (arith, length-proof c M tau n witness message masters master-size, challenge-fits c M tau n (firstMessage c M n witness masters) message h i)

@@ -25,7 +25,7 @@ unfolding masterOf
 length-master j root = length-shake128 _ 16
 
 -- the proof of M instances, of which tau are chosen, by n parties
-module _ (c : Circuit) (M tau n : ℕ) (witness message : List ℕ) (masters : ℕ → List ℕ) (sizes : (j : ℕ) → length (masters j) ≡ 16) where
+module _ (c : Circuit) (M tau n : ℕ) (witness message : List ℕ) (masters : ℕ → List ℕ) (master-size : (j : ℕ) → length (masters j) ≡ 16) where
   abbrev hstar : List ℕ
   hstar = firstMessage c M n witness masters
 
@@ -46,7 +46,7 @@ module _ (c : Circuit) (M tau n : ℕ) (witness message : List ℕ) (masters : �
   -- the stretch after instance j starts where that of j ends
   next-start : (j : ℕ) → stretchStart c n ask (suc j) ≡ stretchStart c n ask j + length (sent j)
   unfolding stretchStart
-  next-start j = ap (λ (k : ℕ). stretchStart c n ask j + k) (sym (length-stretch c n j witness (masters j) (sizes j) (ask j)))
+  next-start j = ap (λ (k : ℕ). stretchStart c n ask j + k) (sym (length-stretch c n j witness (masters j) (master-size j) (ask j)))
 
   -- the first one starts after the header
   first-start : length (headerOf M tau n hstar) ≡ stretchStart c n ask 0
@@ -62,7 +62,7 @@ module _ (c : Circuit) (M tau n : ℕ) (witness message : List ℕ) (masters : �
   pub stretch-there : (j : ℕ) → j < M → stretchAt c n ask proof j ≡ sent j
   unfolding proofOf responseOf stretchAt
   stretch-there j h =
-      ap (λ (k : ℕ). take k (drop (stretchStart c n ask j) proof)) (sym (length-stretch c n j witness (masters j) (sizes j) (ask j)))
+      ap (λ (k : ℕ). take k (drop (stretchStart c n ask j) proof)) (sym (length-stretch c n j witness (masters j) (master-size j) (ask j)))
       ∙ part-at (headerOf M tau n hstar) sent (stretchStart c n ask) first-start next-start M j h
 
   -- the header is read back
