@@ -9,11 +9,12 @@ use borrow.Author.Tests.{eq-eqb, le-leb}
 use lib.Dec.{eqb}
 use lib.ListN.{length, getD}
 use Rattle.bits.specs.Bytes.{leBytes}
+use Rattle.refusal.specs.Outcome.{Outcome, done}
 use Rattle.parties.specs.Parties.{isPartyCount}
 use Rattle.seeds.specs.declared.Answer.{Answer}
 use Rattle.hashing.specs.Inputs.{boundOf}
 use Rattle.choice.specs.Challenge.{streamOf, instances, hiddenParties, beside, challengeOf, Ascending, more}
-use Rattle.seeds.specs.Operations.{Outcome, outcome, areCounts, challengeOp}
+use Rattle.seeds.specs.Operations.{outcome, areCounts, challengeOp}
 use Rattle.choice.proofs.Challenges.{challenge-sound}
 use Rattle.seeds.proofs.Instances.{Fit, counts-fit}
 use Rattle.instance.specs.Instance.{hiding}
@@ -80,7 +81,7 @@ module _ (M tau n : ℕ) (hstar message : List ℕ) (counts : areCounts M tau �
 -- the operation, where its tests pass
 challenge-passed : (M tau n : ℕ) (hstar message lent : List ℕ) → areCounts M tau ≡ true → isPartyCount n ≡ true → length hstar ≡ 32
     → length message ≤ 4096 → length lent ≡ 3 * tau
-    → challengeOp M tau n hstar message lent ≡ record { number = 0; buffer = challengeOf M tau n hstar (boundOf message) }
+    → challengeOp M tau n hstar message lent ≡ done (challengeOf M tau n hstar (boundOf message) ∷ [])
 unfolding challengeOp
 challenge-passed M tau n hstar message lent counts parties size few room =
     rw (counts, parties, eq-eqb (length hstar) 32 size, le-leb (length message) 4096 few, eq-eqb (length lent) (3 * tau) room)
@@ -90,4 +91,4 @@ pub challenge-done : (M tau n : ℕ) (hstar message lent left : List ℕ) (r : A
     → areCounts M tau ≡ true → isPartyCount n ≡ true → length hstar ≡ 32 → length message ≤ 4096 → length lent ≡ 3 * tau
     → left ≡ challengeOf M tau n hstar (boundOf message)
 challenge-done M tau n hstar message lent left r e counts parties size few room =
-    ap (λ (o : Outcome). o .buffer) (e ∙ challenge-passed M tau n hstar message lent counts parties size few room)
+    ap (λ (o : Outcome). getD (o .left) 0 []) (e ∙ challenge-passed M tau n hstar message lent counts parties size few room)

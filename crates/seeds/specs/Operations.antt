@@ -1,14 +1,14 @@
 -- The operations with their refusals. Document 01: "Hash, expand or open a tree, derive a challenge: 8, 9, 6."
 -- "A refusal returns its number alone, and all lent buffers hold what they held."
 -- Assumes nothing.
-use mathlib.Core.Bool.{Bool, cond, _&&_}
-use mathlib.Core.List.{List}
+use mathlib.Core.Bool.{Bool, _&&_}
+use mathlib.Core.List.{List, [], _∷_}
 use Prim.Native.Nat.{ℕ, _*_}
 use lib.Dec.{eqb, leb, ltb}
 use lib.ListN.{length}
+use Rattle.refusal.specs.Outcome as outcomes
+use Rattle.refusal.specs.Outcome.{refusal, success, Outcome, done, unless}
 use Rattle.refusal.specs.Refusal.{numberOf}
-use Rattle.refusal.specs.declared.Refusal.{Refusal}
-use Rattle.refusal.specs.declared.Refusal.the-variants.{BufferLength, Parameter, Index}
 use Rattle.parties.specs.Parties.{heightOf, isPartyCount}
 use Rattle.seeds.specs.declared.Answer.{Answer}
 use Rattle.seeds.specs.declared.Answer.the-variants.{Done, Refused}
@@ -16,23 +16,14 @@ use Rattle.hashing.specs.Inputs.{boundOf}
 use Rattle.tree.specs.Tree.{leavesBelow, siblingsBelow}
 use Rattle.choice.specs.Challenge.{challengeOf}
 
--- an operation's outcome: 0 or the refusal's number, and the lent buffer
-pub record Outcome : Type 0 where
-  pub number : ℕ
-  pub buffer : List ℕ
+-- a success has no values
+abbrev pub paper : Answer → outcomes.Answer
+paper Done = success []
+paper (Refused r) = refusal (numberOf r)
 
--- the number of an answer: 0 where the operation is done
-abbrev pub paper : Answer → ℕ
-paper Done = 0
-paper (Refused r) = numberOf r
-
--- what an answer and the buffer after it say
+-- the answer, and what the lent buffer then holds
 abbrev pub outcome : Answer → List ℕ → Outcome
-outcome r left = record { number = paper r; buffer = left }
-
--- the test passes, or the operation refuses and the buffer is as it was
-abbrev pub unless : Bool → Refusal → List ℕ → Outcome → Outcome
-unless test r lent outcome = cond test outcome (record { number = numberOf r; buffer = lent })
+outcome r left = record { answer = paper r; left = left ∷ [] }
 
 -- an instance number is a u16
 abbrev pub isInstance : ℕ → Bool
@@ -41,20 +32,20 @@ isInstance j = leb j 65535
 -- expand the tree of j from its master
 unfoldable pub expandOp : ℕ → ℕ → List ℕ → List ℕ → Outcome
 expandOp j n master lent =
-    unless (isInstance j) Parameter lent
-    (unless (isPartyCount n) Parameter lent
-    (unless (eqb (length master) 16) BufferLength lent
-    (unless (eqb (length lent) (16 * n)) BufferLength lent (record { number = 0; buffer = leavesBelow j (heightOf n) 1 master }))))
+    unless (isInstance j) 8 (lent ∷ [])
+    (unless (isPartyCount n) 8 (lent ∷ [])
+    (unless (eqb (length master) 16) 6 (lent ∷ [])
+    (unless (eqb (length lent) (16 * n)) 6 (lent ∷ []) (done (leavesBelow j (heightOf n) 1 master ∷ [])))))
 
 -- open all but leaf p of the tree of j
 unfoldable pub openOp : ℕ → ℕ → ℕ → List ℕ → List ℕ → Outcome
 openOp j n p master lent =
-    unless (isInstance j) Parameter lent
-    (unless (isPartyCount n) Parameter lent
-    (unless (ltb p n) Index lent
-    (unless (eqb (length master) 16) BufferLength lent
-    (unless (eqb (length lent) (16 * heightOf n)) BufferLength lent
-    (record { number = 0; buffer = siblingsBelow j (heightOf n) 1 p master })))))
+    unless (isInstance j) 8 (lent ∷ [])
+    (unless (isPartyCount n) 8 (lent ∷ [])
+    (unless (ltb p n) 9 (lent ∷ [])
+    (unless (eqb (length master) 16) 6 (lent ∷ [])
+    (unless (eqb (length lent) (16 * heightOf n)) 6 (lent ∷ [])
+    (done (siblingsBelow j (heightOf n) 1 p master ∷ []))))))
 
 -- the limits on M, and on the bytes of a message
 abbrev pub maxInstances : ℕ
@@ -70,8 +61,8 @@ areCounts M tau = leb 2 M && (leb M maxInstances && (leb 1 tau && ltb tau M))
 -- derive the challenge from h* and the message
 unfoldable pub challengeOp : ℕ → ℕ → ℕ → List ℕ → List ℕ → List ℕ → Outcome
 challengeOp M tau n hstar message lent =
-    unless (areCounts M tau) Parameter lent
-    (unless (isPartyCount n) Parameter lent
-    (unless (eqb (length hstar) 32) BufferLength lent
-    (unless (leb (length message) maxMessage) BufferLength lent
-    (unless (eqb (length lent) (3 * tau)) BufferLength lent (record { number = 0; buffer = challengeOf M tau n hstar (boundOf message) })))))
+    unless (areCounts M tau) 8 (lent ∷ [])
+    (unless (isPartyCount n) 8 (lent ∷ [])
+    (unless (eqb (length hstar) 32) 6 (lent ∷ [])
+    (unless (leb (length message) maxMessage) 6 (lent ∷ [])
+    (unless (eqb (length lent) (3 * tau)) 6 (lent ∷ []) (done (challengeOf M tau n hstar (boundOf message) ∷ []))))))

@@ -60,11 +60,12 @@ run-status mpcAnswer.Done (mpcAnswer.Refused k) e = not-zero k e
 run-status (mpcAnswer.Refused k) mpcAnswer.Done e = not-zero k (sym e)
 run-status (mpcAnswer.Refused k) (mpcAnswer.Refused l) e = ap mpcAnswer.Refused (numberOf-injective k l e)
 
-derive-number : Injective seeds.paper
-derive-number seedsAnswer.Done seedsAnswer.Done e = refl
-derive-number seedsAnswer.Done (seedsAnswer.Refused k) e = not-zero k e
-derive-number (seedsAnswer.Refused k) seedsAnswer.Done e = not-zero k (sym e)
-derive-number (seedsAnswer.Refused k) (seedsAnswer.Refused l) e = ap seedsAnswer.Refused (numberOf-injective k l e)
+derive-status : Injective (λ a. status (seeds.paper a))
+unfolding status
+derive-status seedsAnswer.Done seedsAnswer.Done e = refl
+derive-status seedsAnswer.Done (seedsAnswer.Refused k) e = not-zero k e
+derive-status (seedsAnswer.Refused k) seedsAnswer.Done e = not-zero k (sym e)
+derive-status (seedsAnswer.Refused k) (seedsAnswer.Refused l) e = ap seedsAnswer.Refused (numberOf-injective k l e)
 
 prove-status : (lent : List ℕ) → Injective (λ a. reported lent (proving.paper a))
 unfolding status values
@@ -94,7 +95,7 @@ shelf-status vs (shelfAnswer.Refused k) (shelfAnswer.Refused l) e = ap shelfAnsw
 -- the C functions say different things of different answers
 pub different-statuses : DifferentStatuses
 different-statuses =
-    record { read = read-status; evaluate = evaluate-status; run = run-status; prove = prove-status; check = check-status; shelf = shelf-status }
+    record { read = read-status; evaluate = evaluate-status; run = run-status; derive = derive-status; prove = prove-status; check = check-status; shelf = shelf-status }
 
 -- and so do the paper's terms
 pub different-answers : DifferentAnswers
@@ -104,7 +105,7 @@ different-answers =
       read = before readPaper (reported []) (read-status []);
       evaluate = before evaluatePaper status evaluate-status;
       run = before mpc.paper status run-status;
-      derive = derive-number;
+      derive = before seeds.paper status derive-status;
       prove = before proving.paper (reported []) (prove-status []);
       check = before checking.paper status check-status;
       shelf = λ vs. before (λ a. shelfPaper a vs) status (shelf-status vs);

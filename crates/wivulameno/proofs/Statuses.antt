@@ -20,7 +20,7 @@ use Rattle.shelf.specs.declared.Answer.the-variants as shelfAnswer
 use Rattle.mpc.specs.Answers.{outcome as mpcOutcome}
 use Rattle.mpc.specs.declared.Answer.{Answer as MpcAnswer}
 use Rattle.mpc.specs.declared.Answer.the-variants as mpcAnswer
-use Rattle.seeds.specs.Operations.{Outcome as SeedsOutcome, paper, outcome as seedsOutcome}
+use Rattle.seeds.specs.Operations.{outcome as seedsOutcome}
 use Rattle.seeds.specs.declared.Answer.{Answer as SeedsAnswer}
 use Rattle.seeds.specs.declared.Answer.the-variants as seedsAnswer
 use Rattle.proving.specs.Answers.{outcome as proveOutcome}
@@ -117,15 +117,20 @@ draw-refused o r k n root p lent e f h =
     (h ∙ ap (λ (x : Outcome). status (x .answer)) g, (ap (λ (x : Outcome). values (x .answer) lent) g, ap (λ (x : Outcome). x .left) g))
 
 -- an operation on seeds that is done
-pub seeds-done : (o : SeedsOutcome) (r : SeedsAnswer) (y : List ℕ) → r ≡ seedsAnswer.Done → seedsOutcome r y ≡ o
-    → (_≡_ {A = ℕ} 0 (o .number)) × (y ≡ o .buffer)
-seeds-done o r y e f = (ap paper (sym e) ∙ ap (λ (x : SeedsOutcome). x .number) f, ap (λ (x : SeedsOutcome). x .buffer) f)
+pub seeds-done : (o : Outcome) (r : SeedsAnswer) (y : List ℕ) → r ≡ seedsAnswer.Done → seedsOutcome r y ≡ o
+    → (_≡_ {A = ℕ} 0 (status (o .answer))) × ((y ∷ []) ≡ o .left)
+unfolding status
+seeds-done o r y e f =
+    let g : seedsOutcome seedsAnswer.Done y ≡ o = ap (λ (x : SeedsAnswer). seedsOutcome x y) (sym e) ∙ f in
+    (ap (λ (x : Outcome). status (x .answer)) g, ap (λ (x : Outcome). x .left) g)
 
 -- an operation on seeds that is refused
-pub seeds-refused : (o : SeedsOutcome) (r : SeedsAnswer) (k : Refusal) (n : ℕ) (y : List ℕ) → r ≡ seedsAnswer.Refused k → seedsOutcome r y ≡ o → n ≡ numberOf k
-    → (n ≡ o .number) × (y ≡ o .buffer)
+pub seeds-refused : (o : Outcome) (r : SeedsAnswer) (k : Refusal) (n : ℕ) (y : List ℕ) → r ≡ seedsAnswer.Refused k → seedsOutcome r y ≡ o → n ≡ numberOf k
+    → (n ≡ status (o .answer)) × ((y ∷ []) ≡ o .left)
+unfolding status
 seeds-refused o r k n y e f h =
-    (h ∙ ap paper (sym e) ∙ ap (λ (x : SeedsOutcome). x .number) f, ap (λ (x : SeedsOutcome). x .buffer) f)
+    let g : seedsOutcome (seedsAnswer.Refused k) y ≡ o = ap (λ (x : SeedsAnswer). seedsOutcome x y) (sym e) ∙ f in
+    (h ∙ ap (λ (x : Outcome). status (x .answer)) g, ap (λ (x : Outcome). x .left) g)
 
 -- a proof that is accepted
 pub check-done : (o : Outcome) (r : CheckAnswer) → r ≡ checkAnswer.Accepted → checkOutcome r ≡ o → _≡_ {A = ℕ} 0 (status (o .answer))

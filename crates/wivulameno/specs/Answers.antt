@@ -34,11 +34,12 @@ pub record DifferentAnswers : Type 0 where
 abbrev pub reported : List ℕ → Answer → ℕ × List ℕ
 reported lent a = (status a, values a lent)
 
--- what their C functions say; expand, open and challenge return the number itself
+-- what their C functions say
 pub record DifferentStatuses : Type 0 where
   pub read : (lent : List ℕ) → Injective (λ a. reported lent (readPaper a))
   pub evaluate : Injective (λ a. status (evaluatePaper a))
   pub run : Injective (λ a. status (mpc.paper a))
+  pub derive : Injective (λ a. status (seeds.paper a))
   pub prove : (lent : List ℕ) → Injective (λ a. reported lent (proving.paper a))
   pub check : Injective (λ a. status (checking.paper a))
   pub shelf : (vs : List ℕ) → Injective (λ a. status (shelfPaper a vs))

@@ -243,7 +243,7 @@ pub extern "C" fn wv_draw(page: &mut [u8], count: u64, root: &mut [u8; 16]) -> u
 // Expands the tree of instance j from its master into its n leaves.
 #[no_mangle]
 pub extern "C" fn wv_expand(j: u32, n: u32, master: &[u8], leaves: &mut [u8]) -> u32
-    ensures { λ r. ⌜ (r ≡ expandOp j n (now (master .entry)) (now (leaves .entry)) .number) × (now (leaves .exit) ≡ expandOp j n (now (master .entry)) (now (leaves .entry)) .buffer) ⌝ }
+    ensures { λ r. ⌜ (r ≡ status (expandOp j n (now (master .entry)) (now (leaves .entry)) .answer)) × (now (leaves .exit) ∷ [] ≡ expandOp j n (now (master .entry)) (now (leaves .entry)) .left) ⌝ }
 {
     let a = seeds::expand(j, n, master, leaves);
     match a {
@@ -255,7 +255,7 @@ pub extern "C" fn wv_expand(j: u32, n: u32, master: &[u8], leaves: &mut [u8]) ->
 // Opens all leaves but p of the tree of instance j.
 #[no_mangle]
 pub extern "C" fn wv_open(j: u32, n: u32, p: u32, master: &[u8], siblings: &mut [u8]) -> u32
-    ensures { λ r. ⌜ (r ≡ openOp j n p (now (master .entry)) (now (siblings .entry)) .number) × (now (siblings .exit) ≡ openOp j n p (now (master .entry)) (now (siblings .entry)) .buffer) ⌝ }
+    ensures { λ r. ⌜ (r ≡ status (openOp j n p (now (master .entry)) (now (siblings .entry)) .answer)) × (now (siblings .exit) ∷ [] ≡ openOp j n p (now (master .entry)) (now (siblings .entry)) .left) ⌝ }
 {
     let a = seeds::open(j, n, p, master, siblings);
     match a {
@@ -274,7 +274,7 @@ pub extern "C" fn wv_challenge(
     message: &[u8],
     out: &mut [u8],
 ) -> u32
-    ensures { λ r. ⌜ (r ≡ challengeOp m tau n (now (hstar .entry)) (now (message .entry)) (now (out .entry)) .number) × (now (out .exit) ≡ challengeOp m tau n (now (hstar .entry)) (now (message .entry)) (now (out .entry)) .buffer) ⌝ }
+    ensures { λ r. ⌜ (r ≡ status (challengeOp m tau n (now (hstar .entry)) (now (message .entry)) (now (out .entry)) .answer)) × (now (out .exit) ∷ [] ≡ challengeOp m tau n (now (hstar .entry)) (now (message .entry)) (now (out .entry)) .left) ⌝ }
 {
     let a = seeds::challenge(m, tau, n, hstar, message, out);
     match a {

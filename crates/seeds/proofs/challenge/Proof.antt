@@ -1,7 +1,8 @@
 -- `seeds::challenge` meets its contract: each refusal in order, and the challenge.
 -- Assumes nothing.
-use mathlib.Core.List.{List}
+use mathlib.Core.List.{List, [], _∷_}
 use borrow.Author.Tests.{lt-leb, le-leb, eq-eqb, ne-eqb, not-true, not-false}
+use Rattle.refusal.specs.Outcome.{done}
 use Rattle.seeds.specs.Operations.{challengeOp}
 use Rattle.parties.proofs.Counts.{sizes, count-yes, count-no}
 use Rattle.seeds.proofs.Instances.{counts-fit}
@@ -72,7 +73,7 @@ unfolding challengeOp
 returns-6 c =
     let x = c .before .before .before .before .before .before .before .before .before .before .before .before .before .before .args in
     rw ((sym (c .before .before .before .before .before .before .before .before .before .before .counts .ensures) ∙ not-false _ (c .before .before .before .before .before .before .before .before .before .if1 .left)), count-yes (x .n) (λ e. c .before .before .before .before .before .before .before .if2 .left (c .before .before .before .before .before .before .before .before .height .ensures ∙ e)), eq-eqb (length (x .hstar .now)) 32 (omega (arith, c .before .before .before .before .before .before .if3 .left)), le-leb (length (x .message .now)) 4096 (omega (arith, c .before .before .before .before .before .if4 .left)), eq-eqb (length (x .out .now)) (3 * x .tau) (omega (arith, c .before .before .before .before .if5 .left)))
-    (ap (λ (o : List ℕ). record { number = 0; buffer = o }) (c .before .before .derive .ensures))
+    (ap (λ (o : List ℕ). done (o ∷ [])) (c .before .before .derive .ensures))
 
 pub challenge-spec : {M : Type 1} → statement M
 challenge-spec =

@@ -1,6 +1,7 @@
 -- `seeds::expand` meets its contract: each refusal in order, and the leaves.
 -- Assumes nothing.
-use mathlib.Core.List.{List}
+use mathlib.Core.List.{List, [], _∷_}
+use Rattle.refusal.specs.Outcome.{done}
 use Rattle.tree.specs.Tree.{leavesBelow}
 use borrow.Author.Tests.{lt-leb, le-leb, eq-eqb, ne-eqb}
 use Rattle.seeds.specs.Operations.{expandOp}
@@ -58,7 +59,7 @@ unfolding expandOp
 returns-5 c =
     let x = c .before .before .before .before .before .before .before .before .before .before .before .args in
     rw (le-leb (x .j) 65535 (omega (arith, c .before .before .before .before .before .before .before .before .if1 .left)), count-yes (x .n) (λ e. c .before .before .before .before .before .before .if2 .left (c .before .before .before .before .before .before .before .height .ensures ∙ e)), eq-eqb (length (x .master .now)) 16 (omega (arith, c .before .before .before .before .before .if3 .left)), eq-eqb (length (x .leaves .now)) (16 * x .n) (omega (arith, c .before .before .before .before .if4 .left)))
-    (ap (λ (o : List ℕ). record { number = 0; buffer = o }) (c .before .before .leaves-below .ensures ∙ ap (λ (h : ℕ). leavesBelow (x .j) h 1 (x .master .now)) (c .before .before .before .before .before .before .before .height .ensures)))
+    (ap (λ (o : List ℕ). done (o ∷ [])) (c .before .before .leaves-below .ensures ∙ ap (λ (h : ℕ). leavesBelow (x .j) h 1 (x .master .now)) (c .before .before .before .before .before .before .before .height .ensures)))
 
 pub expand-spec : {M : Type 1} → statement M
 expand-spec =

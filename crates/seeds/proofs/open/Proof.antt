@@ -1,6 +1,7 @@
 -- `seeds::open` meets its contract: each refusal in order, and the siblings.
 -- Assumes nothing.
-use mathlib.Core.List.{List}
+use mathlib.Core.List.{List, [], _∷_}
+use Rattle.refusal.specs.Outcome.{done}
 use Rattle.tree.specs.Tree.{siblingsBelow}
 use borrow.Author.Tests.{lt-leb, le-leb, lt-ltb, le-ltb, eq-eqb, ne-eqb}
 use Rattle.parties.specs.Parties.{heightOf}
@@ -68,7 +69,7 @@ unfolding openOp
 returns-6 c =
     let x = c .before .before .before .before .before .before .before .before .before .before .before .before .args in
     rw (le-leb (x .j) 65535 (omega (arith, c .before .before .before .before .before .before .before .before .before .if1 .left)), count-yes (x .n) (λ e. c .before .before .before .before .before .before .before .if2 .left (c .before .before .before .before .before .before .before .before .height .ensures ∙ e)), lt-ltb (x .p) (x .n) (omega (arith, c .before .before .before .before .before .before .if3 .left)), eq-eqb (length (x .master .now)) 16 (omega (arith, c .before .before .before .before .before .if4 .left)), eq-eqb (length (x .siblings .now)) (16 * heightOf (x .n)) (omega (arith, c .before .before .before .before .if5 .left, c .before .before .before .before .before .before .before .before .height .ensures)))
-    (ap (λ (o : List ℕ). record { number = 0; buffer = o }) (c .before .before .siblings-below .ensures ∙ ap (λ (h : ℕ). siblingsBelow (x .j) h 1 (x .p) (x .master .now)) (c .before .before .before .before .before .before .before .before .height .ensures)))
+    (ap (λ (o : List ℕ). done (o ∷ [])) (c .before .before .siblings-below .ensures ∙ ap (λ (h : ℕ). siblingsBelow (x .j) h 1 (x .p) (x .master .now)) (c .before .before .before .before .before .before .before .before .height .ensures)))
 
 pub open-spec : {M : Type 1} → statement M
 open-spec =
