@@ -29,7 +29,7 @@ loop-holds : tie.Need-loop-holds Inv-loop μ-loop
 loop-holds c =
     let x = c .before .before .before .before .before .before .before .args in
     let p = c .before .before .before .before .before .before .before .pre .1 .1 .size in
-    (omega arith, (refl, (refl, (refl, (sent-size (circuitOf (x .s .now)) (x .n) (x .witness .now) (mastersOf (x .root .now)) (asksIn (x .n) (x .choices .now)) (x .m) (x .part .now) p, sent-begin (circuitOf (x .s .now)) (x .n) (x .witness .now) (mastersOf (x .root .now)) (asksIn (x .n) (x .choices .now)) (x .m) (x .part .now) p)))))
+    (omega arith, (refl, (refl, (refl, (sent-size (circuitOf (x .s .now)) (x .n) (x .witness .now) (x .root .now) (asksIn (x .n) (x .choices .now)) (x .m) (x .part .now) p, sent-begin (circuitOf (x .s .now)) (x .n) (x .witness .now) (x .root .now) (asksIn (x .n) (x .choices .now)) (x .m) (x .part .now) p)))))
 
 sub-j : tie.Need-sub-j Inv-loop μ-loop
 sub-j c = omega arith
@@ -48,27 +48,27 @@ fits : (c : tie.After-stretch-bytes Inv-loop μ-loop) → c .stretch-bytes .resu
 fits c =
     let x = c .before .before .before .before .before .before .before .before .before .before .before .args in
     let l = c .before .before .before .loop in
-    start-fits (circuitOf (x .s .now)) (x .n) (x .witness .now) (mastersOf (x .root .now)) (x .choices .now) (l .j - 1) (l .j) (c .before .asked .result) (c .stretch-bytes .result) (l .end) (omega (arith, c .before .before .loop-test .taken)) (c .before .asked .ensures) (c .stretch-bytes .ensures) (l .inv .1 .1 .1 .1 .0)
+    start-fits (circuitOf (x .s .now)) (x .n) (x .witness .now) (x .root .now) (x .choices .now) (l .j - 1) (l .j) (c .before .asked .result) (c .stretch-bytes .result) (l .end) (omega (arith, c .before .before .loop-test .taken)) (c .before .asked .ensures) (c .stretch-bytes .ensures) (l .inv .1 .1 .1 .1 .0)
 
 -- there the stretches before it end
 begins : (c : tie.After-stretch-bytes Inv-loop μ-loop) → c .before .before .before .loop .end - c .stretch-bytes .result ≡ length (responseOf (circuitOf (c .before .before .before .before .before .before .before .before .before .before .before .args .s .now)) (c .before .before .before .loop .j - 1) (c .before .before .before .before .before .before .before .before .before .before .before .args .n) (c .before .before .before .before .before .before .before .before .before .before .before .args .witness .now) (mastersOf (c .before .before .before .before .before .before .before .before .before .before .before .args .root .now)) (asksIn (c .before .before .before .before .before .before .before .before .before .before .before .args .n) (c .before .before .before .before .before .before .before .before .before .before .before .args .choices .now)))
 begins c =
     let x = c .before .before .before .before .before .before .before .before .before .before .before .args in
     let l = c .before .before .before .loop in
-    start-is (circuitOf (x .s .now)) (x .n) (x .witness .now) (mastersOf (x .root .now)) (x .choices .now) (l .j - 1) (l .j) (c .before .asked .result) (c .stretch-bytes .result) (l .end) (omega (arith, c .before .before .loop-test .taken)) (c .before .asked .ensures) (c .stretch-bytes .ensures) (l .inv .1 .1 .1 .1 .0)
+    start-is (circuitOf (x .s .now)) (x .n) (x .witness .now) (x .root .now) (x .choices .now) (l .j - 1) (l .j) (c .before .asked .result) (c .stretch-bytes .result) (l .end) (omega (arith, c .before .before .loop-test .taken)) (c .before .asked .ensures) (c .stretch-bytes .ensures) (l .inv .1 .1 .1 .1 .0)
 
 -- the bytes of all stretches
 whole : (c : tie.After-stretch-bytes Inv-loop μ-loop) → length (c .before .before .before .before .before .before .before .before .before .before .before .args .part .now) ≡ length (responseOf (circuitOf (c .before .before .before .before .before .before .before .before .before .before .before .args .s .now)) (c .before .before .before .before .before .before .before .before .before .before .before .args .m) (c .before .before .before .before .before .before .before .before .before .before .before .args .n) (c .before .before .before .before .before .before .before .before .before .before .before .args .witness .now) (mastersOf (c .before .before .before .before .before .before .before .before .before .before .before .args .root .now)) (asksIn (c .before .before .before .before .before .before .before .before .before .before .before .args .n) (c .before .before .before .before .before .before .before .before .before .before .before .args .choices .now)))
 whole c =
     let x = c .before .before .before .before .before .before .before .before .before .before .before .args in
-    sent-size (circuitOf (x .s .now)) (x .n) (x .witness .now) (mastersOf (x .root .now)) (asksIn (x .n) (x .choices .now)) (x .m) (x .part .now) (c .before .before .before .before .before .before .before .before .before .before .before .pre .1 .1 .size)
+    sent-size (circuitOf (x .s .now)) (x .n) (x .witness .now) (x .root .now) (asksIn (x .n) (x .choices .now)) (x .m) (x .part .now) (c .before .before .before .before .before .before .before .before .before .before .before .pre .1 .1 .size)
 
 -- the stretch ends inside
 ends : (c : tie.After-stretch-bytes Inv-loop μ-loop) → c .before .before .before .loop .end ≤ length (c .before .before .before .loop .part)
 ends c =
     let x = c .before .before .before .before .before .before .before .before .before .before .before .args in
     let l = c .before .before .before .loop in
-    omega (arith, whole c, l .inv .1 .0, l .inv .1 .1 .1 .1 .0, sent-inside (circuitOf (x .s .now)) (x .n) (x .witness .now) (mastersOf (x .root .now)) (asksIn (x .n) (x .choices .now)) (l .j - 1) (l .j) (x .m) (omega (arith, c .before .before .loop-test .taken)) (l .inv .0))
+    omega (arith, whole c, l .inv .1 .0, l .inv .1 .1 .1 .1 .0, sent-inside (circuitOf (x .s .now)) (x .n) (x .witness .now) (x .root .now) (asksIn (x .n) (x .choices .now)) (l .j - 1) (l .j) (x .m) (omega (arith, c .before .before .loop-test .taken)) (l .inv .0))
 
 sub-start : tie.Need-sub-start Inv-loop μ-loop
 sub-start c = fits c
@@ -91,7 +91,7 @@ inside c =
     let x = c .before .before .before .before .before .before .before .before .before .before .before .before .args in
     let p = c .before .before .before .before .before .before .before .before .before .before .before .before .pre in
     let l = c .before .before .before .before .loop in
-    omega (arith, l .inv .0, l .inv .1 .0, c .before .before .before .loop-test .taken, onlines-inside (circuitOf (x .s .now)) (x .n) (x .witness .now) (mastersOf (x .root .now)) (asksIn (x .n) (x .choices .now)) (x .m) (x .part .now) (p .1 .1 .size) (x .h) (p .0 .tree))
+    omega (arith, l .inv .0, l .inv .1 .0, c .before .before .before .loop-test .taken, onlines-inside (circuitOf (x .s .now)) (x .n) (x .witness .now) (x .root .now) (asksIn (x .n) (x .choices .now)) (x .m) (x .part .now) (p .1 .1 .size) (x .h) (p .0 .tree))
 
 part-copy-start : tie.Need-part-copy-start Inv-loop μ-loop
 part-copy-start c = omega arith
@@ -135,7 +135,7 @@ stretch-requires c κs =
           party-low (x .n) (l .j - 1) (c .before .before .before .before .before .before .before .before .before .before .asked .result) (x .choices .now) (p .1 .1 .asking) (c .before .before .before .before .before .before .before .before .before .before .asked .ensures),
           (
             c .before .before .before .before .before .copy .ensures
-                ∙ online-there (circuitOf (x .s .now)) (x .n) (x .witness .now) (mastersOf (x .root .now)) (asksIn (x .n) (x .choices .now)) (l .j - 1) (l .j) (x .m) (omega (arith, c .before .before .before .before .before .before .before .before .before .before .before .loop-test .taken)) (l .inv .0) start (l .end) (x .part .now) (l .part) (whole b) (begins b) (l .inv .1 .1 .1 .1 .0) (l .inv .1 .1 .1 .1 .1) (x .h) (32 * (l .j - 1)) (p .0 .tree) (l .inv .1 .0) (p .1 .1 .onlines) refl,
+                ∙ online-there (circuitOf (x .s .now)) (x .n) (x .witness .now) (x .root .now) (asksIn (x .n) (x .choices .now)) (l .j - 1) (l .j) (x .m) (omega (arith, c .before .before .before .before .before .before .before .before .before .before .before .loop-test .taken)) (l .inv .0) start (l .end) (x .part .now) (l .part) (whole b) (begins b) (l .inv .1 .1 .1 .1 .0) (l .inv .1 .1 .1 .1 .1) (x .h) (32 * (l .j - 1)) (p .0 .tree) (l .inv .1 .0) (p .1 .1 .onlines) refl,
             mid-len start (l .end) (l .part) (ends b) ∙ omega (arith, fits b) ∙ b .stretch-bytes .ensures,
           ),
         ),
@@ -161,7 +161,7 @@ loop-again c =
             v .kept .1 .1 .1 .1 .1 .1 .1 .1 .1 .0 ∙ l .inv .1 .1 .1 .0,
             (
               begins b,
-              sent-turn (circuitOf (x .s .now)) (x .n) (x .witness .now) (mastersOf (x .root .now)) (asksIn (x .n) (x .choices .now)) (l .j - 1) (l .j) (x .m) (omega (arith, c .before .before .before .before .before .before .before .before .before .before .before .before .before .before .before .before .before .before .loop-test .taken)) (l .inv .0) start (l .end) (x .part .now) (l .part) (whole b) (begins b) (l .inv .1 .1 .1 .1 .0) (l .inv .1 .1 .1 .1 .1) (v .last .1 .1 .1 .1 .1 .1 .1 .0)
+              sent-turn (circuitOf (x .s .now)) (x .n) (x .witness .now) (x .root .now) (asksIn (x .n) (x .choices .now)) (l .j - 1) (l .j) (x .m) (omega (arith, c .before .before .before .before .before .before .before .before .before .before .before .before .before .before .before .before .before .before .loop-test .taken)) (l .inv .0) start (l .end) (x .part .now) (l .part) (whole b) (begins b) (l .inv .1 .1 .1 .1 .0) (l .inv .1 .1 .1 .1 .1) (v .last .1 .1 .1 .1 .1 .1 .1 .0)
                   (v .ensures ∙ ap (λ (i : ℕ). stretchOf (circuitOf (x .s .now)) (x .n) (l .j - 1) (x .witness .now) (masterOf (l .j - 1) (x .root .now)) (askOf (x .n) i)) (c .before .before .before .before .before .before .before .before .before .before .before .before .before .before .before .before .before .asked .ensures)),
             ),
           ),
@@ -182,7 +182,7 @@ returns : tie.Need-returns Inv-loop μ-loop
 returns c =
     let l = c .before .loop in
     let x = c .before .before .before .before .before .before .before .before .before .args in
-    sent-end (circuitOf (x .s .now)) (x .n) (x .witness .now) (mastersOf (x .root .now)) (asksIn (x .n) (x .choices .now)) (l .j) (x .m) (l .end) (x .part .now) (l .part) (omega (arith, c .loop-test .left)) (l .inv .1 .1 .1 .1 .0) (l .inv .1 .1 .1 .1 .1)
+    sent-end (circuitOf (x .s .now)) (x .n) (x .witness .now) (x .root .now) (asksIn (x .n) (x .choices .now)) (l .j) (x .m) (l .end) (x .part .now) (l .part) (omega (arith, c .loop-test .left)) (l .inv .1 .1 .1 .1 .0) (l .inv .1 .1 .1 .1 .1)
 
 pub respond-spec : {M : Type 1} → statement M
 respond-spec =
