@@ -30,7 +30,7 @@ same-length c = search needs
 returns : tie.Need-returns
 returns c =
     let t = draw-done _ _ _ _ _ (c .before .before .enum-told .given .1) (c .before .before .before .before .before .before .before .draw .ensures .0) in
-    (t .0, (t .1 .0, c .put-given .ensures ∙ t .1 .1))
+    (t .0, (c .put-given .ensures ∙ t .1 .0, t .1 .1))
 
 same-length-2 : tie.Need-same-length-2
 same-length-2 c = search needs
@@ -38,7 +38,7 @@ same-length-2 c = search needs
 returns-2 : tie.Need-returns-2
 returns-2 c =
     let t = draw-refused _ _ _ _ _ _ _ (c .before .before .before .before .a .given .1) (c .before .before .before .before .before .before .before .before .before .draw .ensures .0) (c .number .ensures) in
-    (t .0, (t .1 .0, c .before .put-given2 .ensures ∙ t .1 .1))
+    (t .0, (c .before .put-given2 .ensures ∙ t .1 .0, t .1 .1))
 
 pub wv-draw-spec : {M : Type 1} → statement M
 wv-draw-spec =
