@@ -421,3 +421,23 @@ fn a_full_output_is_told() {
     let ended = folder.sh("wv circuit missing 2> /dev/full");
     assert_eq!(ended.status, 2, "{ended:?}");
 }
+
+/// The help of every command that meets a shelf page tells its two kinds of 15
+/// apart, each with what to do.
+#[test]
+fn help_tells_behind_from_ahead() {
+    let folder = Folder::with_circuit("help_15");
+    for command in ["prove", "shelf stock", "shelf status"] {
+        let ended = folder.wv(&format!("{command} --help"));
+        assert_eq!(ended.status, 0);
+        let text = ended.text().replace('\n', " ");
+        for part in [
+            "Behind: the page has fewer draws than the log counts",
+            "put the present page back",
+            "Ahead: it has more, so the log was set back",
+            "make a new shelf with a new log",
+        ] {
+            assert!(text.contains(part), "{command}: {part:?} is not in {text}");
+        }
+    }
+}

@@ -43,6 +43,11 @@ as a file, as `-` or as `fd:N`.
 
 Refused with 1 to 5 for the circuit, 8 for the three numbers, 6 for a length, 7
 for unused bits, 10 if the witness does not give y, 14 to 18 by the shelf.
+
+15 has two causes. Behind: the page has fewer draws than the log counts, so it
+is old; put the present page back. Ahead: it has more, so the log was set back;
+no page of this shelf can be trusted: make a new shelf with a new log. The first
+stocking or proof that meets a page ahead writes that into the log, for good.
 ",
     example: "  \
   wv prove covers16.circuit covers16.row --shelf shelf.page \\

@@ -66,6 +66,11 @@ shell keeps it in its history.
 
 Refused with 14 for a damaged page, 15 for one that is not present, 6 for a root
 of another length, 17 when there is no room left.
+
+15 has two causes. Behind: the page has fewer draws than the log counts, so it
+is old; put the present page back. Ahead: it has more, so the log was set back;
+no page of this shelf can be trusted: make a new shelf with a new log. The first
+stocking or proof that meets a page ahead writes that into the log, for good.
 ",
     example: "  wv shelf stock shelf.page --log /var/lib/depot/shelf.log --fresh 16\n",
     places: 1,
@@ -131,6 +136,12 @@ A page that cannot be drawn from ends with exit status 1, and with a sentence on
 what to do: refused with 14 if it is damaged, 15 if it is old or the log was set
 back, 18 if it has counted as many draws as it can, and without a number if it
 is no page of this log.
+
+15 has two causes. Behind: the page has fewer draws than the log counts, so it
+is old; put the present page back. Ahead: it has more, so the log was set back;
+no page of this shelf can be trusted: make a new shelf with a new log. The first
+stocking or proof that meets a page ahead writes that into the log, for good; a
+status does not.
 ",
     example: "  wv shelf status shelf.page --log /var/lib/depot/shelf.log\n",
     places: 1,
