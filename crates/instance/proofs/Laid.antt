@@ -9,20 +9,20 @@ use native.Mathlib.Omega.{arith}
 use borrow.Author.Tests.{eq-eqb, ne-eqb}
 use borrow.Rule.Slice.PartMut.{post-is, mid-len}
 use lib.Dec.{eqb}
-use lib.ListN.{length, take, drop, length-append, length-drop, drop-of-length-le}
+use lib.ListN.{length, take, drop, replicate, length-append, length-drop, drop-of-length-le}
 use lib.Seq.{take-at}
 use Rattle.bits.specs.Bits.{oct, unusedZero}
 use Rattle.keccak.proofs.Lengths.{length-sha3-256}
 use Rattle.parties.specs.Parties.{heightOf}
 use Rattle.circuit.specs.File.{circuitOf}
 use Rattle.engine.specs.Steps.{packed}
-use Rattle.mpc.specs.Steps.{Known, Parties}
+use Rattle.mpc.specs.Steps.{Known, Parties, worked}
 use Rattle.mpc.proofs.Opened.{sized, circuit-inputs, circuit-outputs, circuit-ands, ands-low}
 use Rattle.party.specs.Derive.{commitmentOf}
 use Rattle.tree.specs.Tree.{siblingsBelow}
 use Rattle.instance.specs.Instance.{hiding, masterSeeds, masterTapes, masterCorrections, masterRun, masterMasked, sentCorrections, stretchOf}
 use Rattle.instance.specs.Stretch.{correctionBytes, stretchBytes}
-use Rattle.instance.specs.Steps.{worked, Tree}
+use Rattle.instance.specs.Steps.{Tree}
 use Rattle.instance.proofs.Sent.{tree-sizes, row-made}
 
 -- x is written at a place
@@ -114,7 +114,7 @@ module _ (s : List ℕ) (i o g a n h p v : ℕ) (k : Known s (sized i o g a)) (t
   -- the stretch is as stated
   module _ (j Z : ℕ) (w master : List ℕ) (parties : Parties n) (room : 64 * (i + g) + 4096 ≤ Z) (unused : unusedZero i w ≡ true) where
     pub stretch-made : (sd co r m z1 x y u z5 part S C : List ℕ) (l : ℕ) → S ≡ sd → C ≡ co → sd ≡ masterSeeds n j master → co ≡ masterCorrections (circuitOf s) n j master
-        → length co ≡ oct a → m ≡ worked s n w (masterTapes (circuitOf s) n j master) Z
+        → length co ≡ oct a → m ≡ worked s (sized i o g a) n w (masterTapes (circuitOf s) n j master) (replicate Z 0)
         → z1 ≡ siblingsBelow j h 1 p master → x ≡ take v (co ++ r) → y ≡ commitmentOf j n p S C → u ≡ masterMasked (circuitOf s) n j w master
         → l ≡ oct (a + o) → z5 ≡ packed m (48 * (i + g) + p) (a + o) l → part ≡ z1 ++ x ++ y ++ u ++ z5
         → part ≡ stretchOf (circuitOf s) n j w master (hiding p)

@@ -13,19 +13,17 @@ use Rattle.bits.specs.Bits.{tabulate, oct, pack, unusedZero}
 use Rattle.bits.specs.Bytes.{sameBytes}
 use Rattle.bits.proofs.Tabulate.{tabulate-cong}
 use Rattle.parties.specs.Parties.{heightOf}
-use Rattle.circuit.specs.Circuit.{ands}
-use Rattle.circuit.specs.File.{inputsOf, outputsOf, gatesOf, headOf, gatesInOrder, circuitOf}
-use Rattle.circuit.specs.Steps.{Legal}
+use Rattle.circuit.specs.File.{headOf, circuitOf}
 use Rattle.engine.specs.Steps.{packed, packedRows}
 use Rattle.mpc.specs.Tapes.{andsOf}
 use Rattle.mpc.specs.Showing.{correctionBits, Showing, rowsOf, replayOf}
-use Rattle.mpc.specs.Steps.{Known, Parties}
+use Rattle.mpc.specs.Steps.{Known, Parties, loaded, gatesRun, outputsRun, valuesRun, prepared, opened, replayed, replayedValues}
 use Rattle.mpc.proofs.Agreement.{replay-rows-agree, replay-output-agrees}
 use Rattle.party.specs.Derive.{commitmentOf}
 use Rattle.instance.specs.Instance.{hiding, tapesOf, commitmentsDigest, onlineDigest, commitmentsOf, masterSeeds, masterTapes, masterCorrections, masterCommitments}
 use Rattle.instance.specs.Stretch.{stretchBytes, correctionsPart, commitmentPart}
 use Rattle.instance.specs.Opened.{openedSeeds, openedCommitments, openedShowing, openedRun, stretchCommitments, stretchOnline, stretchOutput}
-use Rattle.instance.specs.Steps.{broughtIn, replayedGates, replayed, replayedValues, Tree}
+use Rattle.instance.specs.Steps.{Tree}
 use Rattle.instance.proofs.Checks.{sent-bytes, commitment-is, masked-are, row-is}
 use Rattle.mpc.proofs.Opened.{sized}
 
@@ -51,42 +49,27 @@ module _ (s : List ℕ) (i o g a : ℕ) (k : Known s (sized i o g a)) (n p : ℕ
   abbrev shown : Showing
   shown = record { tapes = tapes; corrections = corr; maskedInputs = masked; row = row }
 
-  -- the file's own sizes
-  own : Legal s (inputsOf s) (outputsOf s) (gatesOf s)
-  own = rw (← k .legal .laid .inputs, ← k .legal .laid .outputs, ← k .legal .laid .gates) (k .legal)
-
-  -- its wires
-  wires : i + g ≡ inputsOf s + gatesOf s
-  wires = ap₂ _+_ (k .legal .laid .inputs) (k .legal .laid .gates)
-
-  -- the masked inputs have no unused bits
-  clear : unusedZero (inputsOf s) masked ≡ true
-  clear = ap (λ (x : ℕ). unusedZero x masked) (sym (k .legal .laid .inputs)) ∙ unused
-
   -- the broadcast rows
-  rows-replayed : packedRows (i + g) (replayed s n p tapes corr masked row z) n (a + o) (oct (a + o)) ≡ rowsOf n (replayOf (circuitOf s) n p shown)
-  unfolding replayed replayedGates broughtIn replayOf
+  rows-replayed : packedRows (i + g) (replayed s (sized i o g a) n p shown (replicate z 0)) n (a + o) (oct (a + o)) ≡ rowsOf n (replayOf (circuitOf s) n p shown)
+  unfolding replayed outputsRun gatesRun opened loaded replayOf
   rows-replayed =
-      ap₂ (λ (w u : ℕ). packedRows w (replayed s n p tapes corr masked row z) n u (oct u)) wires (ap₂ _+_ (k .ands) (k .legal .laid .outputs))
-      ∙ replay-rows-agree s (inputsOf s) (outputsOf s) (gatesOf s) (ands (gatesInOrder s)) (headOf s) n z own refl refl (parties .some) (parties .few)
-      (omega (arith, wires, room)) tapes p corr masked row l clear
+      replay-rows-agree s i o g a (headOf s) n z (k .legal) refl (k .ands) (parties .some) (parties .few) room tapes p corr masked row l unused
 
   -- the output
-  output-replayed : packed (replayedValues s n p tapes corr masked row z) 0 o (oct o) ≡ pack (replayOf (circuitOf s) n p shown .output)
-  unfolding replayedValues replayedGates broughtIn replayOf
+  output-replayed : packed (replayedValues s (sized i o g a) n p shown (replicate z 0) (replicate 4096 0)) 0 o (oct o)
+      ≡ pack (replayOf (circuitOf s) n p shown .output)
+  unfolding replayedValues valuesRun gatesRun opened loaded replayOf
   output-replayed =
-      ap (λ (u : ℕ). packed (replayedValues s n p tapes corr masked row z) 0 u (oct u)) (k .legal .laid .outputs)
-      ∙ replay-output-agrees s (inputsOf s) (outputsOf s) (gatesOf s) (ands (gatesInOrder s)) (headOf s) n z own refl refl (parties .some) (parties .few)
-      (omega (arith, wires, room)) tapes p corr masked row l clear
+      replay-output-agrees s i o g a (headOf s) n z (k .legal) refl (k .ands) (parties .some) (parties .few) room tapes p corr masked row l unused
 
   -- whether it is y
-  pub agrees-made : (values y : List ℕ) (r : Bool) → values ≡ replayedValues s n p tapes corr masked row z → r ≡ sameBytes (packed values 0 o (oct o)) y
+  pub agrees-made : (values y : List ℕ) (r : Bool) → values ≡ replayedValues s (sized i o g a) n p shown (replicate z 0) (replicate 4096 0) → r ≡ sameBytes (packed values 0 o (oct o)) y
       → r ≡ sameBytes (pack (replayOf (circuitOf s) n p shown .output)) y
   agrees-made values y r e q =
       q ∙ ap (λ (v : List ℕ). sameBytes (packed v 0 o (oct o)) y) e ∙ ap (λ (v : List ℕ). sameBytes v y) output-replayed
 
   -- the digest over the rows
-  pub online-made : (j : ℕ) (memory r : List ℕ) → memory ≡ replayed s n p tapes corr masked row z
+  pub online-made : (j : ℕ) (memory r : List ℕ) → memory ≡ replayed s (sized i o g a) n p shown (replicate z 0)
       → r ≡ onlineDigest j masked (packedRows (i + g) memory n (a + o) (oct (a + o))) → r ≡ onlineDigest j masked (rowsOf n (replayOf (circuitOf s) n p shown))
   online-made j memory r e q =
       q ∙ ap (λ (v : List ℕ). onlineDigest j masked (packedRows (i + g) v n (a + o) (oct (a + o)))) e ∙ ap (onlineDigest j masked) rows-replayed
@@ -138,7 +121,7 @@ module _ (s : List ℕ) (i o g a : ℕ) (k : Known s (sized i o g a)) (n h j p :
     }
 
     -- it is what the stretch shows
-    lent-shown : lent ≡ openedShowing (circuitOf s) n j p part
+    pub lent-shown : lent ≡ openedShowing (circuitOf s) n j p part
     unfolding openedShowing
     lent-shown =
         let t : take c (corr ++ w) ≡ openedShowing (circuitOf s) n j p part .corrections = take-at corr w c (full ∙ sym all) ∙ as-shown in
@@ -167,6 +150,12 @@ committed-all n j theirs seeds corr =
     ap flatten
     (tabulate-cong n (λ i. cond (eqb i n) theirs (commitmentOf j n i seeds corr)) (λ i. commitmentOf j n i seeds corr)
     (λ i l. rw (ne-eqb i n (λ e. omega (arith, e, l)))))
+
+-- its tapes
+pub master-tapes : (s : List ℕ) (n j m : ℕ) (master seeds tapes v : List ℕ) → seeds ≡ masterSeeds n j master → length seeds ≡ m
+    → tapes ≡ tapesOf (circuitOf s) n j (take m (seeds ++ v)) → tapes ≡ masterTapes (circuitOf s) n j master
+unfolding masterTapes
+master-tapes s n j m master seeds tapes v e l t = t ∙ ap (tapesOf (circuitOf s) n j) (take-at seeds v m l ∙ e)
 
 -- h_j from its master
 pub master-made : (s : List ℕ) (n j m c : ℕ) (master theirs seeds tapes corr v w r : List ℕ) → seeds ≡ masterSeeds n j master → length seeds ≡ m

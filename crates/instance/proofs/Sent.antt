@@ -14,19 +14,19 @@ use Rattle.bits.specs.Bits.{tabulate, oct, pack, unusedZero}
 use Rattle.bits.proofs.Tabulate.{tabulate-cong, tabulate-getD}
 use Rattle.parties.proofs.Counts.{Sizes, sizes, count-no}
 use Rattle.circuit.specs.Circuit.{Gate, xor, and, inv, Circuit, ands}
-use Rattle.circuit.specs.File.{inputsOf, outputsOf, headOf, circuitOf}
-use Rattle.engine.specs.Steps.{Room, walked, spoken, packed, packedRows, loadedTapes, maskedInputs}
+use Rattle.circuit.specs.File.{headOf, circuitOf}
+use Rattle.engine.specs.Steps.{Room, packed, packedRows}
 use Rattle.mpc.specs.Run.{Column, next, Hearing, outputs, run}
 use Rattle.mpc.specs.Tapes.{andsOf}
 use Rattle.mpc.specs.Showing as shown
 use Rattle.mpc.specs.Showing.{correctionBits, runWith, runOn, honestRun, rowBits, rowsOf, firstBits}
-use Rattle.mpc.specs.Steps.{Known, Parties}
+use Rattle.mpc.specs.Steps.{Known, Parties, loaded, gatesRun, outputsRun, worked}
 use Rattle.mpc.proofs.Agreement.{show-corrections-agree, show-row-agrees, show-rows-agree}
 use Rattle.mpc.proofs.Opened.{sized, circuit-outputs, circuit-ands, ands-low, room}
 use Rattle.mpc.proofs.Asks.{ands-few}
 use Rattle.party.specs.Derive.{commitmentOf}
 use Rattle.instance.specs.Instance.{tapesOf, commitmentsDigest, onlineDigest, commitmentsOf, masterSeeds, masterTapes, masterCorrections, masterCommitments, masterRun, masterMasked, masterOnline}
-use Rattle.instance.specs.Steps.{broughtIn, worked, Tree}
+use Rattle.instance.specs.Steps.{Tree}
 
 -- a party count
 false-true : false ≡ true → ⊥
@@ -68,44 +68,35 @@ length-honest c n p w tapes = length-row n (c .outputs) (c .gates) _ _ _ _ _ p
 -- the work memory of Z bytes after the run
 module _ (s : List ℕ) (i o g a n Z : ℕ) (w tapes : List ℕ) (k : Known s (sized i o g a)) (parties : Parties n) (room : 64 * (i + g) + 4096 ≤ Z)
     (unused : unusedZero i w ≡ true) where
-  -- in the numbers that the code carries
-  abbrev made : ℕ → ℕ → ℕ → ℕ → List ℕ
-  made i o g a =
-      spoken (i + g) n n a s o
-      (walked (i + g) n n true s g (headOf s) 0 (maskedInputs (i + g) n i w (loadedTapes (i + g) i a (oct (i + 2 * a)) tapes n (replicate Z 0))))
-
-  worked-is : worked s n w tapes Z ≡ made i o g a
-  unfolding worked broughtIn
-  worked-is =
-      sym
-      (ap₂ (λ (x y : ℕ). made x y g a) (k .legal .laid .inputs) (k .legal .laid .outputs)
-      ∙ ap₂ (made (inputsOf s) (outputsOf s)) (k .legal .laid .gates) (k .ands))
+  -- the memory that is left
+  abbrev left : List ℕ
+  left = worked s (sized i o g a) n w tapes (replicate Z 0)
 
   -- its corrections
-  corrections-made : packed (worked s n w tapes Z) (16 * (i + g) + 1) a (oct a) ≡ pack (correctionBits (circuitOf s) n tapes)
+  corrections-made : packed left (16 * (i + g) + 1) a (oct a) ≡ pack (correctionBits (circuitOf s) n tapes)
+  unfolding worked outputsRun gatesRun loaded
   corrections-made =
-      ap (λ (m : List ℕ). packed m (16 * (i + g) + 1) a (oct a)) worked-is
-      ∙ show-corrections-agree s i o g a (headOf s) n Z (k .legal) refl (k .ands) (parties .some) (parties .few) room tapes w unused
+      show-corrections-agree s i o g a (headOf s) n Z (k .legal) refl (k .ands) (parties .some) (parties .few) room tapes w unused
 
   -- its broadcast rows
-  pub rows-made : packedRows (i + g) (worked s n w tapes Z) n (a + o) (oct (a + o)) ≡ rowsOf n (honestRun (circuitOf s) n w tapes)
+  pub rows-made : packedRows (i + g) left n (a + o) (oct (a + o)) ≡ rowsOf n (honestRun (circuitOf s) n w tapes)
+  unfolding worked outputsRun gatesRun loaded
   rows-made =
-      ap (λ (m : List ℕ). packedRows (i + g) m n (a + o) (oct (a + o))) worked-is
-      ∙ show-rows-agree s i o g a (headOf s) n Z (k .legal) refl (k .ands) (parties .some) (parties .few) room tapes w unused
+      show-rows-agree s i o g a (headOf s) n Z (k .legal) refl (k .ands) (parties .some) (parties .few) room tapes w unused
 
   -- one of them
-  pub row-made : (p : ℕ) → p < n → packed (worked s n w tapes Z) (48 * (i + g) + p) (a + o) (oct (a + o)) ≡ pack (rowBits (honestRun (circuitOf s) n w tapes) p)
+  pub row-made : (p : ℕ) → p < n → packed left (48 * (i + g) + p) (a + o) (oct (a + o)) ≡ pack (rowBits (honestRun (circuitOf s) n w tapes) p)
+  unfolding worked outputsRun gatesRun loaded
   row-made p l =
-      ap (λ (m : List ℕ). packed m (48 * (i + g) + p) (a + o) (oct (a + o))) worked-is
-      ∙ show-row-agrees s i o g a (headOf s) n Z (k .legal) refl (k .ands) (parties .some) (parties .few) room tapes w unused p (a + o) l (omega arith)
+      show-row-agrees s i o g a (headOf s) n Z (k .legal) refl (k .ands) (parties .some) (parties .few) room tapes w unused p (a + o) l (omega arith)
       ∙ ap pack
       (first-all (a + o) (rowBits (honestRun (circuitOf s) n w tapes) p)
       (length-honest (circuitOf s) n p w tapes ∙ ap₂ (λ (x y : ℕ). x + y) (circuit-ands s i o g a k) (circuit-outputs s i o g a k)))
 
   -- what an instance leaves: seeds sd, tapes, masked inputs mk, memory m, corrections x
   pub instance-made : (j : ℕ) (master sd mk m x : List ℕ) (l : ℕ) → sd ≡ masterSeeds n j master → tapes ≡ tapesOf (circuitOf s) n j sd
-      → mk ≡ shown.maskedInputs (circuitOf s) n w tapes → m ≡ worked s n w tapes Z → l ≡ oct a → x ≡ packed m (16 * (i + g) + 1) a l
-      → (sd ≡ masterSeeds n j master) × ((x ≡ masterCorrections (circuitOf s) n j master) × ((mk ≡ masterMasked (circuitOf s) n j w master) × (m ≡ worked s n w (masterTapes (circuitOf s) n j master) Z)))
+      → mk ≡ shown.maskedInputs (circuitOf s) n w tapes → m ≡ left → l ≡ oct a → x ≡ packed m (16 * (i + g) + 1) a l
+      → (sd ≡ masterSeeds n j master) × ((x ≡ masterCorrections (circuitOf s) n j master) × ((mk ≡ masterMasked (circuitOf s) n j w master) × ((tapes ≡ masterTapes (circuitOf s) n j master) × (m ≡ worked s (sized i o g a) n w (masterTapes (circuitOf s) n j master) (replicate Z 0)))))
   unfolding masterTapes masterCorrections masterMasked
   instance-made j master sd mk m x l e1 e2 e3 e4 e5 e6 =
       let t : tapes ≡ tapesOf (circuitOf s) n j (masterSeeds n j master) = e2 ∙ ap (tapesOf (circuitOf s) n j) e1 in (
@@ -113,7 +104,7 @@ module _ (s : List ℕ) (i o g a n Z : ℕ) (w tapes : List ℕ) (k : Known s (s
         (
           e6 ∙ ap₂ (λ (y : List ℕ) (q : ℕ). packed y (16 * (i + g) + 1) a q) e4 e5 ∙ corrections-made
               ∙ ap (λ (y : List ℕ). pack (correctionBits (circuitOf s) n y)) t,
-          (e3 ∙ ap (shown.maskedInputs (circuitOf s) n w) t, e4 ∙ ap (λ (y : List ℕ). worked s n w y Z) t),
+          (e3 ∙ ap (shown.maskedInputs (circuitOf s) n w) t, (t, e4 ∙ ap (λ (y : List ℕ). worked s (sized i o g a) n w y (replicate Z 0)) t)),
         ),
       )
 
@@ -121,7 +112,7 @@ module _ (s : List ℕ) (i o g a n Z : ℕ) (w tapes : List ℕ) (k : Known s (s
 module _ (s : List ℕ) (i o g a n Z j : ℕ) (w master : List ℕ) (k : Known s (sized i o g a)) (parties : Parties n) (room : 64 * (i + g) + 4096 ≤ Z)
     (unused : unusedZero i w ≡ true) where
   pub digests-made : (theirs S C M m x y : List ℕ) → S ≡ masterSeeds n j master → C ≡ masterCorrections (circuitOf s) n j master
-      → M ≡ masterMasked (circuitOf s) n j w master → m ≡ worked s n w (masterTapes (circuitOf s) n j master) Z
+      → M ≡ masterMasked (circuitOf s) n j w master → m ≡ worked s (sized i o g a) n w (masterTapes (circuitOf s) n j master) (replicate Z 0)
       → x ≡ commitmentsDigest j (flatten (tabulate n (λ t. cond (eqb t n) theirs (commitmentOf j n t S C))))
       → y ≡ onlineDigest j M (packedRows (i + g) m n (a + o) (oct (a + o)))
       → (x ≡ masterCommitments (circuitOf s) n j master) × (y ≡ masterOnline (circuitOf s) n j w master)

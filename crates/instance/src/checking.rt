@@ -3,14 +3,14 @@ ghost use mathlib.Core.Path.{_≡_};
 ghost use mathlib.Core.Bool.{true, cond};
 ghost use Prim.Native.Nat.{suc, _+_, _*_, _≤_, _<_};
 ghost use lib.Dec.{eqb};
-ghost use lib.ListN.{length};
+ghost use lib.ListN.{length, replicate};
 ghost use Rattle.bits.specs.Bits.{oct, pack, unusedZero};
 ghost use Rattle.bits.specs.Bytes.{sameBytes};
 ghost use Rattle.circuit.specs.File.{circuitOf};
 ghost use Rattle.mpc.specs.Showing.{rowsOf, replayOf};
 ghost use Rattle.engine.specs.Steps.{wireCount};
-ghost use Rattle.mpc.specs.Steps.{Known, Parties, ShowingFits, TapesFit};
-ghost use Rattle.instance.specs.Instance.{onlineDigest, masterCommitments, hiding};
+ghost use Rattle.mpc.specs.Steps.{Known, Parties, ShowingFits, TapesFit, prepared, replayed as «replayed-memory»};
+ghost use Rattle.instance.specs.Instance.{onlineDigest, masterTapes, masterCommitments, hiding};
 ghost use Rattle.instance.specs.Stretch.{stretchBytes};
 ghost use Rattle.instance.specs.Opened.{openedSeeds, openedShowing, stretchCommitments, stretchOnline, stretchUnused, stretchOutput};
 ghost use Rattle.instance.specs.Steps.{Tree, Lent};
@@ -40,6 +40,8 @@ pub fn reopen(
 ) -> [u8; 32]
     requires { ⌜ Lent (now s) z (inst .parties) (inst .height) (now tapes) (now memory) × (length (now master) ≡ 16) ⌝ }
     ensures { λ r. ⌜ r ≡ masterCommitments (circuitOf (now (s .entry))) (inst .parties) (inst .number) (now (master .entry)) ⌝ }
+    ensures { λ _. ⌜ now (tapes .exit) ≡ masterTapes (circuitOf (now (s .entry))) (inst .parties) (inst .number) (now (master .entry)) ⌝ }
+    ensures { λ _. ⌜ now (memory .exit) ≡ prepared (now (s .entry)) z (inst .parties) (masterTapes (circuitOf (now (s .entry))) (inst .parties) (inst .number) (now (master .entry))) (replicate (length (now (memory .entry))) 0) ⌝ }
 {
     let n = inst.parties;
     let k = n as usize;
@@ -127,6 +129,7 @@ fn rerun(
 ) -> Replayed
     requires { ⌜ Known (now s) z × (Parties n × ((p < n) × (ShowingFits z n (now tapes) (now corrections) (now masked) (now row) × ((unusedZero (z .inputs) (now masked) ≡ true) × (64 * wireCount z + 4096 ≤ length (now memory)))))) ⌝ }
     ensures { λ r. ⌜ (r .agrees ≡ sameBytes (pack (replayOf (circuitOf (now (s .entry))) n p (record { tapes = now (tapes .entry); corrections = now (corrections .entry); maskedInputs = now (masked .entry); row = now (row .entry) }) .output)) (now (y .entry))) × ((r .commitments ≡ commitments) × (r .online ≡ onlineDigest j (now (masked .entry)) (rowsOf n (replayOf (circuitOf (now (s .entry))) n p (record { tapes = now (tapes .entry); corrections = now (corrections .entry); maskedInputs = now (masked .entry); row = now (row .entry) }))))) ⌝ }
+    ensures { λ _. ⌜ now (memory .exit) ≡ «replayed-memory» (now (s .entry)) z n p (record { tapes = now (tapes .entry); corrections = now (corrections .entry); maskedInputs = now (masked .entry); row = now (row .entry) }) (replicate (length (now (memory .entry))) 0) ⌝ }
 {
     let mut values = [0u8; 4096];
     rework(
@@ -163,6 +166,8 @@ pub fn replay(
 ) -> Replayed
     requires { ⌜ Lent (now s) z (inst .parties) (inst .height) (now tapes) (now memory) × ((p < inst .parties) × ((length (now part) ≡ stretchBytes (circuitOf (now s)) (inst .parties) (hiding p)) × (stretchUnused (circuitOf (now s)) (inst .parties) (now part) (hiding p) ≡ true))) ⌝ }
     ensures { λ r. ⌜ (r .agrees ≡ stretchOutput (circuitOf (now (s .entry))) (inst .parties) (inst .number) (now (y .entry)) (now (part .entry)) (hiding p)) × ((r .commitments ≡ stretchCommitments (circuitOf (now (s .entry))) (inst .parties) (inst .number) (now (part .entry)) (hiding p)) × (r .online ≡ stretchOnline (circuitOf (now (s .entry))) (inst .parties) (inst .number) (now (part .entry)) (hiding p))) ⌝ }
+    ensures { λ _. ⌜ now (tapes .exit) ≡ openedShowing (circuitOf (now (s .entry))) (inst .parties) (inst .number) p (now (part .entry)) .tapes ⌝ }
+    ensures { λ _. ⌜ now (memory .exit) ≡ «replayed-memory» (now (s .entry)) z (inst .parties) p (openedShowing (circuitOf (now (s .entry))) (inst .parties) (inst .number) p (now (part .entry))) (replicate (length (now (memory .entry))) 0) ⌝ }
 {
     let j = inst.number;
     let n = inst.parties;

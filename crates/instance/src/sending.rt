@@ -2,13 +2,13 @@
 ghost use mathlib.Core.Path.{_≡_};
 ghost use mathlib.Core.List.{_++_};
 ghost use Prim.Native.Nat.{_+_, _*_, _≤_, _<_};
-ghost use lib.ListN.{length, take, drop};
+ghost use lib.ListN.{length, take, drop, replicate};
 ghost use Rattle.bits.specs.Bits.{oct};
 ghost use Rattle.circuit.specs.File.{circuitOf};
-ghost use Rattle.mpc.specs.Steps.{WitnessFits};
+ghost use Rattle.mpc.specs.Steps.{WitnessFits, worked};
 ghost use Rattle.instance.specs.Instance.{masterSeeds, masterTapes, masterCorrections, masterMasked, masterCommitments, masterOnline, hiding, stretchOf};
 ghost use Rattle.instance.specs.Stretch.{stretchBytes};
-ghost use Rattle.instance.specs.Steps.{worked, Lent};
+ghost use Rattle.instance.specs.Steps.{Lent};
 use crate::Digests;
 use crate::Instance;
 use crate::committing::commit;
@@ -39,7 +39,8 @@ pub fn from_master(
     ensures { λ _. ⌜ now (seeds .exit) ≡ masterSeeds (inst .parties) (inst .number) (now (master .entry)) ⌝ }
     ensures { λ _. ⌜ now (corrections .exit) ≡ masterCorrections (circuitOf (now (s .entry))) (inst .parties) (inst .number) (now (master .entry)) ⌝ }
     ensures { λ _. ⌜ now (masked .exit) ≡ masterMasked (circuitOf (now (s .entry))) (inst .parties) (inst .number) (now (witness .entry)) (now (master .entry)) ⌝ }
-    ensures { λ _. ⌜ now (memory .exit) ≡ worked (now (s .entry)) (inst .parties) (now (witness .entry)) (masterTapes (circuitOf (now (s .entry))) (inst .parties) (inst .number) (now (master .entry))) (length (now (memory .entry))) ⌝ }
+    ensures { λ _. ⌜ now (tapes .exit) ≡ masterTapes (circuitOf (now (s .entry))) (inst .parties) (inst .number) (now (master .entry)) ⌝ }
+    ensures { λ _. ⌜ now (memory .exit) ≡ worked (now (s .entry)) z (inst .parties) (now (witness .entry)) (masterTapes (circuitOf (now (s .entry))) (inst .parties) (inst .number) (now (master .entry))) (replicate (length (now (memory .entry))) 0) ⌝ }
 {
     let n = inst.parties;
     master_seeds(inst, master, seeds);
@@ -60,6 +61,8 @@ pub fn digests(
 ) -> Digests
     requires { ⌜ Lent (now s) z (inst .parties) (inst .height) (now tapes) (now memory) × (WitnessFits z (now witness) × (length (now master) ≡ 16)) ⌝ }
     ensures { λ r. ⌜ (r .commitments ≡ masterCommitments (circuitOf (now (s .entry))) (inst .parties) (inst .number) (now (master .entry))) × (r .online ≡ masterOnline (circuitOf (now (s .entry))) (inst .parties) (inst .number) (now (witness .entry)) (now (master .entry))) ⌝ }
+    ensures { λ _. ⌜ now (tapes .exit) ≡ masterTapes (circuitOf (now (s .entry))) (inst .parties) (inst .number) (now (master .entry)) ⌝ }
+    ensures { λ _. ⌜ now (memory .exit) ≡ worked (now (s .entry)) z (inst .parties) (now (witness .entry)) (masterTapes (circuitOf (now (s .entry))) (inst .parties) (inst .number) (now (master .entry))) (replicate (length (now (memory .entry))) 0) ⌝ }
 {
     let j = inst.number;
     let n = inst.parties;
@@ -123,6 +126,8 @@ pub fn send(
 )
     requires { ⌜ Lent (now s) z (inst .parties) (inst .height) (now tapes) (now memory) × (WitnessFits z (now witness) × ((length (now master) ≡ 16) × ((p < inst .parties) × (length (now part) ≡ stretchBytes (circuitOf (now s)) (inst .parties) (hiding p))))) ⌝ }
     ensures { λ _. ⌜ now (part .exit) ≡ stretchOf (circuitOf (now (s .entry))) (inst .parties) (inst .number) (now (witness .entry)) (now (master .entry)) (hiding p) ⌝ }
+    ensures { λ _. ⌜ now (tapes .exit) ≡ masterTapes (circuitOf (now (s .entry))) (inst .parties) (inst .number) (now (master .entry)) ⌝ }
+    ensures { λ _. ⌜ now (memory .exit) ≡ worked (now (s .entry)) z (inst .parties) (now (witness .entry)) (masterTapes (circuitOf (now (s .entry))) (inst .parties) (inst .number) (now (master .entry))) (replicate (length (now (memory .entry))) 0) ⌝ }
 {
     let j = inst.number;
     let n = inst.parties;

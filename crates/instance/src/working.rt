@@ -7,9 +7,8 @@ ghost use Rattle.bits.specs.Bits.{oct, unusedZero};
 ghost use Rattle.circuit.specs.File.{circuitOf};
 ghost use Rattle.engine.specs.Steps.{packedRows, wireCount, Room};
 ghost use Rattle.mpc.specs.Showing.{maskedInputs};
-ghost use Rattle.mpc.specs.Steps.{Known, Parties, WitnessFits, TapesFit, ShowingFits};
+ghost use Rattle.mpc.specs.Steps.{Known, Parties, WitnessFits, TapesFit, ShowingFits, worked, replayed as «replayed-memory», replayedValues};
 ghost use Rattle.instance.specs.Instance.{onlineDigest};
-ghost use Rattle.instance.specs.Steps.{worked, replayed as «replayed-memory», replayedValues};
 use bits::clear;
 use circuit::Sizes;
 use engine::chain::speak;
@@ -34,7 +33,7 @@ pub fn work(
 )
     requires { ⌜ Known (now s) z × (Parties n × (WitnessFits z (now witness) × (TapesFit z n (now tapes) × ((length (now masked) ≡ oct (z .inputs)) × (64 * wireCount z + 4096 ≤ length (now memory)))))) ⌝ }
     ensures { λ _. ⌜ now (masked .exit) ≡ maskedInputs (circuitOf (now (s .entry))) n (now (witness .entry)) (now (tapes .entry)) ⌝ }
-    ensures { λ _. ⌜ now (memory .exit) ≡ worked (now (s .entry)) n (now (witness .entry)) (now (tapes .entry)) (length (now (memory .entry))) ⌝ }
+    ensures { λ _. ⌜ now (memory .exit) ≡ worked (now (s .entry)) z n (now (witness .entry)) (now (tapes .entry)) (replicate (length (now (memory .entry))) 0) ⌝ }
 {
     let head = bits::read_u16(s, 6) as usize;
     let wires = z.inputs + z.gates;
@@ -62,8 +61,8 @@ pub fn rework(
     memory: &mut [u8],
 )
     requires { ⌜ Known (now s) z × (Parties n × ((p < n) × (ShowingFits z n (now tapes) (now corrections) (now masked) (now row) × ((now values ≡ replicate 4096 0) × (64 * wireCount z + 4096 ≤ length (now memory)))))) ⌝ }
-    ensures { λ _. ⌜ now (values .exit) ≡ replayedValues (now (s .entry)) n p (now (tapes .entry)) (now (corrections .entry)) (now (masked .entry)) (now (row .entry)) (length (now (memory .entry))) ⌝ }
-    ensures { λ _. ⌜ now (memory .exit) ≡ «replayed-memory» (now (s .entry)) n p (now (tapes .entry)) (now (corrections .entry)) (now (masked .entry)) (now (row .entry)) (length (now (memory .entry))) ⌝ }
+    ensures { λ _. ⌜ now (values .exit) ≡ replayedValues (now (s .entry)) z n p (record { tapes = now (tapes .entry); corrections = now (corrections .entry); maskedInputs = now (masked .entry); row = now (row .entry) }) (replicate (length (now (memory .entry))) 0) (now (values .entry)) ⌝ }
+    ensures { λ _. ⌜ now (memory .exit) ≡ «replayed-memory» (now (s .entry)) z n p (record { tapes = now (tapes .entry); corrections = now (corrections .entry); maskedInputs = now (masked .entry); row = now (row .entry) }) (replicate (length (now (memory .entry))) 0) ⌝ }
 {
     let head = bits::read_u16(s, 6) as usize;
     let wires = z.inputs + z.gates;

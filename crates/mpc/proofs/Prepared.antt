@@ -23,7 +23,7 @@ use Rattle.mpc.specs.Tapes.{andsOf, unusedRows}
 use Rattle.mpc.specs.Showing.{correctionBits}
 use Rattle.mpc.specs.Operations.{holdsRows, tapeBits, prepareLegal, prepareOp}
 use Rattle.mpc.specs.Answers.{outcome}
-use Rattle.mpc.specs.Steps.{Known, Begun}
+use Rattle.mpc.specs.Steps.{Known, Begun, loaded, gatesRun, prepared}
 use Rattle.mpc.specs.declared.Answer.the-variants.{Done, Refused}
 use Rattle.mpc.proofs.Agreement.{prepare-agrees}
 use Rattle.mpc.proofs.Opened.{sized, opened-refused, opened-legal, circuit-inputs, circuit-ands}
@@ -38,6 +38,13 @@ prepare-made s i o g a h n len tapes m0 m1 m2 out x k p b l e f t q =
     let w : m2 ≡ walked (i + g) n n true s g h 0 (base (replicate (length m0) 0)) = f ∙ ap (walked (i + g) n n true s g h 0) d in
     q ∙ ap₂ (λ (m : List ℕ) (j : ℕ). packed m (16 * (i + g) + 1) a j) w t
     ∙ prepare-agrees s i o g a h n (length m0) (k .legal) p (k .ands) (b .parties .some) (b .parties .few) (b .room) tapes
+
+-- the work memory that is left
+pub prepare-left : (s : List ℕ) (i o g a h n len : ℕ) (tapes m0 m1 m2 : List ℕ) → Known s (sized i o g a) → h ≡ headOf s → len ≡ oct (i + 2 * a)
+    → m1 ≡ loadedTapes (i + g) i a len tapes n m0 → m2 ≡ walked (i + g) n n true s g h 0 m1 → m2 ≡ prepared s (sized i o g a) n tapes m0
+unfolding prepared gatesRun loaded
+prepare-left s i o g a h n len tapes m0 m1 m2 k p l e f =
+    f ∙ ap₂ (λ (x : ℕ) (m : List ℕ). walked (i + g) n n true s g x 0 m) p (e ∙ ap (λ (j : ℕ). loadedTapes (i + g) i a j tapes n m0) l)
 
 -- the answers on a legal file
 module _ (s : List ℕ) (i o g a : ℕ) (k : Known s (sized i o g a)) (n h : ℕ) (tapes out : List ℕ) (count : h ≡ heightOf n) where

@@ -8,7 +8,7 @@ ghost use Rattle.circuit.specs.File.{circuitOf};
 ghost use Rattle.mpc.specs.Showing.{correctionBits};
 ghost use Rattle.mpc.specs.Operations.{prepareLegal, prepareOp};
 ghost use Rattle.mpc.specs.Answers.{outcome};
-ghost use Rattle.mpc.specs.Steps.{Known, Parties, Begun, TapesFit};
+ghost use Rattle.mpc.specs.Steps.{Known, Parties, Begun, TapesFit, prepared};
 use crate::Answer;
 use crate::tests::both;
 use crate::tests::holds;
@@ -33,6 +33,7 @@ pub fn prepare_in(
 )
     requires { ⌜ Known (now s) z × (Begun z n (now memory) × (TapesFit z n (now tapes) × (length (now corrections) ≡ oct (z .ands)))) ⌝ }
     ensures { λ _. ⌜ now (corrections .exit) ≡ pack (correctionBits (circuitOf (now (s .entry))) n (now (tapes .entry))) ⌝ }
+    ensures { λ _. ⌜ now (memory .exit) ≡ prepared (now (s .entry)) z n (now (tapes .entry)) (now (memory .entry)) ⌝ }
 {
     let head = bits::read_u16(s, 6) as usize;
     let wires = z.inputs + z.gates;

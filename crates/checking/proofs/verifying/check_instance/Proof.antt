@@ -49,7 +49,7 @@ returns : tie.Need-returns
 returns c =
     let x = c .before .before .before .before .before .before .before .before .before .before .before .before .before .before .before .before .before .before .args in
     open-answer (circuitOf (x .s .now)) (x .inst .parties) (x .inst .number) (x .p) (x .y .now) (x .part .now) (c .before .before .before .before .before .before .before .before .before .before .before .before .if1 .taken) (c .before .before .before .before .before .before .before .before .reopen .result) (c .before .copy .last .1 .0)
-    (c .before .before .before .before .before .before .before .before .reopen .ensures) (c .before .copy .ensures)
+    (c .before .before .before .before .before .before .before .before .reopen .ensures .0) (c .before .copy .ensures)
 
 replay-requires : tie.Need-replay-requires
 replay-requires c κs =
@@ -68,7 +68,7 @@ returns-2 c =
     let x = c .before .before .before .before .before .before .before .before .before .before .before .before .before .args in
     let r = c .before .before .before .before .replay .result in
     hidden-answer (circuitOf (x .s .now)) (x .inst .parties) (x .inst .number) (x .p) (x .y .now) (x .part .now) (c .before .before .before .before .before .before .before .if1 .left) (r .agrees) (r .commitments) (r .online)
-    (c .before .before .before .before .replay .ensures)
+    (c .before .before .before .before .replay .ensures .0)
 
 pub check-instance-spec : {M : Type 1} → statement M
 check-instance-spec =

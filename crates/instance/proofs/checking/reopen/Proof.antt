@@ -1,12 +1,13 @@
 -- `instance::checking::reopen` meets its contract.
 -- Assumes nothing.
-use mathlib.Core.Path.{refl, sym, _∙_}
+use mathlib.Core.Path.{refl, sym, ap₂, _∙_}
 use Prim.Native.Nat.{_*_}
 use native.Mathlib.Omega.{arith}
 use lib.ListN.{length, take, drop, replicate}
+use Rattle.mpc.specs.Steps.{prepared}
 use Rattle.mpc.proofs.Opened.{ands-low, begun}
 use Rattle.instance.proofs.Checks.{tree-parties}
-use Rattle.instance.proofs.Replays.{prefix-length, kept-prefix, prefix-inside, prefix-taken, master-made}
+use Rattle.instance.proofs.Replays.{prefix-length, kept-prefix, prefix-inside, prefix-taken, master-tapes, master-made}
 use Rattle.instance.proofs.checking.reopen.Statement.{statement}
 use Rattle.instance.proofs.checking.reopen.Tie as tie
 
@@ -94,7 +95,10 @@ same-length-2 c = c .before .before .before .before .before .before .before .pre
 returns : tie.Need-returns
 returns c =
     let x = c .before .before .before .before .before .before .before .before .before .before .before .before .before .before .before .before .before .before .before .before .before .before .before .before .before .before .before .before .args in
-    master-made (x .s .now) (x .inst .parties) (x .inst .number) (32 * x .inst .parties) (c .before .before .before .before .before .before .before .before .before .before .before .before .before .before .before .before .before .before .before .before .before .before .before .oct .result) (x .master .now) (take 0 (x .master .now)) (c .before .before .before .before .before .before .before .before .before .before .before .before .before .before .before .before .before .before .before .before .before .master-seeds .last .1 .1 .0) (c .before .before .before .before .before .before .before .before .before .before .before .before .before .before .before .before .before .tape-rows .last .1 .1 .1 .1 .0) (c .before .before .before .before .before .before .before .prepare-in .last .1 .1 .1 .1 .0) (drop (32 * x .inst .parties) (replicate 512 0)) (drop (c .before .before .before .before .before .before .before .before .before .before .before .before .before .before .before .before .before .before .before .before .before .before .before .oct .result) (replicate 512 0)) _ (c .before .before .before .before .before .before .before .before .before .before .before .before .before .before .before .before .before .before .before .before .before .master-seeds .ensures) (kept-prefix (32 * x .inst .parties) 512 (c .before .before .before .before .before .before .before .before .before .before .before .before .before .before .before .before .before .before .before .before .before .master-seeds .last .1 .1 .0) (omega (arith, tree-parties _ _ (c .before .before .before .before .before .before .before .before .before .before .before .before .before .before .before .before .before .before .before .before .before .before .before .before .before .before .before .before .pre .0 .tree) .few)) (c .before .before .before .before .before .before .before .before .before .before .before .before .before .before .before .before .before .before .before .before .before .master-seeds .kept .1 .1 .0)) (c .before .before .before .before .before .before .before .before .before .before .before .before .before .before .before .before .before .tape-rows .ensures) (c .before .before .before .before .before .before .before .prepare-in .ensures) (kept-prefix (c .before .before .before .before .before .before .before .before .before .before .before .before .before .before .before .before .before .before .before .before .before .before .before .oct .result) 512 (c .before .before .before .before .before .before .before .prepare-in .last .1 .1 .1 .1 .0) (omega (arith, c .before .before .before .before .before .before .before .before .before .before .before .before .before .before .before .before .before .before .before .before .before .before .before .oct .ensures, ands-low _ _ _ _ _ (c .before .before .before .before .before .before .before .before .before .before .before .before .before .before .before .before .before .before .before .before .before .before .before .before .before .before .before .before .pre .0 .known), c .before .before .before .before .before .before .before .before .before .before .before .before .before .before .before .before .before .before .before .before .before .before .before .before .before .before .before .before .pre .0 .known .legal .laid .few-gates)) (c .before .before .before .before .before .before .before .prepare-in .kept .1 .1 .1 .1 .0)) (c .commit .ensures)
+    let t = master-tapes (x .s .now) (x .inst .parties) (x .inst .number) (32 * x .inst .parties) (x .master .now) (c .before .before .before .before .before .before .before .before .before .before .before .before .before .before .before .before .before .before .before .before .before .master-seeds .last .1 .1 .0) (c .before .before .before .before .before .before .before .before .before .before .before .before .before .before .before .before .before .tape-rows .last .1 .1 .1 .1 .0) (drop (32 * x .inst .parties) (replicate 512 0)) (c .before .before .before .before .before .before .before .before .before .before .before .before .before .before .before .before .before .before .before .before .before .master-seeds .ensures) (kept-prefix (32 * x .inst .parties) 512 (c .before .before .before .before .before .before .before .before .before .before .before .before .before .before .before .before .before .before .before .before .before .master-seeds .last .1 .1 .0) (omega (arith, tree-parties _ _ (c .before .before .before .before .before .before .before .before .before .before .before .before .before .before .before .before .before .before .before .before .before .before .before .before .before .before .before .before .pre .0 .tree) .few)) (c .before .before .before .before .before .before .before .before .before .before .before .before .before .before .before .before .before .before .before .before .before .master-seeds .kept .1 .1 .0)) (c .before .before .before .before .before .before .before .before .before .before .before .before .before .before .before .before .before .tape-rows .ensures) in (
+      master-made (x .s .now) (x .inst .parties) (x .inst .number) (32 * x .inst .parties) (c .before .before .before .before .before .before .before .before .before .before .before .before .before .before .before .before .before .before .before .before .before .before .before .oct .result) (x .master .now) (take 0 (x .master .now)) (c .before .before .before .before .before .before .before .before .before .before .before .before .before .before .before .before .before .before .before .before .before .master-seeds .last .1 .1 .0) (c .before .before .before .before .before .before .before .before .before .before .before .before .before .before .before .before .before .tape-rows .last .1 .1 .1 .1 .0) (c .before .before .before .before .before .before .before .prepare-in .last .1 .1 .1 .1 .0) (drop (32 * x .inst .parties) (replicate 512 0)) (drop (c .before .before .before .before .before .before .before .before .before .before .before .before .before .before .before .before .before .before .before .before .before .before .before .oct .result) (replicate 512 0)) _ (c .before .before .before .before .before .before .before .before .before .before .before .before .before .before .before .before .before .before .before .before .before .master-seeds .ensures) (kept-prefix (32 * x .inst .parties) 512 (c .before .before .before .before .before .before .before .before .before .before .before .before .before .before .before .before .before .before .before .before .before .master-seeds .last .1 .1 .0) (omega (arith, tree-parties _ _ (c .before .before .before .before .before .before .before .before .before .before .before .before .before .before .before .before .before .before .before .before .before .before .before .before .before .before .before .before .pre .0 .tree) .few)) (c .before .before .before .before .before .before .before .before .before .before .before .before .before .before .before .before .before .before .before .before .before .master-seeds .kept .1 .1 .0)) (c .before .before .before .before .before .before .before .before .before .before .before .before .before .before .before .before .before .tape-rows .ensures) (c .before .before .before .before .before .before .before .prepare-in .ensures .0) (kept-prefix (c .before .before .before .before .before .before .before .before .before .before .before .before .before .before .before .before .before .before .before .before .before .before .before .oct .result) 512 (c .before .before .before .before .before .before .before .prepare-in .last .1 .1 .1 .1 .0) (omega (arith, c .before .before .before .before .before .before .before .before .before .before .before .before .before .before .before .before .before .before .before .before .before .before .before .oct .ensures, ands-low _ _ _ _ _ (c .before .before .before .before .before .before .before .before .before .before .before .before .before .before .before .before .before .before .before .before .before .before .before .before .before .before .before .before .pre .0 .known), c .before .before .before .before .before .before .before .before .before .before .before .before .before .before .before .before .before .before .before .before .before .before .before .before .before .before .before .before .pre .0 .known .legal .laid .few-gates)) (c .before .before .before .before .before .before .before .prepare-in .kept .1 .1 .1 .1 .0)) (c .commit .ensures),
+      (t, c .before .before .before .before .before .before .before .prepare-in .ensures .1 ∙ ap₂ (prepared (x .s .now) (x .z) (x .inst .parties)) t (c .before .before .before .before .before .before .before .before .before .before .before .before .before .clear .ensures)),
+    )
 
 pub reopen-spec : {M : Type 1} → statement M
 reopen-spec =

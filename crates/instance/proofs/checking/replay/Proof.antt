@@ -1,13 +1,15 @@
 -- `instance::checking::replay` meets its contract.
 -- Assumes nothing.
-use mathlib.Core.Path.{refl, sym, _∙_}
+use mathlib.Core.Path.{refl, sym, ap, _∙_}
 use Prim.Native.Nat.{_+_, _*_}
 use native.Mathlib.Omega.{arith}
-use lib.ListN.{drop, replicate}
+use lib.ListN.{length, drop, replicate}
 use Rattle.bits.specs.Bits.{oct}
+use Rattle.mpc.specs.Showing.{Showing}
+use Rattle.mpc.specs.Steps.{replayed}
 use Rattle.mpc.proofs.Opened.{ands-low}
 use Rattle.instance.proofs.Checks.{tree-parties, tree-low, stretch-size, sent-small, masked-unused, part-length, rest-length}
-use Rattle.instance.proofs.Replays.{prefix-length, kept-prefix, prefix-inside, prefix-taken, commitments-made, output-made, rows-made}
+use Rattle.instance.proofs.Replays.{prefix-length, kept-prefix, prefix-inside, prefix-taken, commitments-made, lent-shown, output-made, rows-made}
 use Rattle.instance.proofs.checking.replay.Statement.{statement}
 use Rattle.instance.proofs.checking.replay.Tie as tie
 
@@ -196,11 +198,14 @@ returns : tie.Need-returns
 returns c =
     let p = c .before .before .before .before .before .before .before .before .before .before .before .before .before .before .before .before .before .before .before .before .before .before .before .before .before .before .before .before .pre in
     let x = c .before .before .before .before .before .before .before .before .before .before .before .before .before .before .before .before .before .before .before .before .before .before .before .before .before .before .before .before .args in (
-      output-made _ _ _ _ _ (p .0 .known) (x .inst .parties) (x .inst .height) (x .inst .number) (x .p) (p .0 .tree) (x .part .now) (p .1 .1 .0) (c .before .before .before .before .before .before .before .before .before .before .before .before .before .before .before .before .before .before .before .before .before .sent-bytes .result) (c .before .before .before .before .before .before .before .before .before .before .before .before .before .before .before .before .before .before .before .before .before .sent-bytes .ensures) (c .before .before .before .before .before .before .before .before .before .before .before .before .before .before .before .before .reopen-parties .last .1 .1 .1 .1 .1 .1 .0) (c .before .before .before .before .before .before .before .before .before .before .before .before .before .before .before .before .reopen-parties .ensures .1 .0) (kept-prefix (c .before .before .before .before .before .before .before .before .before .before .before .before .before .before .before .before .before .before .before .before .before .before .oct .result) 512 (c .before .before .before .before .before .before .before .before .before .before .before .before .before .before .before .before .reopen-parties .last .1 .1 .1 .1 .1 .1 .0) (omega (arith, c .before .before .before .before .before .before .before .before .before .before .before .before .before .before .before .before .before .before .before .before .before .before .oct .ensures, ands-low _ _ _ _ _ (p .0 .known), p .0 .known .legal .laid .few-gates)) (c .before .before .before .before .before .before .before .before .before .before .before .before .before .before .before .before .reopen-parties .kept .1 .1 .1 .1 .1 .1 .0) ∙ c .before .before .before .before .before .before .before .before .before .before .before .before .before .before .before .before .before .before .before .before .before .before .oct .ensures) (c .before .before .before .before .before .before .before .before .before .before .before .before .before .before .before .before .before .before .before .before .oct2 .result) (c .before .before .before .before .before .before .before .before .before .before .before .before .before .before .before .before .before .before .before .before .before .before .oct .result) (c .before .before .before .before .before .before .before .before .before .before .before .before .before .before .before .before .before .before .before .before .oct2 .ensures) (c .before .before .before .before .before .before .before .before .before .before .before .before .before .before .before .before .before .before .before .before .before .before .oct .ensures) (c .before .before .before .before .before .before .before .before .before .before .before .before .before .before .before .before .reopen-parties .last .1 .1 .1 .1 .1 .1 .1 .0) (drop (c .before .before .before .before .before .before .before .before .before .before .before .before .before .before .before .before .before .before .before .before .before .before .oct .result) (replicate 512 0)) (c .before .before .before .before .before .before .before .before .before .before .before .before .before .before .before .before .reopen-parties .ensures .1 .1) _ (x .y .now) (c .before .before .rerun .ensures .0),
       (
-        c .before .before .rerun .ensures .1 .0 ∙ commitments-made _ _ _ _ _ (p .0 .known) (x .inst .parties) (x .inst .height) (x .inst .number) (x .p) (p .0 .tree) (x .part .now) (p .1 .1 .0) (c .before .before .before .before .before .before .before .before .before .before .before .before .before .before .before .before .before .before .before .before .before .sent-bytes .result) (c .before .before .before .before .before .before .before .before .before .before .before .before .before .before .before .before .before .before .before .before .before .sent-bytes .ensures) (c .before .before .before .before .before .before .before .before .before .before .before .before .before .before .before .before .reopen-parties .last .1 .1 .1 .1 .1 .1 .0) (c .before .before .before .before .before .before .before .before .before .before .before .before .before .before .before .before .reopen-parties .ensures .1 .0) (kept-prefix (c .before .before .before .before .before .before .before .before .before .before .before .before .before .before .before .before .before .before .before .before .before .before .oct .result) 512 (c .before .before .before .before .before .before .before .before .before .before .before .before .before .before .before .before .reopen-parties .last .1 .1 .1 .1 .1 .1 .0) (omega (arith, c .before .before .before .before .before .before .before .before .before .before .before .before .before .before .before .before .before .before .before .before .before .before .oct .ensures, ands-low _ _ _ _ _ (p .0 .known), p .0 .known .legal .laid .few-gates)) (c .before .before .before .before .before .before .before .before .before .before .before .before .before .before .before .before .reopen-parties .kept .1 .1 .1 .1 .1 .1 .0) ∙ c .before .before .before .before .before .before .before .before .before .before .before .before .before .before .before .before .before .before .before .before .before .before .oct .ensures) (32 * x .inst .parties) (c .before .before .before .before .before .before .before .before .before .before .before .before .before .before .before .before .reopen-parties .last .1 .1 .1 .1 .1 .0) (drop (32 * x .inst .parties) (replicate 512 0)) (drop (c .before .before .before .before .before .before .before .before .before .before .before .before .before .before .before .before .before .before .before .before .before .before .oct .result) (replicate 512 0)) _ (c .before .before .before .before .before .before .before .before .before .before .before .before .before .before .before .before .reopen-parties .ensures .0) (kept-prefix (32 * x .inst .parties) 512 (c .before .before .before .before .before .before .before .before .before .before .before .before .before .before .before .before .reopen-parties .last .1 .1 .1 .1 .1 .0) (omega (arith, tree-parties _ _ (p .0 .tree) .few)) (c .before .before .before .before .before .before .before .before .before .before .before .before .before .before .before .before .reopen-parties .kept .1 .1 .1 .1 .1 .0)) (c .before .before .before .before .before .before .before .before .commit .ensures),
-        rows-made _ _ _ _ _ (p .0 .known) (x .inst .parties) (x .inst .height) (x .inst .number) (x .p) (p .0 .tree) (x .part .now) (p .1 .1 .0) (c .before .before .before .before .before .before .before .before .before .before .before .before .before .before .before .before .before .before .before .before .before .sent-bytes .result) (c .before .before .before .before .before .before .before .before .before .before .before .before .before .before .before .before .before .before .before .before .before .sent-bytes .ensures) (c .before .before .before .before .before .before .before .before .before .before .before .before .before .before .before .before .reopen-parties .last .1 .1 .1 .1 .1 .1 .0) (c .before .before .before .before .before .before .before .before .before .before .before .before .before .before .before .before .reopen-parties .ensures .1 .0) (kept-prefix (c .before .before .before .before .before .before .before .before .before .before .before .before .before .before .before .before .before .before .before .before .before .before .oct .result) 512 (c .before .before .before .before .before .before .before .before .before .before .before .before .before .before .before .before .reopen-parties .last .1 .1 .1 .1 .1 .1 .0) (omega (arith, c .before .before .before .before .before .before .before .before .before .before .before .before .before .before .before .before .before .before .before .before .before .before .oct .ensures, ands-low _ _ _ _ _ (p .0 .known), p .0 .known .legal .laid .few-gates)) (c .before .before .before .before .before .before .before .before .before .before .before .before .before .before .before .before .reopen-parties .kept .1 .1 .1 .1 .1 .1 .0) ∙ c .before .before .before .before .before .before .before .before .before .before .before .before .before .before .before .before .before .before .before .before .before .before .oct .ensures) (c .before .before .before .before .before .before .before .before .before .before .before .before .before .before .before .before .before .before .before .before .oct2 .result) (c .before .before .before .before .before .before .before .before .before .before .before .before .before .before .before .before .before .before .before .before .before .before .oct .result) (c .before .before .before .before .before .before .before .before .before .before .before .before .before .before .before .before .before .before .before .before .oct2 .ensures) (c .before .before .before .before .before .before .before .before .before .before .before .before .before .before .before .before .before .before .before .before .before .before .oct .ensures) (c .before .before .before .before .before .before .before .before .before .before .before .before .before .before .before .before .reopen-parties .last .1 .1 .1 .1 .1 .1 .1 .0) (drop (c .before .before .before .before .before .before .before .before .before .before .before .before .before .before .before .before .before .before .before .before .before .before .oct .result) (replicate 512 0)) (c .before .before .before .before .before .before .before .before .before .before .before .before .before .before .before .before .reopen-parties .ensures .1 .1) _ (c .before .before .rerun .ensures .1 .1),
+        output-made _ _ _ _ _ (p .0 .known) (x .inst .parties) (x .inst .height) (x .inst .number) (x .p) (p .0 .tree) (x .part .now) (p .1 .1 .0) (c .before .before .before .before .before .before .before .before .before .before .before .before .before .before .before .before .before .before .before .before .before .sent-bytes .result) (c .before .before .before .before .before .before .before .before .before .before .before .before .before .before .before .before .before .before .before .before .before .sent-bytes .ensures) (c .before .before .before .before .before .before .before .before .before .before .before .before .before .before .before .before .reopen-parties .last .1 .1 .1 .1 .1 .1 .0) (c .before .before .before .before .before .before .before .before .before .before .before .before .before .before .before .before .reopen-parties .ensures .1 .0) (kept-prefix (c .before .before .before .before .before .before .before .before .before .before .before .before .before .before .before .before .before .before .before .before .before .before .oct .result) 512 (c .before .before .before .before .before .before .before .before .before .before .before .before .before .before .before .before .reopen-parties .last .1 .1 .1 .1 .1 .1 .0) (omega (arith, c .before .before .before .before .before .before .before .before .before .before .before .before .before .before .before .before .before .before .before .before .before .before .oct .ensures, ands-low _ _ _ _ _ (p .0 .known), p .0 .known .legal .laid .few-gates)) (c .before .before .before .before .before .before .before .before .before .before .before .before .before .before .before .before .reopen-parties .kept .1 .1 .1 .1 .1 .1 .0) ∙ c .before .before .before .before .before .before .before .before .before .before .before .before .before .before .before .before .before .before .before .before .before .before .oct .ensures) (c .before .before .before .before .before .before .before .before .before .before .before .before .before .before .before .before .before .before .before .before .oct2 .result) (c .before .before .before .before .before .before .before .before .before .before .before .before .before .before .before .before .before .before .before .before .before .before .oct .result) (c .before .before .before .before .before .before .before .before .before .before .before .before .before .before .before .before .before .before .before .before .oct2 .ensures) (c .before .before .before .before .before .before .before .before .before .before .before .before .before .before .before .before .before .before .before .before .before .before .oct .ensures) (c .before .before .before .before .before .before .before .before .before .before .before .before .before .before .before .before .reopen-parties .last .1 .1 .1 .1 .1 .1 .1 .0) (drop (c .before .before .before .before .before .before .before .before .before .before .before .before .before .before .before .before .before .before .before .before .before .before .oct .result) (replicate 512 0)) (c .before .before .before .before .before .before .before .before .before .before .before .before .before .before .before .before .reopen-parties .ensures .1 .1) _ (x .y .now) (c .before .before .rerun .ensures .0 .0),
+        (
+          c .before .before .rerun .ensures .0 .1 .0 ∙ commitments-made _ _ _ _ _ (p .0 .known) (x .inst .parties) (x .inst .height) (x .inst .number) (x .p) (p .0 .tree) (x .part .now) (p .1 .1 .0) (c .before .before .before .before .before .before .before .before .before .before .before .before .before .before .before .before .before .before .before .before .before .sent-bytes .result) (c .before .before .before .before .before .before .before .before .before .before .before .before .before .before .before .before .before .before .before .before .before .sent-bytes .ensures) (c .before .before .before .before .before .before .before .before .before .before .before .before .before .before .before .before .reopen-parties .last .1 .1 .1 .1 .1 .1 .0) (c .before .before .before .before .before .before .before .before .before .before .before .before .before .before .before .before .reopen-parties .ensures .1 .0) (kept-prefix (c .before .before .before .before .before .before .before .before .before .before .before .before .before .before .before .before .before .before .before .before .before .before .oct .result) 512 (c .before .before .before .before .before .before .before .before .before .before .before .before .before .before .before .before .reopen-parties .last .1 .1 .1 .1 .1 .1 .0) (omega (arith, c .before .before .before .before .before .before .before .before .before .before .before .before .before .before .before .before .before .before .before .before .before .before .oct .ensures, ands-low _ _ _ _ _ (p .0 .known), p .0 .known .legal .laid .few-gates)) (c .before .before .before .before .before .before .before .before .before .before .before .before .before .before .before .before .reopen-parties .kept .1 .1 .1 .1 .1 .1 .0) ∙ c .before .before .before .before .before .before .before .before .before .before .before .before .before .before .before .before .before .before .before .before .before .before .oct .ensures) (32 * x .inst .parties) (c .before .before .before .before .before .before .before .before .before .before .before .before .before .before .before .before .reopen-parties .last .1 .1 .1 .1 .1 .0) (drop (32 * x .inst .parties) (replicate 512 0)) (drop (c .before .before .before .before .before .before .before .before .before .before .before .before .before .before .before .before .before .before .before .before .before .before .oct .result) (replicate 512 0)) _ (c .before .before .before .before .before .before .before .before .before .before .before .before .before .before .before .before .reopen-parties .ensures .0) (kept-prefix (32 * x .inst .parties) 512 (c .before .before .before .before .before .before .before .before .before .before .before .before .before .before .before .before .reopen-parties .last .1 .1 .1 .1 .1 .0) (omega (arith, tree-parties _ _ (p .0 .tree) .few)) (c .before .before .before .before .before .before .before .before .before .before .before .before .before .before .before .before .reopen-parties .kept .1 .1 .1 .1 .1 .0)) (c .before .before .before .before .before .before .before .before .commit .ensures),
+          rows-made _ _ _ _ _ (p .0 .known) (x .inst .parties) (x .inst .height) (x .inst .number) (x .p) (p .0 .tree) (x .part .now) (p .1 .1 .0) (c .before .before .before .before .before .before .before .before .before .before .before .before .before .before .before .before .before .before .before .before .before .sent-bytes .result) (c .before .before .before .before .before .before .before .before .before .before .before .before .before .before .before .before .before .before .before .before .before .sent-bytes .ensures) (c .before .before .before .before .before .before .before .before .before .before .before .before .before .before .before .before .reopen-parties .last .1 .1 .1 .1 .1 .1 .0) (c .before .before .before .before .before .before .before .before .before .before .before .before .before .before .before .before .reopen-parties .ensures .1 .0) (kept-prefix (c .before .before .before .before .before .before .before .before .before .before .before .before .before .before .before .before .before .before .before .before .before .before .oct .result) 512 (c .before .before .before .before .before .before .before .before .before .before .before .before .before .before .before .before .reopen-parties .last .1 .1 .1 .1 .1 .1 .0) (omega (arith, c .before .before .before .before .before .before .before .before .before .before .before .before .before .before .before .before .before .before .before .before .before .before .oct .ensures, ands-low _ _ _ _ _ (p .0 .known), p .0 .known .legal .laid .few-gates)) (c .before .before .before .before .before .before .before .before .before .before .before .before .before .before .before .before .reopen-parties .kept .1 .1 .1 .1 .1 .1 .0) ∙ c .before .before .before .before .before .before .before .before .before .before .before .before .before .before .before .before .before .before .before .before .before .before .oct .ensures) (c .before .before .before .before .before .before .before .before .before .before .before .before .before .before .before .before .before .before .before .before .oct2 .result) (c .before .before .before .before .before .before .before .before .before .before .before .before .before .before .before .before .before .before .before .before .before .before .oct .result) (c .before .before .before .before .before .before .before .before .before .before .before .before .before .before .before .before .before .before .before .before .oct2 .ensures) (c .before .before .before .before .before .before .before .before .before .before .before .before .before .before .before .before .before .before .before .before .before .before .oct .ensures) (c .before .before .before .before .before .before .before .before .before .before .before .before .before .before .before .before .reopen-parties .last .1 .1 .1 .1 .1 .1 .1 .0) (drop (c .before .before .before .before .before .before .before .before .before .before .before .before .before .before .before .before .before .before .before .before .before .before .oct .result) (replicate 512 0)) (c .before .before .before .before .before .before .before .before .before .before .before .before .before .before .before .before .reopen-parties .ensures .1 .1) _ (c .before .before .rerun .ensures .0 .1 .1),
+        ),
       ),
+      (c .before .before .before .before .before .before .before .before .before .before .before .before .before .before .before .before .reopen-parties .ensures .1 .1, c .before .before .rerun .ensures .1 ∙ ap (λ (d : Showing). replayed (x .s .now) (x .z) (x .inst .parties) (x .p) d (replicate (length (x .memory .now)) 0)) (lent-shown _ _ _ _ _ (p .0 .known) (x .inst .parties) (x .inst .height) (x .inst .number) (x .p) (p .0 .tree) (x .part .now) (p .1 .1 .0) (c .before .before .before .before .before .before .before .before .before .before .before .before .before .before .before .before .before .before .before .before .before .sent-bytes .result) (c .before .before .before .before .before .before .before .before .before .before .before .before .before .before .before .before .before .before .before .before .before .sent-bytes .ensures) (c .before .before .before .before .before .before .before .before .before .before .before .before .before .before .before .before .reopen-parties .last .1 .1 .1 .1 .1 .1 .0) (c .before .before .before .before .before .before .before .before .before .before .before .before .before .before .before .before .reopen-parties .ensures .1 .0) (kept-prefix (c .before .before .before .before .before .before .before .before .before .before .before .before .before .before .before .before .before .before .before .before .before .before .oct .result) 512 (c .before .before .before .before .before .before .before .before .before .before .before .before .before .before .before .before .reopen-parties .last .1 .1 .1 .1 .1 .1 .0) (omega (arith, c .before .before .before .before .before .before .before .before .before .before .before .before .before .before .before .before .before .before .before .before .before .before .oct .ensures, ands-low _ _ _ _ _ (p .0 .known), p .0 .known .legal .laid .few-gates)) (c .before .before .before .before .before .before .before .before .before .before .before .before .before .before .before .before .reopen-parties .kept .1 .1 .1 .1 .1 .1 .0) ∙ c .before .before .before .before .before .before .before .before .before .before .before .before .before .before .before .before .before .before .before .before .before .before .oct .ensures) (c .before .before .before .before .before .before .before .before .before .before .before .before .before .before .before .before .before .before .before .before .oct2 .result) (c .before .before .before .before .before .before .before .before .before .before .before .before .before .before .before .before .before .before .before .before .before .before .oct .result) (c .before .before .before .before .before .before .before .before .before .before .before .before .before .before .before .before .before .before .before .before .oct2 .ensures) (c .before .before .before .before .before .before .before .before .before .before .before .before .before .before .before .before .before .before .before .before .before .before .oct .ensures) (c .before .before .before .before .before .before .before .before .before .before .before .before .before .before .before .before .reopen-parties .last .1 .1 .1 .1 .1 .1 .1 .0) (drop (c .before .before .before .before .before .before .before .before .before .before .before .before .before .before .before .before .before .before .before .before .before .before .oct .result) (replicate 512 0)) (c .before .before .before .before .before .before .before .before .before .before .before .before .before .before .before .before .reopen-parties .ensures .1 .1))),
     )
 
 pub replay-spec : {M : Type 1} → statement M

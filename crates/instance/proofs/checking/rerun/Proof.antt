@@ -45,7 +45,7 @@ returns : tie.Need-returns
 returns c =
     let p = c .before .before .before .before .before .before .before .before .before .before .before .before .before .before .before .before .before .before .before .pre in
     let x = c .before .before .before .before .before .before .before .before .before .before .before .before .before .before .before .before .before .before .before .args in
-    (agrees-made _ _ _ _ _ (p .0) (x .n) (x .p) (p .1 .0) (p .1 .1 .0) (x .tapes .now) (x .corrections .now) (x .masked .now) (x .row .now) (p .1 .1 .1 .1 .0) (length (x .memory .now)) (p .1 .1 .1 .1 .1) _ (x .y .now) _ (c .before .before .before .before .before .before .before .before .before .rework .ensures .0) (c .before .before .before .before .outputs-are .ensures), (refl, online-made _ _ _ _ _ (p .0) (x .n) (x .p) (p .1 .0) (p .1 .1 .0) (x .tapes .now) (x .corrections .now) (x .masked .now) (x .row .now) (p .1 .1 .1 .1 .0) (length (x .memory .now)) (p .1 .1 .1 .1 .1) (x .j) _ _ (c .before .before .before .before .before .before .before .before .before .rework .ensures .1) (c .online .ensures)))
+    ((agrees-made _ _ _ _ _ (p .0) (x .n) (x .p) (p .1 .0) (p .1 .1 .0) (x .tapes .now) (x .corrections .now) (x .masked .now) (x .row .now) (p .1 .1 .1 .1 .0) (length (x .memory .now)) (p .1 .1 .1 .1 .1) _ (x .y .now) _ (c .before .before .before .before .before .before .before .before .before .rework .ensures .0) (c .before .before .before .before .outputs-are .ensures), (refl, online-made _ _ _ _ _ (p .0) (x .n) (x .p) (p .1 .0) (p .1 .1 .0) (x .tapes .now) (x .corrections .now) (x .masked .now) (x .row .now) (p .1 .1 .1 .1 .0) (length (x .memory .now)) (p .1 .1 .1 .1 .1) (x .j) _ _ (c .before .before .before .before .before .before .before .before .before .rework .ensures .1) (c .online .ensures))), c .before .before .before .before .before .before .before .before .before .rework .ensures .1)
 
 pub rerun-spec : {M : Type 1} → statement M
 rerun-spec =

@@ -89,12 +89,14 @@ same-length-2 c = c .before .before .before .before .before .before .before .bef
 returns : tie.Need-returns
 returns c =
     let p = c .before .before .before .before .before .before .before .before .before .before .before .before .before .before .before .before .before .before .before .before .before .before .before .before .before .before .before .before .pre in
-    let v = c .before .before .before .before .before .before .before .before .before .before .before .before .before .before .before .from-master in
-    digests-made _ _ _ _ _ _ _ _ _ _ (p .0 .known) (tree-parties _ _ (p .0 .tree)) (p .0 .room) (p .1 .0 .unused) _ _ _ _ _ _ _
-    (front-back 512 (32 * c .before .before .before .before .before .before .before .before .before .before .before .before .before .before .before .before .before .before .before .before .before .before .before .before .before .before .before .before .args .inst .parties) (v .last .1 .1 .1 .1 .1 .0) (few-seeds _ _ (p .0 .tree)) (v .kept .1 .1 .1 .1 .1 .0) ∙ v .ensures .0)
-    (front-back 512 (c .before .before .before .before .before .before .before .before .before .before .before .before .before .before .before .before .before .before .before .before .before .before .oct .result) (v .last .1 .1 .1 .1 .1 .1 .0) (few-corrections _ _ _ _ _ _ (p .0 .known) (c .before .before .before .before .before .before .before .before .before .before .before .before .before .before .before .before .before .before .before .before .before .before .oct .ensures)) (v .kept .1 .1 .1 .1 .1 .1 .0) ∙ v .ensures .1 .0)
-    (front-back 64 (c .before .before .before .before .before .before .before .before .before .before .before .before .before .before .before .before .before .before .before .before .before .oct2 .result) (v .last .1 .1 .1 .1 .1 .1 .1 .0) (few-masked _ _ _ _ _ _ (p .0 .known) (c .before .before .before .before .before .before .before .before .before .before .before .before .before .before .before .before .before .before .before .before .before .oct2 .ensures)) (v .kept .1 .1 .1 .1 .1 .1 .1 .0) ∙ v .ensures .1 .1 .0) (v .ensures .1 .1 .1)
-    (c .before .before .before .before .before .commit .ensures) (c .online .ensures)
+    let v = c .before .before .before .before .before .before .before .before .before .before .before .before .before .before .before .from-master in (
+      digests-made _ _ _ _ _ _ _ _ _ _ (p .0 .known) (tree-parties _ _ (p .0 .tree)) (p .0 .room) (p .1 .0 .unused) _ _ _ _ _ _ _
+          (front-back 512 (32 * c .before .before .before .before .before .before .before .before .before .before .before .before .before .before .before .before .before .before .before .before .before .before .before .before .before .before .before .before .args .inst .parties) (v .last .1 .1 .1 .1 .1 .0) (few-seeds _ _ (p .0 .tree)) (v .kept .1 .1 .1 .1 .1 .0) ∙ v .ensures .0)
+          (front-back 512 (c .before .before .before .before .before .before .before .before .before .before .before .before .before .before .before .before .before .before .before .before .before .before .oct .result) (v .last .1 .1 .1 .1 .1 .1 .0) (few-corrections _ _ _ _ _ _ (p .0 .known) (c .before .before .before .before .before .before .before .before .before .before .before .before .before .before .before .before .before .before .before .before .before .before .oct .ensures)) (v .kept .1 .1 .1 .1 .1 .1 .0) ∙ v .ensures .1 .0)
+          (front-back 64 (c .before .before .before .before .before .before .before .before .before .before .before .before .before .before .before .before .before .before .before .before .before .oct2 .result) (v .last .1 .1 .1 .1 .1 .1 .1 .0) (few-masked _ _ _ _ _ _ (p .0 .known) (c .before .before .before .before .before .before .before .before .before .before .before .before .before .before .before .before .before .before .before .before .before .oct2 .ensures)) (v .kept .1 .1 .1 .1 .1 .1 .1 .0) ∙ v .ensures .1 .1 .0) (v .ensures .1 .1 .1 .1)
+          (c .before .before .before .before .before .commit .ensures) (c .online .ensures),
+      (v .ensures .1 .1 .1 .0, v .ensures .1 .1 .1 .1),
+    )
 
 pub digests-spec : {M : Type 1} → statement M
 digests-spec =

@@ -179,16 +179,18 @@ returns c =
     let v = c .before .before .before .before .before .before .before .before .before .before .before .before .before .before .before .before .before .before .before .before .before .before .before .before .before .before .before .before .before .before .before .before .before .before .before .before .before .from-master in
     let b = few-corrections _ _ _ _ _ _ (p .0 .known) (c .before .before .before .before .before .before .before .before .before .before .before .before .before .before .before .before .before .before .before .before .before .before .before .before .before .before .before .before .before .before .before .before .before .before .before .before .before .before .before .before .before .before .before .before .oct .ensures) in
     let r = rest (c .before .before .before .before .before .before .before .before .before) in
-    let f = sent-is (c .before .before .before .before .before .before .before .before .before .before .before .before .before .before .before .before .before .before .before .before .before .before .before .before .before .before .before .before .before) in
-    stretch-made _ _ _ _ _ _ _ _ _ (p .0 .known) (p .0 .tree) (p .1 .1 .1 .0) f _ _ _ _ (tree-parties _ _ (p .0 .tree)) (p .0 .room) (p .1 .0 .unused)
-    _ _ _ _ _ _ _ _ _ _ _ _ _
-    (front-back 512 (32 * x .inst .parties) (v .last .1 .1 .1 .1 .1 .0) (few-seeds _ _ (p .0 .tree)) (v .kept .1 .1 .1 .1 .1 .0))
-    (front-back 512 (c .before .before .before .before .before .before .before .before .before .before .before .before .before .before .before .before .before .before .before .before .before .before .before .before .before .before .before .before .before .before .before .before .before .before .before .before .before .before .before .before .before .before .before .before .oct .result) (v .last .1 .1 .1 .1 .1 .1 .0) b (v .kept .1 .1 .1 .1 .1 .1 .0)) (v .ensures .0) (v .ensures .1 .0)
-    (v .kept .1 .1 .1 .1 .1 .1 .0 ∙ front-length 512 _ b ∙ c .before .before .before .before .before .before .before .before .before .before .before .before .before .before .before .before .before .before .before .before .before .before .before .before .before .before .before .before .before .before .before .before .before .before .before .before .before .before .before .before .before .before .before .before .oct .ensures) (v .ensures .1 .1 .1) (c .before .before .before .before .before .before .before .before .before .before .before .before .before .before .before .before .before .before .before .before .before .before .before .before .siblings-below .ensures) refl (c .before .before .before .before .before .before .before .before .before .before .before .before .before .before .before .before .before .before .before .before .before .before .before .before .before .before .commitment .ensures)
-    (front-back 64 (c .before .before .before .before .before .before .before .before .before .before .before .before .before .before .before .before .before .before .before .before .before .before .before .before .before .before .before .before .before .before .before .before .before .before .before .before .before .before .before .before .before .before .before .oct2 .result) (v .last .1 .1 .1 .1 .1 .1 .1 .0) (few-masked _ _ _ _ _ _ (p .0 .known) (c .before .before .before .before .before .before .before .before .before .before .before .before .before .before .before .before .before .before .before .before .before .before .before .before .before .before .before .before .before .before .before .before .before .before .before .before .before .before .before .before .before .before .before .oct2 .ensures)) (v .kept .1 .1 .1 .1 .1 .1 .1 .0) ∙ v .ensures .1 .1 .0)
-    (rest-length (c .before .before .before .before .before .before .before .before .before .put3 .result) _ (c .before .before .before .before .before .before .before .before .before .put3 .last .1 .1 .0) r) (c .before .before .pack .ensures)
-    (five-parts (16 * x .inst .height) (c .before .before .before .before .before .before .before .before .before .before .before .before .before .before .before .before .before .before .before .put .result) (c .before .before .before .before .before .before .before .before .before .before .before .before .before .before .put2 .result) (c .before .before .before .before .before .before .before .before .before .put3 .result) (length (c .before .before .before .before .before .before .before .before .before .put3 .last .1 .1 .0) - c .before .before .before .before .before .before .before .before .before .put3 .result) (x .part .now) (c .before .before .before .before .before .before .before .before .before .before .before .before .before .before .before .before .before .before .before .before .before .before .before .before .siblings-below .last .1 .1 .1 .1 .1 .0) _ _ _ (c .before .before .pack .last .1 .1 .1 .0) (c .before .before .before .before .before .before .before .before .before .before .before .before .before .before .before .before .before .before .before .put .last .1 .1 .0) (c .before .before .before .before .before .before .before .before .before .before .before .before .before .before .put2 .last .1 .1 .0) (c .before .before .before .before .before .before .before .before .before .put3 .last .1 .1 .0)
-    (c .before .before .before .before .before .before .before .before .before .before .before .before .before .before .before .before .before .before .before .before .before .before .before .before .siblings-below .kept .1 .1 .1 .1 .1 .0 ∙ length-take-le (16 * x .inst .height) (x .part .now) (first-inside (c .before .before .before .before .before .before .before .before .before .before .before .before .before .before .before .before .before .before .before .before .before .before .before .before .before .before))) (c .before .before .before .before .before .before .before .before .before .before .before .before .before .before .before .before .before .before .before .put .ensures .0) (c .before .before .before .before .before .before .before .before .before .before .before .before .before .before .before .before .before .before .before .put .ensures .1) (c .before .before .before .before .before .before .before .before .before .before .before .before .before .before .put2 .ensures .0) (c .before .before .before .before .before .before .before .before .before .before .before .before .before .before .put2 .ensures .1) (c .before .before .before .before .before .before .before .before .before .put3 .ensures .0) (c .before .before .before .before .before .before .before .before .before .put3 .ensures .1) (omega (arith, r)))
+    let f = sent-is (c .before .before .before .before .before .before .before .before .before .before .before .before .before .before .before .before .before .before .before .before .before .before .before .before .before .before .before .before .before) in (
+      stretch-made _ _ _ _ _ _ _ _ _ (p .0 .known) (p .0 .tree) (p .1 .1 .1 .0) f _ _ _ _ (tree-parties _ _ (p .0 .tree)) (p .0 .room) (p .1 .0 .unused)
+          _ _ _ _ _ _ _ _ _ _ _ _ _
+          (front-back 512 (32 * x .inst .parties) (v .last .1 .1 .1 .1 .1 .0) (few-seeds _ _ (p .0 .tree)) (v .kept .1 .1 .1 .1 .1 .0))
+          (front-back 512 (c .before .before .before .before .before .before .before .before .before .before .before .before .before .before .before .before .before .before .before .before .before .before .before .before .before .before .before .before .before .before .before .before .before .before .before .before .before .before .before .before .before .before .before .before .oct .result) (v .last .1 .1 .1 .1 .1 .1 .0) b (v .kept .1 .1 .1 .1 .1 .1 .0)) (v .ensures .0) (v .ensures .1 .0)
+          (v .kept .1 .1 .1 .1 .1 .1 .0 ∙ front-length 512 _ b ∙ c .before .before .before .before .before .before .before .before .before .before .before .before .before .before .before .before .before .before .before .before .before .before .before .before .before .before .before .before .before .before .before .before .before .before .before .before .before .before .before .before .before .before .before .before .oct .ensures) (v .ensures .1 .1 .1 .1) (c .before .before .before .before .before .before .before .before .before .before .before .before .before .before .before .before .before .before .before .before .before .before .before .before .siblings-below .ensures) refl (c .before .before .before .before .before .before .before .before .before .before .before .before .before .before .before .before .before .before .before .before .before .before .before .before .before .before .commitment .ensures)
+          (front-back 64 (c .before .before .before .before .before .before .before .before .before .before .before .before .before .before .before .before .before .before .before .before .before .before .before .before .before .before .before .before .before .before .before .before .before .before .before .before .before .before .before .before .before .before .before .oct2 .result) (v .last .1 .1 .1 .1 .1 .1 .1 .0) (few-masked _ _ _ _ _ _ (p .0 .known) (c .before .before .before .before .before .before .before .before .before .before .before .before .before .before .before .before .before .before .before .before .before .before .before .before .before .before .before .before .before .before .before .before .before .before .before .before .before .before .before .before .before .before .before .oct2 .ensures)) (v .kept .1 .1 .1 .1 .1 .1 .1 .0) ∙ v .ensures .1 .1 .0)
+          (rest-length (c .before .before .before .before .before .before .before .before .before .put3 .result) _ (c .before .before .before .before .before .before .before .before .before .put3 .last .1 .1 .0) r) (c .before .before .pack .ensures)
+          (five-parts (16 * x .inst .height) (c .before .before .before .before .before .before .before .before .before .before .before .before .before .before .before .before .before .before .before .put .result) (c .before .before .before .before .before .before .before .before .before .before .before .before .before .before .put2 .result) (c .before .before .before .before .before .before .before .before .before .put3 .result) (length (c .before .before .before .before .before .before .before .before .before .put3 .last .1 .1 .0) - c .before .before .before .before .before .before .before .before .before .put3 .result) (x .part .now) (c .before .before .before .before .before .before .before .before .before .before .before .before .before .before .before .before .before .before .before .before .before .before .before .before .siblings-below .last .1 .1 .1 .1 .1 .0) _ _ _ (c .before .before .pack .last .1 .1 .1 .0) (c .before .before .before .before .before .before .before .before .before .before .before .before .before .before .before .before .before .before .before .put .last .1 .1 .0) (c .before .before .before .before .before .before .before .before .before .before .before .before .before .before .put2 .last .1 .1 .0) (c .before .before .before .before .before .before .before .before .before .put3 .last .1 .1 .0)
+          (c .before .before .before .before .before .before .before .before .before .before .before .before .before .before .before .before .before .before .before .before .before .before .before .before .siblings-below .kept .1 .1 .1 .1 .1 .0 ∙ length-take-le (16 * x .inst .height) (x .part .now) (first-inside (c .before .before .before .before .before .before .before .before .before .before .before .before .before .before .before .before .before .before .before .before .before .before .before .before .before .before))) (c .before .before .before .before .before .before .before .before .before .before .before .before .before .before .before .before .before .before .before .put .ensures .0) (c .before .before .before .before .before .before .before .before .before .before .before .before .before .before .before .before .before .before .before .put .ensures .1) (c .before .before .before .before .before .before .before .before .before .before .before .before .before .before .put2 .ensures .0) (c .before .before .before .before .before .before .before .before .before .before .before .before .before .before .put2 .ensures .1) (c .before .before .before .before .before .before .before .before .before .put3 .ensures .0) (c .before .before .before .before .before .before .before .before .before .put3 .ensures .1) (omega (arith, r))),
+      (v .ensures .1 .1 .1 .0, v .ensures .1 .1 .1 .1),
+    )
 
 pub send-spec : {M : Type 1} → statement M
 send-spec =

@@ -4,7 +4,7 @@ use mathlib.Core.Path.{_∙_}
 use native.Mathlib.Omega.{arith}
 use Rattle.mpc.proofs.Opened.{ands-low, ready}
 use Rattle.mpc.proofs.Asks.{kept-room, load-asks, corrected-asks}
-use Rattle.mpc.proofs.Prepared.{prepare-made}
+use Rattle.mpc.proofs.Prepared.{prepare-made, prepare-left}
 use Rattle.mpc.proofs.preparing.prepare_in.Statement.{statement}
 use Rattle.mpc.proofs.preparing.prepare_in.Tie as tie
 
@@ -58,8 +58,10 @@ same-length-2 c = c .before .before .before .before .before .before .before .wal
 returns : tie.Need-returns
 returns c =
     let x = c .before .before .before .before .before .before .before .before .before .before .before .before .before .before .before .before .before .before .before .before .before .before .args in
-    let p = c .before .before .before .before .before .before .before .before .before .before .before .before .before .before .before .before .before .before .before .before .before .before .pre in
-    prepare-made _ _ _ _ _ _ _ _ (x .tapes .now) (x .memory .now) _ _ (x .corrections .now) _ (p .0) (c .before .before .before .before .before .before .before .before .before .before .before .before .before .before .before .before .before .read-u16 .ensures) (p .1 .0) (c .before .before .before .before .before .before .before .before .before .before .before .before .before .oct .ensures) (c .before .before .before .before .before .before .before .before .before .before .before .load-tapes .ensures) (c .before .before .before .before .before .before .before .walk .ensures) (p .1 .1 .1) (c .before .before .pack .ensures)
+    let p = c .before .before .before .before .before .before .before .before .before .before .before .before .before .before .before .before .before .before .before .before .before .before .pre in (
+      prepare-made _ _ _ _ _ _ _ _ (x .tapes .now) (x .memory .now) _ _ (x .corrections .now) _ (p .0) (c .before .before .before .before .before .before .before .before .before .before .before .before .before .before .before .before .before .read-u16 .ensures) (p .1 .0) (c .before .before .before .before .before .before .before .before .before .before .before .before .before .oct .ensures) (c .before .before .before .before .before .before .before .before .before .before .before .load-tapes .ensures) (c .before .before .before .before .before .before .before .walk .ensures) (p .1 .1 .1) (c .before .before .pack .ensures),
+      prepare-left _ _ _ _ _ _ _ _ (x .tapes .now) (x .memory .now) _ _ (p .0) (c .before .before .before .before .before .before .before .before .before .before .before .before .before .before .before .before .before .read-u16 .ensures) (c .before .before .before .before .before .before .before .before .before .before .before .before .before .oct .ensures) (c .before .before .before .before .before .before .before .before .before .before .before .load-tapes .ensures) (c .before .before .before .before .before .before .before .walk .ensures),
+    )
 
 pub prepare-in-spec : {M : Type 1} → statement M
 prepare-in-spec =

@@ -20,7 +20,7 @@ same-length : tie.Need-same-length
 same-length c = c .before .before .before .prepare-in .kept .1 .1 .1 .1 .0
 
 returns : tie.Need-returns
-returns c = c .before .before .before .prepare-in .ensures
+returns c = c .before .before .before .prepare-in .ensures .0
 
 pub prepare-with-spec : {M : Type 1} → statement M
 prepare-with-spec = tie.close (tie.spec slice-aggregate-prepare-in prepare-in-requires same-length returns)

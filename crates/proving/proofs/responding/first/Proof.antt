@@ -79,7 +79,7 @@ part-copy-end c = inside c
 copy-requires : tie.Need-copy-requires Inv-loop μ-loop
 copy-requires c κs =
     let l = c .before .before .before .before .before .before .before .before .before .before .before .before .before .before .before .before .before .before .before .before .loop in
-    part-length 32 (l .j) (32 * l .j) (32 * l .j + 32) (omega arith) refl (l .onlines) (inside (c .before)) ∙ sym (ap length (c .before .before .before .before .before .before .before .before .before .before .before .before .digests .ensures .1) ∙ length-online _ _ _ _ _)
+    part-length 32 (l .j) (32 * l .j) (32 * l .j + 32) (omega arith) refl (l .onlines) (inside (c .before)) ∙ sym (ap length (c .before .before .before .before .before .before .before .before .before .before .before .before .digests .ensures .0 .1) ∙ length-online _ _ _ _ _)
 
 add-j : tie.Need-add-j Inv-loop μ-loop
 add-j c = omega (arith, c .before .before .before .before .before .before .before .before .before .before .before .before .before .before .before .before .before .before .before .before .before .before .loop-test .taken, c .before .before .before .before .before .before .before .before .before .before .before .before .before .before .before .before .before .before .before .before .before .before .before .before .before .before .before .before .before .before .before .pre .1 .1 .0)
@@ -104,11 +104,11 @@ loop-again c =
             d .kept .1 .1 .1 .1 .1 .1 .0 ∙ l .inv .1 .1 .1 .0,
             (
               all-turn (circuitOf (x .s .now)) (x .n) (x .witness .now) (x .root .now) (l .j) (l .all) (l .inv .1 .1 .1 .1 .0) _ _
-                  (d .ensures .0 ∙ ap (masterCommitments (circuitOf (x .s .now)) (x .n) (l .j)) (c .before .before .before .before .before .before .before .before .before .before .before .before .before .before .before .before .before .before .before .before .master .ensures)) (c .before .before .before .before .before .before .before .absorb .ensures),
+                  (d .ensures .0 .0 ∙ ap (masterCommitments (circuitOf (x .s .now)) (x .n) (l .j)) (c .before .before .before .before .before .before .before .before .before .before .before .before .before .before .before .before .before .before .before .before .master .ensures)) (c .before .before .before .before .before .before .before .absorb .ensures),
               rows-turn 32 (l .j) a (a + 32) (omega arith) refl (l .onlines) (inside (c .before .before .before .before)) (onlineAt (circuitOf (x .s .now)) (x .n) (x .witness .now) (x .root .now)) z
                   (k ∙ part-length 32 (l .j) a (a + 32) (omega arith) refl (l .onlines) (inside (c .before .before .before .before)))
                   (l .inv .1 .1 .1 .1 .1)
-                  (c .before .before .copy .ensures ∙ d .ensures .1 ∙ ap (masterOnline (circuitOf (x .s .now)) (x .n) (l .j) (x .witness .now)) (c .before .before .before .before .before .before .before .before .before .before .before .before .before .before .before .before .before .before .before .before .master .ensures)),
+                  (c .before .before .copy .ensures ∙ d .ensures .0 .1 ∙ ap (masterOnline (circuitOf (x .s .now)) (x .n) (l .j) (x .witness .now)) (c .before .before .before .before .before .before .before .before .before .before .before .before .before .before .before .before .before .before .before .before .master .ensures)),
             ),
           ),
         ),

@@ -81,7 +81,7 @@ returns-2 : tie.Need-returns-2
 returns-2 c =
     let p = c .before .before .before .before .before .before .before .before .before .before .before .before .before .before .before .before .before .before .before .before .before .before .pre in
     let x = c .before .before .before .before .before .before .before .before .before .before .before .before .before .before .before .before .before .before .before .before .before .before .args in
-    hidden-made (circuitOf (x .s .now)) (x .inst .parties) (x .p) (x .part .now) (p .1 .1 .1 .1) (c .before .before .before .before .before .before .before .before .before .before .before .if1 .left) (x .inst .number) (x .witness .now) (x .root .now) (c .before .before .before .before .before .before .before .before .before .before .before .before .before .master .last .1 .1 .0) _ (c .before .before .before .before .before .before .before .before .before .before .before .before .before .master .ensures) (c .before .before .before .before .before .before .send .ensures)
+    hidden-made (circuitOf (x .s .now)) (x .inst .parties) (x .p) (x .part .now) (p .1 .1 .1 .1) (c .before .before .before .before .before .before .before .before .before .before .before .if1 .left) (x .inst .number) (x .witness .now) (x .root .now) (c .before .before .before .before .before .before .before .before .before .before .before .before .before .master .last .1 .1 .0) _ (c .before .before .before .before .before .before .before .before .before .before .before .before .before .master .ensures) (c .before .before .before .before .before .before .send .ensures .0)
 
 pub stretch-spec : {M : Type 1} → statement M
 stretch-spec =
