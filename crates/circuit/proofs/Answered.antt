@@ -13,7 +13,7 @@ use Rattle.bits.proofs.Tests.{and-true-left, and-true-right}
 use Rattle.bits.proofs.Tabulate.{length-tabulate}
 use Rattle.refusal.specs.Outcome.{refusal, success}
 use Rattle.circuit.specs.Circuit.{Circuit, Gate, ands}
-use Rattle.circuit.specs.File.{inputsOf, outputsOf, gatesOf, headOf, outputWire, withinLimits, rightLength, goodRecords, goodChain, goodWires, goodOutputs, readsWritten, walks, chainFrom, gateAt, gatesInOrder, circuitOf, Reading, refused, legal, readCircuit}
+use Rattle.circuit.specs.File.{maxInputs, maxOutputs, maxGates, inputsOf, outputsOf, gatesOf, headOf, outputWire, withinLimits, rightLength, goodRecords, goodChain, goodWires, goodOutputs, readsWritten, walks, chainFrom, gateAt, gatesInOrder, circuitOf, Reading, refused, legal, readCircuit}
 use Rattle.circuit.specs.Operations.{readAnswer, readOp}
 use Rattle.circuit.proofs.Visits.{length-chain}
 
@@ -177,14 +177,14 @@ unfolding withinLimits limits
 header s i o g r p q t e = e ∙ rw (p, q, t)
 
 -- what the limits say
-pub limits-few : (i o g : ℕ) → limits i o g ≡ true → (i ≤ 512) × ((o ≤ 256) × (g ≤ 4096))
+pub limits-few : (i o g : ℕ) → limits i o g ≡ true → (i ≤ maxInputs) × ((o ≤ maxOutputs) × (g ≤ maxGates))
 unfolding limits
 limits-few i o g e =
-    let a = and-true-left _ (leb g 4096) e in
-    let b = and-true-left _ (leb o 256) a in
+    let a = and-true-left _ (leb g maxGates) e in
+    let b = and-true-left _ (leb o maxOutputs) a in
     let d = and-true-left _ (leb 1 o) b in (
-      leb-true i 512 (and-true-right (leb 1 i) (leb i 512) d),
-      (leb-true o 256 (and-true-right (leb 1 i && leb i 512 && leb 1 o) (leb o 256) a), leb-true g 4096 (and-true-right (leb 1 i && leb i 512 && leb 1 o && leb o 256) (leb g 4096) e)),
+      leb-true i maxInputs (and-true-right (leb 1 i) (leb i maxInputs) d),
+      (leb-true o maxOutputs (and-true-right (leb 1 i && leb i maxInputs && leb 1 o) (leb o maxOutputs) a), leb-true g maxGates (and-true-right (leb 1 i && leb i maxInputs && leb 1 o && leb o maxOutputs) (leb g maxGates) e)),
     )
 
 pub length-same : (s : List ℕ) (o g : ℕ) → o ≡ outputsOf s → g ≡ gatesOf s → length s ≡ 8 + 2 * o + 8 * g → rightLength s ≡ true

@@ -17,7 +17,7 @@ use Rattle.refusal.specs.Refusal.{numberOf}
 use Rattle.refusal.specs.declared.Refusal.{Refusal}
 use Rattle.refusal.specs.declared.Refusal.the-variants.{BufferLength, UnusedBits}
 use Rattle.circuit.specs.Circuit.{ands, evaluate}
-use Rattle.circuit.specs.File.{inputsOf, outputsOf, gatesOf, headOf, nextOf, outputWire, withinLimits, rightLength, walks, goodWires, goodOutputs, readsWritten, gatesInOrder, circuitOf}
+use Rattle.circuit.specs.File.{maxWires, inputsOf, outputsOf, gatesOf, headOf, nextOf, outputWire, withinLimits, rightLength, walks, goodWires, goodOutputs, readsWritten, gatesInOrder, circuitOf}
 use Rattle.circuit.specs.Operations.{readOp, evaluateLegal, evaluateOp, holds}
 use Rattle.circuit.specs.Records.{gateOf}
 use Rattle.circuit.specs.Answers.{readPaper, outcome}
@@ -45,21 +45,21 @@ length-walked s (suc n) k v =
 
 -- a legal file: what its steps ask
 module _ (s : List ℕ) (i o g : ℕ) (f : Legal s i o g) where
-  pub room-loaded : (w v : List ℕ) → v ≡ loaded w i (replicate 4608 0) → length v ≡ 4608
-  room-loaded w v e = ap length e ∙ length-loaded w (replicate 4608 0) i ∙ length-replicate {A = ℕ} 4608 0
+  pub room-loaded : (w v : List ℕ) → v ≡ loaded w i (replicate maxWires 0) → length v ≡ maxWires
+  room-loaded w v e = ap length e ∙ length-loaded w (replicate maxWires 0) i ∙ length-replicate {A = ℕ} maxWires 0
 
-  pub ready : (h : ℕ) (w v : List ℕ) → h ≡ headOf s → v ≡ loaded w i (replicate 4608 0) → Ready s i o g h v
+  pub ready : (h : ℕ) (w v : List ℕ) → h ≡ headOf s → v ≡ loaded w i (replicate maxWires 0) → Ready s i o g h v
   ready h w v p e =
       let c : walks s g h ≡ true = ap₂ (walks s) (f .laid .gates) p ∙ goodChain-walks s (f .chain) in
       let r : readsWritten (λ x. ltb x (inputsOf s)) (gatesFrom s g h) ≡ true
       = ap (readsWritten (λ x. ltb x (inputsOf s))) (ap₂ (gatesFrom s) (f .laid .gates) p ∙ gates-order s) ∙ wires-parts s (f .wires) .0 in
       record {
         chained = record { laid = f .laid; chain = c };
-        reads = wired-reads s 4608 g h (λ x. ltb x (inputsOf s)) (λ x q. omega (arith, ltb-true x (inputsOf s) q)) (omega arith) c r;
+        reads = wired-reads s maxWires g h (λ x. ltb x (inputsOf s)) (λ x q. omega (arith, ltb-true x (inputsOf s) q)) (omega arith) c r;
         room = room-loaded w v e;
       }
 
-  pub ended : (h : ℕ) (w v u : List ℕ) → v ≡ loaded w i (replicate 4608 0) → u ≡ walked s g h v → Ended s i o g u
+  pub ended : (h : ℕ) (w v u : List ℕ) → v ≡ loaded w i (replicate maxWires 0) → u ≡ walked s g h v → Ended s i o g u
   ended h w v u e q =
       record {
         laid = f .laid;
@@ -67,7 +67,7 @@ module _ (s : List ℕ) (i o g : ℕ) (f : Legal s i o g) where
         room = ap length q ∙ length-walked s g h v ∙ room-loaded w v e;
       }
 
-  pub outputs-right : (h : ℕ) (w v u : List ℕ) → h ≡ headOf s → unusedZero i w ≡ true → v ≡ loaded w i (replicate 4608 0) → u ≡ walked s g h v
+  pub outputs-right : (h : ℕ) (w v u : List ℕ) → h ≡ headOf s → unusedZero i w ≡ true → v ≡ loaded w i (replicate maxWires 0) → u ≡ walked s g h v
       → outBits s u o ≡ evaluate (circuitOf s) (bitAt w)
   outputs-right h w v u p z e q =
       ap (λ (x : List ℕ). outBits s x o) (q ∙ ap (walked s g h) e)

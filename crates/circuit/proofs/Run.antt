@@ -21,7 +21,7 @@ use Rattle.bits.proofs.Packing.{length-pack, unused-all}
 use Rattle.bits.proofs.Tabulate.{length-tabulate, getD-tabulate, getD-tabulate-end}
 use Rattle.bits.proofs.Tests.{and-true-left, and-true-right}
 use Rattle.circuit.specs.Circuit as paper
-use Rattle.circuit.specs.File.{inputsOf, gatesOf, headOf, nextOf, outputWire, walks, goodChain, goodOutputs, readsWritten, gatesInOrder, circuitOf}
+use Rattle.circuit.specs.File.{maxWires, inputsOf, gatesOf, headOf, nextOf, outputWire, walks, goodChain, goodOutputs, readsWritten, gatesInOrder, circuitOf}
 use Rattle.circuit.specs.Records.{gateOf, recordOf}
 use Rattle.circuit.specs.Steps.{placed, readable, gatesFrom, gateByte, bitsOf, loaded, walked, outBits, outByte, within, wired, Legal}
 use Rattle.circuit.specs.declared.Gate.{Gate}
@@ -241,15 +241,15 @@ byte-room f t sum weight b h p q r =
     omega (arith, byte-turn f t sum weight b p q r, fromBits-lt (t + 1) f, pow-mono {i = t + 1} {j = 8} (omega arith))
 
 -- the outputs of the bytes after the walk are those of the circuit
-pub evaluated : (s : List ℕ) (i o g h : ℕ) (w : List ℕ) → Legal s i o g → h ≡ headOf s → i ≤ 4608 → inputsOf s + gatesOf s ≤ 4608 → unusedZero i w ≡ true
-    → outBits s (walked s g h (loaded w i (replicate 4608 0))) o ≡ paper.evaluate (circuitOf s) (bitAt w)
+pub evaluated : (s : List ℕ) (i o g h : ℕ) (w : List ℕ) → Legal s i o g → h ≡ headOf s → i ≤ maxWires → inputsOf s + gatesOf s ≤ maxWires → unusedZero i w ≡ true
+    → outBits s (walked s g h (loaded w i (replicate maxWires 0))) o ≡ paper.evaluate (circuitOf s) (bitAt w)
 unfolding outBits paper.evaluate circuitOf
 evaluated s i o g h w f p few all u =
-    let z : List ℕ = replicate 4608 0 in
-    let l : length (loaded w i z) ≡ 4608 = length-loaded w z i ∙ length-replicate {A = ℕ} 4608 0 in
+    let z : List ℕ = replicate maxWires 0 in
+    let l : length (loaded w i z) ≡ maxWires = length-loaded w z i ∙ length-replicate {A = ℕ} maxWires 0 in
     let c : walks s g h ≡ true = ap₂ (walks s) (f .laid .gates) p ∙ chain-walks in
     let q : bitsOf (walked s g h (loaded w i z)) ≡ paper.evalGates (gatesInOrder s) (bitAt w)
-    = bits-walked s g h (loaded w i z) c (omega arith) ∙ ap₂ paper.evalGates gates-all (bits-loaded w i 4608 few u) in
+    = bits-walked s g h (loaded w i z) c (omega arith) ∙ ap₂ paper.evalGates gates-all (bits-loaded w i maxWires few u) in
     ap₂ (λ (x : ℕ → Bool) (n : ℕ). map x (tabulate n (outputWire s))) q (f .laid .outputs)
   where
     chain-walks : walks s (gatesOf s) (headOf s) ≡ true

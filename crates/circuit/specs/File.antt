@@ -46,9 +46,25 @@ wireB s k = leAt 2 s (recordAt s k + 4)
 abbrev pub nextOf : List ℕ → ℕ → ℕ
 nextOf s k = leAt 2 s (recordAt s k + 6)
 
--- refusal 2: "I is 1..512, O 1..256, G 0..4,096"
+-- "I is 1..512, O 1..256, G 0..4,096": the limit on I
+abbrev pub maxInputs : ℕ
+maxInputs = 512
+
+-- "I is 1..512, O 1..256, G 0..4,096": the limit on O
+abbrev pub maxOutputs : ℕ
+maxOutputs = 256
+
+-- "I is 1..512, O 1..256, G 0..4,096": the limit on G
+abbrev pub maxGates : ℕ
+maxGates = 4096
+
+-- "I is 1..512, O 1..256, G 0..4,096": so a circuit has at most maxInputs + maxGates wires
+abbrev pub maxWires : ℕ
+maxWires = 4608
+
+-- refusal 2: "I, O or G beyond limits"
 unfoldable pub withinLimits : List ℕ → Bool
-withinLimits s = leb 1 (inputsOf s) && leb (inputsOf s) 512 && leb 1 (outputsOf s) && leb (outputsOf s) 256 && leb (gatesOf s) 4096
+withinLimits s = leb 1 (inputsOf s) && leb (inputsOf s) maxInputs && leb 1 (outputsOf s) && leb (outputsOf s) maxOutputs && leb (gatesOf s) maxGates
 
 -- the second refusal 1: "total not 8 + 2O + 8G"
 unfoldable pub rightLength : List ℕ → Bool

@@ -7,7 +7,7 @@ use Prim.Native.Nat.{ℕ, zero, suc, _+_, _-_, _*_, _<_, _≤_}
 use lib.ListN.{length, getD, set}
 use lib.Bits.{bitXor, bitAnd}
 use Rattle.bits.specs.Bits.{tabulate, odd, bitVal, bitAt, fromBits, oct, unusedZero}
-use Rattle.circuit.specs.File.{inputsOf, outputWire, nextOf, goodChain, goodWires, goodOutputs, outputsOf, gatesOf, recordAt, headOf, withinLimits, rightLength, walks, chainFrom, gateAt, readsWritten}
+use Rattle.circuit.specs.File.{inputsOf, outputWire, nextOf, goodChain, goodWires, goodOutputs, outputsOf, gatesOf, recordAt, headOf, maxInputs, maxOutputs, maxGates, maxWires, withinLimits, rightLength, walks, chainFrom, gateAt, readsWritten}
 use Rattle.circuit.specs.Records.{gateOf}
 use Rattle.circuit.specs.declared.Gate.{Gate}
 use Rattle.circuit.specs.declared.Gate.the-variants.{Xor, And, Inv}
@@ -76,16 +76,16 @@ pub record Laid (s : List ℕ) (i o g : ℕ) : Type 0 where
   pub inputs : i ≡ inputsOf s
   pub outputs : o ≡ outputsOf s
   pub gates : g ≡ gatesOf s
-  pub few-inputs : i ≤ 512
-  pub few-outputs : o ≤ 256
-  pub few-gates : g ≤ 4096
+  pub few-inputs : i ≤ maxInputs
+  pub few-outputs : o ≤ maxOutputs
+  pub few-gates : g ≤ maxGates
   pub whole : length s ≡ 8 + 2 * o + 8 * g
 
 -- the values' array holds every output wire
 pub record Ended (s : List ℕ) (i o g : ℕ) (v : List ℕ) : Type 0 where
   pub laid : Laid s i o g
   pub outputs : goodOutputs s o ≡ true
-  pub room : length v ≡ 4608
+  pub room : length v ≡ maxWires
 
 -- a legal file, whose I, O and G are i, o and g
 pub record Legal (s : List ℕ) (i o g : ℕ) : Type 0 where
@@ -101,8 +101,8 @@ pub record Chained (s : List ℕ) (i o g h : ℕ) : Type 0 where
 -- the values' array holds every wire that is read on a good chain
 pub record Ready (s : List ℕ) (i o g h : ℕ) (v : List ℕ) : Type 0 where
   pub chained : Chained s i o g h
-  pub reads : wired s 4608 g h
-  pub room : length v ≡ 4608
+  pub reads : wired s maxWires g h
+  pub room : length v ≡ maxWires
 
 -- the file's header and length are good, and h is its head
 pub record Framed (s : List ℕ) (i o g h : ℕ) : Type 0 where
@@ -113,7 +113,7 @@ pub record Framed (s : List ℕ) (i o g h : ℕ) : Type 0 where
 
 -- the limits on I, O and G
 unfoldable pub limits : ℕ → ℕ → ℕ → Bool
-limits i o g = leb 1 i && leb i 512 && leb 1 o && leb o 256 && leb g 4096
+limits i o g = leb 1 i && leb i maxInputs && leb 1 o && leb o maxOutputs && leb g maxGates
 
 -- 1 for an AND gate
 abbrev pub andOne : Gate → ℕ

@@ -5,20 +5,21 @@ ghost use lib.ListN.{length, getD};
 ghost use mathlib.Core.Bool.{false};
 ghost use Rattle.bits.specs.Bits.{bitVal, bitAt, oct, pack};
 ghost use Rattle.circuit.specs.Circuit.{evaluate};
-ghost use Rattle.circuit.specs.File.{circuitOf};
+ghost use Rattle.circuit.specs.File.{maxInputs, maxWires, circuitOf};
 ghost use Rattle.circuit.specs.Operations.{evaluateOp, evaluateLegal};
 ghost use Rattle.circuit.specs.Answers.{outcome};
 ghost use Rattle.circuit.specs.Steps.{gateByte, loaded, walked, outBits, outByte, within, Ready, Ended, Legal, Lent};
 use crate::EvaluateAnswer;
 use crate::Gate;
+use crate::MAX_WIRES;
 use crate::ReadAnswer;
 use crate::reading::read;
 use crate::records::record;
 use refusal::Refusal;
 
 // Gives the input wires their bits.
-fn load(witness: &[u8], inputs: usize, values: &mut [u8; 4608])
-    requires { ⌜ (inputs ≤ 512) × (inputs ≤ 8 * length (now witness)) ⌝ }
+fn load(witness: &[u8], inputs: usize, values: &mut [u8; MAX_WIRES])
+    requires { ⌜ (inputs ≤ maxInputs) × (inputs ≤ 8 * length (now witness)) ⌝ }
     ensures { λ _. ⌜ now (values .exit) ≡ loaded (now (witness .entry)) inputs (now (values .entry)) ⌝ }
 {
     let mut k = 0;
@@ -29,8 +30,8 @@ fn load(witness: &[u8], inputs: usize, values: &mut [u8; 4608])
 }
 
 // The value that a gate gives.
-fn gate_byte(values: &[u8; 4608], gate: Gate) -> u8
-    requires { ⌜ within 4608 gate ⌝ }
+fn gate_byte(values: &[u8; MAX_WIRES], gate: Gate) -> u8
+    requires { ⌜ within maxWires gate ⌝ }
     ensures { λ r. ⌜ r ≡ gateByte gate (now (values .entry)) ⌝ }
 {
     match gate {
@@ -41,7 +42,14 @@ fn gate_byte(values: &[u8; 4608], gate: Gate) -> u8
 }
 
 // Runs the gates in chain order.
-fn walk(s: &[u8], inputs: usize, outputs: usize, gates: usize, head: usize, values: &mut [u8; 4608])
+fn walk(
+    s: &[u8],
+    inputs: usize,
+    outputs: usize,
+    gates: usize,
+    head: usize,
+    values: &mut [u8; MAX_WIRES],
+)
     requires { ⌜ Ready (now s) inputs outputs gates head (now values) ⌝ }
     ensures { λ _. ⌜ now (values .exit) ≡ walked (now (s .entry)) gates head (now (values .entry)) ⌝ }
 {
@@ -63,7 +71,7 @@ fn output_bit(
     inputs: usize,
     outputs: usize,
     gates: usize,
-    values: &[u8; 4608],
+    values: &[u8; MAX_WIRES],
     j: usize,
 ) -> u8
     requires { ⌜ Ended (now s) inputs outputs gates (now values) ⌝ }
@@ -82,7 +90,7 @@ fn output_byte(
     inputs: usize,
     outputs: usize,
     gates: usize,
-    values: &[u8; 4608],
+    values: &[u8; MAX_WIRES],
     j: usize,
 ) -> u8
     requires { ⌜ (j < 32) × Ended (now s) inputs outputs gates (now values) ⌝ }
@@ -101,7 +109,14 @@ fn output_byte(
 }
 
 // Packs the output bits into y.
-fn store(s: &[u8], inputs: usize, outputs: usize, gates: usize, values: &[u8; 4608], y: &mut [u8])
+fn store(
+    s: &[u8],
+    inputs: usize,
+    outputs: usize,
+    gates: usize,
+    values: &[u8; MAX_WIRES],
+    y: &mut [u8],
+)
     requires { ⌜ (length (now y) ≡ oct outputs) × Ended (now s) inputs outputs gates (now values) ⌝ }
     ensures { λ _. ⌜ now (y .exit) ≡ pack (outBits (now (s .entry)) (now (values .entry)) outputs) ⌝ }
 {
@@ -125,7 +140,7 @@ fn evaluate_legal(
     ensures { λ _. ⌜ now (y .exit) ≡ pack (evaluate (circuitOf (now (s .entry))) (bitAt (now (witness .entry)))) ⌝ }
 {
     let head = bits::read_u16(s, 6) as usize;
-    let mut values = [0u8; 4608];
+    let mut values = [0u8; MAX_WIRES];
     load(witness, inputs, &mut values);
     walk(s, inputs, outputs, gates, head, &mut values);
     store(s, inputs, outputs, gates, &values, y);

@@ -6,6 +6,15 @@ mod tests;
 
 use refusal::Refusal;
 
+// The limits on I, O and G, and on the wires: MAX_INPUTS + MAX_GATES.
+pub const MAX_INPUTS: usize = 512;
+
+pub const MAX_OUTPUTS: usize = 256;
+
+pub const MAX_GATES: usize = 4096;
+
+pub const MAX_WIRES: usize = 4608;
+
 // A gate and the wires it reads.
 pub enum Gate {
     Xor(usize, usize),

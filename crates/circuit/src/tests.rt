@@ -3,9 +3,13 @@ ghost use mathlib.Core.Path.{_≡_};
 ghost use mathlib.Core.Bool.{_&&_, _||_};
 ghost use lib.ListN.{length};
 ghost use Rattle.circuit.specs.Circuit.{ands};
-ghost use Rattle.circuit.specs.File.{goodRecord, goodRecords, goodOutputs, walks};
+ghost use Rattle.circuit.specs.File.{maxWires, goodRecord, goodRecords, goodOutputs, walks};
 ghost use Rattle.circuit.specs.Steps.{Inside, Laid, Chained, limits, readable, seen, gatesFrom, inputsFirst};
 use crate::Gate;
+use crate::MAX_GATES;
+use crate::MAX_INPUTS;
+use crate::MAX_OUTPUTS;
+use crate::MAX_WIRES;
 use crate::records::and_one;
 use crate::records::record;
 
@@ -20,9 +24,9 @@ fn both(a: bool, b: bool) -> bool
 pub(crate) fn within_limits(inputs: usize, outputs: usize, gates: usize) -> bool
     ensures { λ r. ⌜ r ≡ limits inputs outputs gates ⌝ }
 {
-    let i = both(1 <= inputs, inputs <= 512);
-    let o = both(both(i, 1 <= outputs), outputs <= 256);
-    both(o, gates <= 4096)
+    let i = both(1 <= inputs, inputs <= MAX_INPUTS);
+    let o = both(both(i, 1 <= outputs), outputs <= MAX_OUTPUTS);
+    both(o, gates <= MAX_GATES)
 }
 
 // Refusal 3, one slot: a known kind, INV with b zero, and a zero second byte.
@@ -97,22 +101,22 @@ pub(crate) fn good_outputs(s: &[u8], inputs: usize, outputs: usize, gates: usize
 }
 
 // Whether a wire is an input, or its flag is set.
-fn is_written(flags: &[u8; 4608], inputs: usize, wire: usize) -> bool
-    requires { ⌜ length (now flags) ≡ 4608 ⌝ }
+fn is_written(flags: &[u8; MAX_WIRES], inputs: usize, wire: usize) -> bool
+    requires { ⌜ length (now flags) ≡ maxWires ⌝ }
     ensures { λ r. ⌜ r ≡ seen inputs (now (flags .entry)) wire ⌝ }
 {
     if wire < inputs {
         return true;
     }
-    if wire < 4608 {
+    if wire < MAX_WIRES {
         return flags[wire] == 1;
     }
     false
 }
 
 // Whether a gate reads only written wires.
-fn reads_written(flags: &[u8; 4608], inputs: usize, gate: Gate) -> bool
-    requires { ⌜ length (now flags) ≡ 4608 ⌝ }
+fn reads_written(flags: &[u8; MAX_WIRES], inputs: usize, gate: Gate) -> bool
+    requires { ⌜ length (now flags) ≡ maxWires ⌝ }
     ensures { λ r. ⌜ r ≡ readable (seen inputs (now (flags .entry))) gate ⌝ }
 {
     match gate {
@@ -127,7 +131,7 @@ pub(crate) fn good_reads(s: &[u8], inputs: usize, outputs: usize, gates: usize, 
     requires { ⌜ Chained (now s) inputs outputs gates head ⌝ }
     ensures { λ r. ⌜ r ≡ inputsFirst (now (s .entry)) gates head ⌝ }
 {
-    let mut flags = [0u8; 4608];
+    let mut flags = [0u8; MAX_WIRES];
     let mut left = gates;
     let mut slot = head;
     while 0 < left {

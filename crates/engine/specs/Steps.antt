@@ -7,7 +7,7 @@ use Prim.Native.Nat.{ℕ, zero, suc, _+_, _-_, _*_, _≤_, _<_}
 use lib.Dec.{eqb, ltb}
 use lib.ListN.{length, set, getD}
 use lib.Bits.{bitXor, bitAnd}
-use Rattle.circuit.specs.File.{inputsOf, outputWire, nextOf, goodOutputs}
+use Rattle.circuit.specs.File.{maxWires, inputsOf, outputWire, nextOf, goodOutputs}
 use Rattle.circuit.specs.Records.{gateOf}
 use Rattle.circuit.specs.Steps.{andOne, Laid, Chained, wired}
 use Rattle.circuit.specs.declared.Gate.{Gate}
@@ -23,7 +23,7 @@ wireCount z = z .inputs + z .gates
 
 -- the memory for W wires: "64(I + G) + 4,096 bytes or more"; n parties
 pub record Room (W n : ℕ) (m : List ℕ) : Type 0 where
-  pub wires : W ≤ 4608
+  pub wires : W ≤ maxWires
   pub some : 1 ≤ n
   pub few : n ≤ 16
   pub room : 64 * W + 4096 ≤ length m

@@ -7,6 +7,7 @@ ghost use lib.Bits.{bitXor, bitAnd};
 ghost use lib.ListN.{length};
 ghost use Rattle.bits.specs.Bytes.{leAt};
 ghost use Rattle.circuit.specs.Steps.{within};
+ghost use Rattle.circuit.specs.File.{maxOutputs, maxWires};
 ghost use Rattle.engine.specs.Steps.{at, fill, shareAt, valueAt, xorStep, invStep, correctionByte, correctStep, broadcastStep, maskedProduct, takeStep, andStep, gateStep, outputStep, unmasked, Room, Fit};
 use crate::memory::mask;
 use crate::rows::copy8;
@@ -54,7 +55,7 @@ fn xor_gate(memory: &mut [u8], wires: usize, n: usize, a: usize, b: usize, c: us
 
 // The shares of wire c: the row at a.
 fn copy_shares(memory: &mut [u8], n: usize, a: usize, c: usize)
-    requires { ⌜ (n ≤ 16) × ((a % 16 ≡ 0) × ((c < 4608) × ((a + 16 ≤ length (now memory)) × (16 * c + 16 ≤ length (now memory))))) ⌝ }
+    requires { ⌜ (n ≤ 16) × ((a % 16 ≡ 0) × ((c < maxWires) × ((a + 16 ≤ length (now memory)) × (16 * c + 16 ≤ length (now memory))))) ⌝ }
     ensures { λ _. ⌜ now (memory .exit) ≡ fill (shareAt c) (λ i. at (now (memory .entry)) (a + i)) n (now (memory .entry)) ⌝ }
 {
     if n == 16 {
@@ -123,7 +124,7 @@ fn unless_hidden(i: usize, p: usize, old: u8, new: u8) -> u8
 
 // The masked value of wire w.
 fn masked(memory: &[u8], wires: usize, w: usize) -> u8
-    requires { ⌜ (w < wires) × ((wires ≤ 4608) × (64 * wires ≤ length (now memory))) ⌝ }
+    requires { ⌜ (w < wires) × ((wires ≤ maxWires) × (64 * wires ≤ length (now memory))) ⌝ }
     ensures { λ r. ⌜ r ≡ at (now (memory .entry)) (valueAt wires w) ⌝ }
 {
     memory[16 * wires + 16 * w]
@@ -131,7 +132,7 @@ fn masked(memory: &[u8], wires: usize, w: usize) -> u8
 
 // The product of the masked values of wires a and b.
 fn product(memory: &[u8], wires: usize, a: usize, b: usize) -> u8
-    requires { ⌜ (a < wires) × ((b < wires) × ((wires ≤ 4608) × (64 * wires ≤ length (now memory)))) ⌝ }
+    requires { ⌜ (a < wires) × ((b < wires) × ((wires ≤ maxWires) × (64 * wires ≤ length (now memory)))) ⌝ }
     ensures { λ r. ⌜ r ≡ bitAnd (at (now (memory .entry)) (valueAt wires a)) (at (now (memory .entry)) (valueAt wires b)) ⌝ }
 {
     masked(memory, wires, a) & masked(memory, wires, b)
@@ -139,7 +140,7 @@ fn product(memory: &[u8], wires: usize, a: usize, b: usize) -> u8
 
 // What the broadcasts take of wire w: its masked value, with no party's share of the mask taken off.
 fn taken(memory: &[u8], wires: usize, w: usize) -> u8
-    requires { ⌜ (w < wires) × ((wires ≤ 4608) × (64 * wires ≤ length (now memory))) ⌝ }
+    requires { ⌜ (w < wires) × ((wires ≤ maxWires) × (64 * wires ≤ length (now memory))) ⌝ }
     ensures { λ r. ⌜ r ≡ at (now (memory .entry)) (valueAt wires w) ⌝ }
 {
     masked(memory, wires, w) ^ mask(memory, 0, w)
@@ -299,7 +300,7 @@ pub(crate) fn gate(
 
 // Broadcast t of the shares of output wire w by 8 parties.
 fn output8(memory: &mut [u8], wires: usize, p: usize, w: usize, t: usize) -> u8
-    requires { ⌜ Room wires 8 (now memory) × ((w < wires) × (t < wires + 256)) ⌝ }
+    requires { ⌜ Room wires 8 (now memory) × ((w < wires) × (t < wires + maxOutputs)) ⌝ }
     ensures { λ r. ⌜ (now (memory .exit) ≡ outputStep wires 8 p w t (now (memory .entry))) × (r ≡ unmasked wires 8 p w t (now (memory .entry))) ⌝ }
 {
     let x = masked(memory, wires, w);
@@ -312,7 +313,7 @@ fn output8(memory: &mut [u8], wires: usize, p: usize, w: usize, t: usize) -> u8
 
 // Broadcast t of the shares of output wire w by 16 parties.
 fn output16(memory: &mut [u8], wires: usize, p: usize, w: usize, t: usize) -> u8
-    requires { ⌜ Room wires 16 (now memory) × ((w < wires) × (t < wires + 256)) ⌝ }
+    requires { ⌜ Room wires 16 (now memory) × ((w < wires) × (t < wires + maxOutputs)) ⌝ }
     ensures { λ r. ⌜ (now (memory .exit) ≡ outputStep wires 16 p w t (now (memory .entry))) × (r ≡ unmasked wires 16 p w t (now (memory .entry))) ⌝ }
 {
     let x = masked(memory, wires, w);
@@ -327,7 +328,7 @@ fn output16(memory: &mut [u8], wires: usize, p: usize, w: usize, t: usize) -> u8
 
 // Broadcast t of the shares of output wire w, but for the hidden party's; answers the wire's value.
 pub(crate) fn output(memory: &mut [u8], wires: usize, n: usize, p: usize, w: usize, t: usize) -> u8
-    requires { ⌜ Room wires n (now memory) × ((w < wires) × (t < wires + 256)) ⌝ }
+    requires { ⌜ Room wires n (now memory) × ((w < wires) × (t < wires + maxOutputs)) ⌝ }
     ensures { λ r. ⌜ (now (memory .exit) ≡ outputStep wires n p w t (now (memory .entry))) × (r ≡ unmasked wires n p w t (now (memory .entry))) ⌝ }
 {
     if n == 16 {

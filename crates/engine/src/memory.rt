@@ -6,6 +6,7 @@ ghost use Prim.Native.Nat.{ℕ, _+_, _*_, _/_, _%_, _≤_, _<_};
 ghost use lib.Dec.{ltb};
 ghost use lib.ListN.{length, replicate};
 ghost use Rattle.bits.specs.Bits.{odd, bitVal, testBit, fromBits, bitAt};
+ghost use Rattle.circuit.specs.File.{maxOutputs};
 ghost use Rattle.engine.specs.Steps.{at, fill, unpacked, packed, packedByte, loadedRow, loadedTapes, maskByte, maskedInputs, packedRows, Room};
 use crate::rows::sum8;
 use crate::rows::sum16;
@@ -262,7 +263,7 @@ pub fn pack(memory: &[u8], from: usize, shown: usize, out: &mut [u8])
 
 // Packs the broadcast rows of n parties, of len bytes each.
 pub fn pack_rows(memory: &[u8], wires: usize, n: usize, shown: usize, len: usize, rows: &mut [u8])
-    requires { ⌜ Room wires n (now memory) × ((shown ≤ wires + 256) × ((len ≤ 4096) × (length (now rows) ≡ n * len))) ⌝ }
+    requires { ⌜ Room wires n (now memory) × ((shown ≤ wires + maxOutputs) × ((len ≤ 4096) × (length (now rows) ≡ n * len))) ⌝ }
     ensures { λ _. ⌜ now (rows .exit) ≡ packedRows wires (now (memory .entry)) n shown len ⌝ }
 {
     let mut i = 0;

@@ -13,6 +13,7 @@ use Rattle.circuit.specs.Circuit.{Circuit}
 use Rattle.mpc.specs.Tapes.{andsOf}
 use Rattle.instance.specs.Instance.{Asked, opened, hiding}
 use Rattle.proof.specs.Protocol.{challenged}
+use Rattle.proof.specs.File.{headerBytes}
 
 -- "For each j ∈ [M] \ C, the prover sends seed*_j, h'_j": seed*_j is the master
 pub record Unchosen : Type 0 where
@@ -53,7 +54,7 @@ pub record Header : Type 0 where
 abbrev pub HeaderFits : Header → Type 0
 HeaderFits h = (h .M < 65536) × (h .tau < 65536) × (length (h .hstar) ≡ 32)
 
--- its 38 bytes
+-- its bytes
 unfoldable pub encodeHeader : Header → List ℕ
 encodeHeader h = leBytes 2 (h .M) ++ leBytes 2 (h .tau) ++ (h .n ∷ 0 ∷ []) ++ h .hstar
 
@@ -111,12 +112,12 @@ unfoldable pub bytesFrom : Circuit → ℕ → (ℕ → Asked) → List ℕ → 
 bytesFrom c n ask s zero = s
 bytesFrom c n ask s (suc j) = decodeSent c n (ask j) (bytesFrom c n ask s j) .1
 
--- the response in a file, after the 38 bytes of the header; the challenge says which instances are chosen
+-- the response in a file, after the header; the challenge says which instances are chosen
 unfoldable pub decode : Circuit → List ℕ → List ℕ → Response
 decode c message file j =
     let n : ℕ = decodeHeader file .n in
     let ask : ℕ → Asked = challengeIn message file in
-    decodeSent c n (ask j) (bytesFrom c n ask (drop 38 file) j) .0
+    decodeSent c n (ask j) (bytesFrom c n ask (drop headerBytes file) j) .0
 
 -- the lengths of the parts: "master (16), h'_j (32)"; "log2 n siblings of 16 bytes, corrections unless p = n − 1, com_p, masked inputs,
 -- broadcast row p"
@@ -140,7 +141,7 @@ allBytes c n ask (suc m) = allBytes c n ask m + sentBytes c n (ask m)
 unfoldable pub impliedLength : Circuit → List ℕ → List ℕ → ℕ
 impliedLength c message file =
     let h : Header = decodeHeader file in
-    38 + allBytes c (h .n) (challengeIn message file) (h .M)
+    headerBytes + allBytes c (h .n) (challengeIn message file) (h .M)
 
 -- "the unused bits of a last byte are zero"
 pub record UnusedZero (c : Circuit) (x : Chosen) : Type 0 where

@@ -10,7 +10,9 @@ use Rattle.refusal.specs.Outcome.{success, done}
 use Rattle.parties.specs.Parties.{isPartyCount}
 use Rattle.circuit.specs.Circuit.{Circuit}
 use Rattle.circuit.specs.File.{readCircuit, legal}
+use Rattle.seeds.specs.Operations.{maxInstances, maxMessage}
 use Rattle.proof.specs.Protocol.{challenged}
+use Rattle.proof.specs.File.{headerBytes}
 use Rattle.proof.specs.Prove.{proveOp}
 use Rattle.proof.specs.Check.{checkOp}
 use Rattle.honest.specs.Response.{Chosen, chosen, Response, answered, Header, HeaderFits, encode, decodeHeader, challengeIn, decode, Lengths, impliedLength, UnusedZero}
@@ -31,9 +33,9 @@ Complete =
 -- the header of a proof file: "11 a header under 38 bytes, out of limits or with its zero byte not 0"; "M is 2..512, τ 1..M−1, n 2, 4, 8
 -- or 16"
 pub record GoodHeader (proof : List ℕ) (header : Header) : Type 0 where
-  pub size : 38 ≤ length proof
+  pub size : headerBytes ≤ length proof
   pub M-least : 2 ≤ header .M
-  pub M-most : header .M ≤ 512
+  pub M-most : header .M ≤ maxInstances
   pub tau-least : 1 ≤ header .tau
   pub tau-most : header .tau < header .M
   pub parties : isPartyCount (header .n) ≡ true
@@ -47,7 +49,7 @@ pub record Accepts (s y message proof : List ℕ) : Type 0 where
   pub read : readCircuit s ≡ legal circuit
   -- "6 for y and message; 7 for y"
   pub y-size : length y ≡ oct (length (circuit .outputs))
-  pub message-size : length message ≤ 4096
+  pub message-size : length message ≤ maxMessage
   pub y-unused : unusedZero (length (circuit .outputs)) y ≡ true
   -- "11 a header .."
   pub header : GoodHeader proof (decodeHeader proof)

@@ -6,7 +6,7 @@ ghost use lib.Dec.{eqb};
 ghost use lib.ListN.{length, replicate};
 ghost use Rattle.bits.specs.Bits.{oct, pack, unusedZero};
 ghost use Rattle.bits.specs.Bytes.{sameBytes};
-ghost use Rattle.circuit.specs.File.{circuitOf};
+ghost use Rattle.circuit.specs.File.{maxGates, circuitOf};
 ghost use Rattle.mpc.specs.Showing.{rowsOf, replayOf};
 ghost use Rattle.engine.specs.Steps.{wireCount};
 ghost use Rattle.mpc.specs.Steps.{Known, Parties, ShowingFits, TapesFit, prepared, replayed as «replayed-memory»};
@@ -58,7 +58,7 @@ pub fn reopen(
 
 // The bytes of corrections in the stretch of a chosen instance that hides party p.
 pub fn sent_bytes(ands: usize, n: u32, p: u32) -> usize
-    requires { ⌜ (ands ≤ 4096) × (p < n) ⌝ }
+    requires { ⌜ (ands ≤ maxGates) × (p < n) ⌝ }
     ensures { λ r. ⌜ r ≡ cond (eqb (suc p) n) 0 (oct ands) ⌝ }
 {
     if p + 1 == n { 0 } else { bits::oct(ands) }

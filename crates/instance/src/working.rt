@@ -4,7 +4,7 @@ ghost use mathlib.Core.Bool.{true};
 ghost use Prim.Native.Nat.{_+_, _*_, _≤_, _<_};
 ghost use lib.ListN.{length, replicate};
 ghost use Rattle.bits.specs.Bits.{oct, unusedZero};
-ghost use Rattle.circuit.specs.File.{circuitOf};
+ghost use Rattle.circuit.specs.File.{maxOutputs, circuitOf};
 ghost use Rattle.engine.specs.Steps.{packedRows, wireCount, Room};
 ghost use Rattle.mpc.specs.Showing.{maskedInputs};
 ghost use Rattle.mpc.specs.Steps.{Known, Parties, WitnessFits, TapesFit, ShowingFits, worked, replayed as «replayed-memory», replayedValues};
@@ -78,7 +78,7 @@ pub fn rework(
 
 // h'_j over the masked inputs and the broadcast rows in the memory.
 pub fn online(j: u32, masked: &[u8], memory: &[u8], wires: usize, n: usize, said: usize) -> [u8; 32]
-    requires { ⌜ Room wires n (now memory) × (said ≤ wires + 256) ⌝ }
+    requires { ⌜ Room wires n (now memory) × (said ≤ wires + maxOutputs) ⌝ }
     ensures { λ r. ⌜ r ≡ onlineDigest j (now (masked .entry)) (packedRows wires (now (memory .entry)) n said (oct said)) ⌝ }
 {
     let len = bits::oct(said);

@@ -15,6 +15,7 @@ use Rattle.mpc.specs.Showing.{Showing}
 use Rattle.mpc.specs.Operations.{prepareOp, runOp, showOp}
 use Rattle.hashing.specs.Inputs.{boundOf}
 use Rattle.choice.specs.Challenge.{streamOf, hiddenParties}
+use Rattle.seeds.specs.Operations.{maxMessage}
 use Rattle.proof.specs.Protocol.{mastersOf, firstMessage, asked}
 use Rattle.proof.specs.File.{proofBytes}
 use Rattle.proof.specs.Prove.{proveOp}
@@ -116,7 +117,7 @@ pub record ProveInputs (witness y message root buffer : List ℕ) : Type 0 where
   pub witnessSize : length witness ≡ 1
   pub unused : unusedZero 2 witness ≡ true
   pub gives : pack (evaluate (circuitOf circuitK) (bitAt witness)) ≡ y
-  pub short : length message ≤ 4096
+  pub short : length message ≤ maxMessage
   pub rootSize : length root ≡ 16
   pub room : 233 ≤ length buffer
 

@@ -6,7 +6,7 @@ ghost use Prim.Native.Nat.{_+_, _*_, _≤_};
 ghost use lib.Dec.{eqb};
 ghost use lib.ListN.{length};
 ghost use Rattle.bits.specs.Bits.{oct};
-ghost use Rattle.circuit.specs.File.{circuitOf};
+ghost use Rattle.circuit.specs.File.{maxInputs, maxOutputs, maxGates, circuitOf};
 ghost use Rattle.mpc.specs.Operations.{ran, runLegal, runOp};
 ghost use Rattle.mpc.specs.Answers.{outcome};
 ghost use Rattle.mpc.specs.Steps.{Known, Parties, Begun, WitnessFits, RunLent};
@@ -99,7 +99,7 @@ fn run_lengths(
     rows: &[u8],
     y: &[u8],
 ) -> bool
-    requires { ⌜ (n ≤ 16) × ((z .inputs ≤ 512) × ((z .outputs ≤ 256) × (z .ands ≤ 4096))) ⌝ }
+    requires { ⌜ (n ≤ 16) × ((z .inputs ≤ maxInputs) × ((z .outputs ≤ maxOutputs) × (z .ands ≤ maxGates))) ⌝ }
     ensures { λ r. ⌜ r ≡ eqb (length (now (witness .entry))) (oct (z .inputs)) && eqb (length (now (tapes .entry))) (n * oct (z .inputs + 2 * z .ands)) && eqb (length (now (corrections .entry))) (oct (z .ands)) && eqb (length (now (masked .entry))) (oct (z .inputs)) && eqb (length (now (rows .entry))) (n * oct (z .ands + z .outputs)) && eqb (length (now (y .entry))) (oct (z .outputs)) ⌝ }
 {
     let lent = both(

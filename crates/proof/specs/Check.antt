@@ -11,6 +11,7 @@ use Rattle.refusal.specs.Outcome.{Outcome, done, unless}
 use Rattle.circuit.specs.Circuit.{Circuit}
 use Rattle.circuit.specs.File.{readCircuit}
 use Rattle.circuit.specs.Operations.{onLegal, holds}
+use Rattle.seeds.specs.Operations.{maxMessage}
 use Rattle.instance.specs.Instance.{Asked}
 use Rattle.instance.specs.Opened.{stretchCommitments, stretchOnline, stretchUnused, stretchOutput}
 use Rattle.proof.specs.Protocol.{hstarOf, challenged}
@@ -38,7 +39,7 @@ checkProof c y proof M n ask =
 -- "The check draws the challenge from the header's h*."
 unfoldable pub checkLegal : List ℕ → List ℕ → List ℕ → Circuit → Outcome
 checkLegal y message proof c =
-    unless (holds (length (c .outputs)) y && leb (length message) 4096) 6 []
+    unless (holds (length (c .outputs)) y && leb (length message) maxMessage) 6 []
     (unless (unusedZero (length (c .outputs)) y) 7 []
     (unless (goodHeader proof) 11 []
     (checkProof c y proof (headerM proof) (headerN proof)

@@ -7,7 +7,7 @@ ghost use lib.Dec.{eqb};
 ghost use lib.ListN.{length};
 ghost use Rattle.bits.specs.Bits.{oct, pack, unusedZero};
 ghost use Rattle.bits.specs.Bytes.{sameBytes};
-ghost use Rattle.circuit.specs.File.{circuitOf};
+ghost use Rattle.circuit.specs.File.{maxInputs, maxOutputs, maxGates, circuitOf};
 ghost use Rattle.engine.specs.Steps.{Room, packed, packedRows};
 ghost use Rattle.mpc.specs.Showing.{rowsOf, replayOf};
 ghost use Rattle.mpc.specs.Operations.{unusedShowing, replayLegal, replayOp};
@@ -32,7 +32,7 @@ use refusal::Refusal;
 
 // Whether y is the first bits at every 16th byte of the values, packed.
 pub fn outputs_are(values: &[u8], outputs: usize, y: &[u8]) -> bool
-    requires { ⌜ (outputs ≤ 256) × (16 * outputs ≤ length (now values)) ⌝ }
+    requires { ⌜ (outputs ≤ maxOutputs) × (16 * outputs ≤ length (now values)) ⌝ }
     ensures { λ r. ⌜ r ≡ sameBytes (packed (now (values .entry)) 0 outputs (oct outputs)) (now (y .entry)) ⌝ }
 {
     let mut out = [0u8; 32];
@@ -43,7 +43,7 @@ pub fn outputs_are(values: &[u8], outputs: usize, y: &[u8]) -> bool
 
 // Packs the broadcast rows of n parties where good; else leaves them as they were.
 fn pack_if(good: bool, memory: &[u8], wires: usize, n: usize, said: usize, rows: &mut [u8])
-    requires { ⌜ Room wires n (now memory) × ((said ≤ wires + 256) × (length (now rows) ≡ n * oct said)) ⌝ }
+    requires { ⌜ Room wires n (now memory) × ((said ≤ wires + maxOutputs) × (length (now rows) ≡ n * oct said)) ⌝ }
     ensures { λ _. ⌜ now (rows .exit) ≡ cond good (packedRows wires (now (memory .entry)) n said (oct said)) (now (rows .entry)) ⌝ }
 {
     if good {
@@ -127,7 +127,7 @@ fn replay_lengths(
     y: &[u8],
     rows: &[u8],
 ) -> bool
-    requires { ⌜ (n ≤ 16) × ((z .inputs ≤ 512) × ((z .outputs ≤ 256) × (z .ands ≤ 4096))) ⌝ }
+    requires { ⌜ (n ≤ 16) × ((z .inputs ≤ maxInputs) × ((z .outputs ≤ maxOutputs) × (z .ands ≤ maxGates))) ⌝ }
     ensures { λ r. ⌜ r ≡ (eqb (length (now (tapes .entry))) (n * oct (z .inputs + 2 * z .ands)) && eqb (length (now (corrections .entry))) (oct (z .ands)) && eqb (length (now (masked .entry))) (oct (z .inputs)) && eqb (length (now (row .entry))) (oct (z .ands + z .outputs))) && eqb (length (now (y .entry))) (oct (z .outputs)) && eqb (length (now (rows .entry))) (n * oct (z .ands + z .outputs)) ⌝ }
 {
     let first = both(

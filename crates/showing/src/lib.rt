@@ -6,7 +6,7 @@ ghost use Prim.Native.Nat.{suc, _+_, _*_, _≤_, _<_};
 ghost use lib.Dec.{eqb};
 ghost use lib.ListN.{length, take, drop, replicate};
 ghost use Rattle.bits.specs.Bits.{oct};
-ghost use Rattle.circuit.specs.File.{headOf, circuitOf};
+ghost use Rattle.circuit.specs.File.{maxInputs, maxOutputs, maxGates, maxWires, headOf, circuitOf};
 ghost use Rattle.engine.specs.Steps.{packed};
 ghost use Rattle.mpc.specs.Showing.{shownBits, showing};
 ghost use Rattle.mpc.specs.Operations.{partsOf, showLegal, showOp};
@@ -57,7 +57,7 @@ fn hide_row(tapes: &[u8], len: usize, p: usize, out: &mut [u8])
 
 // Shows the corrections, or zeros where they are the hidden party's.
 fn show_corrections(memory: &[u8], wires: usize, ands: usize, n: usize, p: usize, out: &mut [u8])
-    requires { ⌜ (p < n) × ((n ≤ 16) × ((wires ≤ 4608) × ((ands ≤ wires) × ((length (now out) ≤ 4096) × (64 * wires + 4096 ≤ length (now memory)))))) ⌝ }
+    requires { ⌜ (p < n) × ((n ≤ 16) × ((wires ≤ maxWires) × ((ands ≤ wires) × ((length (now out) ≤ 4096) × (64 * wires + 4096 ≤ length (now memory)))))) ⌝ }
     ensures { λ _. ⌜ now (out .exit) ≡ cond (eqb (suc p) n) (replicate (length (now (out .entry))) 0) (packed (now (memory .entry)) (16 * wires + 1) ands (length (now (out .entry)))) ⌝ }
 {
     if p + 1 == n {
@@ -145,7 +145,7 @@ fn show_lengths(
     masked: &[u8],
     row: &[u8],
 ) -> bool
-    requires { ⌜ (n ≤ 16) × ((z .inputs ≤ 512) × ((z .outputs ≤ 256) × (z .ands ≤ 4096))) ⌝ }
+    requires { ⌜ (n ≤ 16) × ((z .inputs ≤ maxInputs) × ((z .outputs ≤ maxOutputs) × (z .ands ≤ maxGates))) ⌝ }
     ensures { λ r. ⌜ r ≡ eqb (length (now (witness .entry))) (oct (z .inputs)) && eqb (length (now (tapes .entry))) (n * oct (z .inputs + 2 * z .ands)) && (eqb (length (now (blanked .entry))) (n * oct (z .inputs + 2 * z .ands)) && eqb (length (now (corrections .entry))) (oct (z .ands)) && eqb (length (now (masked .entry))) (oct (z .inputs)) && eqb (length (now (row .entry))) (oct (z .ands + z .outputs))) ⌝ }
 {
     let lent = both(

@@ -4,7 +4,7 @@ use mathlib.Core.Bool.{true}
 use mathlib.Core.Path.{_≡_, refl, sym, _∙_}
 use Prim.Native.Nat.{_≤_}
 use native.Mathlib.Omega.{arith}
-use Rattle.circuit.specs.File.{walks}
+use Rattle.circuit.specs.File.{maxWires, walks}
 use Rattle.circuit.specs.Steps.{walked, wired}
 use Rattle.circuit.proofs.Run.{walked-end, wired-on, walk-turn}
 use Rattle.circuit.proofs.Chain.{Here, here, inside, next-read, gate-read}
@@ -13,7 +13,7 @@ use Rattle.circuit.proofs.evaluation.walk.Tie as tie
 
 abbrev Inv-loop : tie.InvT-loop
 Inv-loop s inputs outputs gates head values₀ left₀ slot₀ values left slot =
-    (left ≤ gates) × ((walks s left slot ≡ true) × (wired s 4608 left slot × (walked s left slot values ≡ walked s gates head values₀)))
+    (left ≤ gates) × ((walks s left slot ≡ true) × (wired s maxWires left slot × (walked s left slot values ≡ walked s gates head values₀)))
 
 abbrev μ-loop : tie.MeasureT-loop
 μ-loop s inputs outputs gates head values₀ left₀ slot₀ values left slot = left

@@ -6,7 +6,7 @@ use Prim.Native.Nat.{ℕ, _≤_}
 use native.Mathlib.Omega.{arith}
 use borrow.Author.Tests.{not-true, not-false}
 use lib.ListN.{length-replicate, length, length-set}
-use Rattle.circuit.specs.File.{walks, readsWritten}
+use Rattle.circuit.specs.File.{maxWires, walks, readsWritten}
 use Rattle.circuit.specs.Steps.{gatesFrom, seen, inputsFirst}
 use Rattle.circuit.proofs.Chain.{next-read, reads-turn, reads-fail, inside, here, Here, gates-end, seen-none}
 use Rattle.circuit.proofs.tests.good_reads.Statement.{statement}
@@ -14,7 +14,7 @@ use Rattle.circuit.proofs.tests.good_reads.Tie as tie
 
 abbrev Inv-loop : tie.InvT-loop
 Inv-loop s inputs outputs gates head flags₀ left₀ slot₀ flags left slot =
-    (left ≤ gates) × ((length flags ≡ 4608) × ((walks s left slot ≡ true) × (readsWritten (seen inputs flags) (gatesFrom s left slot) ≡ inputsFirst s gates head)))
+    (left ≤ gates) × ((length flags ≡ maxWires) × ((walks s left slot ≡ true) × (readsWritten (seen inputs flags) (gatesFrom s left slot) ≡ inputsFirst s gates head)))
 
 abbrev μ-loop : tie.MeasureT-loop
 μ-loop s inputs outputs gates head flags₀ left₀ slot₀ flags left slot = left
@@ -24,8 +24,8 @@ unfolding inputsFirst
 loop-holds c = (
   omega arith,
   (
-    length-replicate {A = ℕ} 4608 0,
-    (c .before .pre .chain, rw (← c .before .pre .laid .inputs) (ap (λ (f : ℕ → Bool). readsWritten f (gatesFrom (c .before .args .s .now) (c .before .args .gates) (c .before .args .head))) (seen-none _ 4608))),
+    length-replicate {A = ℕ} maxWires 0,
+    (c .before .pre .chain, rw (← c .before .pre .laid .inputs) (ap (λ (f : ℕ → Bool). readsWritten f (gatesFrom (c .before .args .s .now) (c .before .args .gates) (c .before .args .head))) (seen-none _ maxWires))),
   ),
 )
 
