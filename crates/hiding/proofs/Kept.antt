@@ -17,7 +17,7 @@ use Rattle.mpc.specs.Run.{Column, next, says, asLent, outputs, run}
 use Rattle.mpc.specs.Tapes.{andsOf}
 use Rattle.mpc.specs.Showing.{runWith, rowBits, rowsOf, Showing, replayOf}
 use Rattle.hiding.specs.Hiding.{Bytes}
-use Rattle.hiding.proofs.Shown.{length-row}
+use Rattle.mpc.proofs.Lengths.{length-row}
 
 -- p's bits of the outputs are those of its row
 outputs-lent : (n p : ℕ) (ws : List ℕ) (row : ℕ → Bool) (s : ℕ → Column) (m : ℕ → Bool)

@@ -1,21 +1,19 @@
--- What bytes show of bits: lengths of corrections and broadcast rows, packed bits read back.
+-- What bytes show of bits: packed bits read back, and the row of the cut after all gates.
 -- Assumes nothing.
-use mathlib.Core.Path.{_≡_, refl, sym, ap, _∙_}
-use mathlib.Core.Bool.{Bool, false, _&&_}
-use mathlib.Core.List.{List, [], _∷_}
-use Prim.Native.Nat.{ℕ, suc, _+_, _<_}
-use native.Mathlib.Nat.{suc-add, zero-add}
+use mathlib.Core.Path.{_≡_, sym, ap, _∙_}
+use mathlib.Core.Bool.{Bool, false}
+use mathlib.Core.List.{List}
+use Prim.Native.Nat.{ℕ, _+_, _<_}
 use native.Mathlib.Omega.{arith}
-use borrow.Author.Tests.{lt-ltb, le-ltb}
-use lib.Dec.{ltb}
+use borrow.Author.Tests.{le-ltb}
 use lib.ListN.{length, getD}
 use Rattle.bits.specs.Bits.{tabulate, pack, unpack}
 use Rattle.bits.proofs.Packing.{unpack-pack}
-use Rattle.bits.proofs.Tabulate.{getD-tabulate, tabulate-cong, tabulate-getD}
-use Rattle.circuit.specs.Circuit.{Gate, xor, and, inv, Circuit, ands}
-use Rattle.mpc.specs.Run.{Column, next, corrections, Hearing, outputs, run}
+use Rattle.bits.proofs.Tabulate.{getD-tabulate}
+use Rattle.circuit.specs.Circuit.{Circuit}
 use Rattle.mpc.specs.Tapes.{andsOf}
-use Rattle.mpc.specs.Showing.{runWith, runOn, honestRun, rowBits, shownBits, firstBits}
+use Rattle.mpc.specs.Showing.{honestRun, rowBits, shownBits, firstBits}
+use Rattle.mpc.proofs.Lengths.{first-all, length-honest}
 
 -- packed bits of one number are equal if their bytes are
 pub pack-injective : (a b : List Bool) → length a ≡ length b → pack a ≡ pack b → a ≡ b
@@ -26,45 +24,10 @@ pub tabulate-injective : (n : ℕ) (f g : ℕ → Bool) → tabulate n f ≡ tab
 tabulate-injective n f g e k h =
     sym (getD-tabulate n f k false h) ∙ ap (λ (l : List Bool). getD l k false) e ∙ getD-tabulate n g k false h
 
--- a correction for each AND gate
-pub length-corrections : (n : ℕ) (gs : List Gate) (o z s : ℕ → Column) → length (corrections n gs o z s) ≡ ands gs
-unfolding corrections ands
-length-corrections n [] o z s = refl
-length-corrections n (xor a b c ∷ gs) o z s = length-corrections n gs o z _
-length-corrections n (and a b c ∷ gs) o z s = ap suc (length-corrections n gs (next o) (next z) _)
-length-corrections n (inv a c ∷ gs) o z s = length-corrections n gs o z _
-
--- a bit for each output
-length-outputs : (n : ℕ) (ws : List ℕ) (h : Hearing) (s : ℕ → Column) (m : ℕ → Bool) (i : ℕ) → length (rowBits (outputs n ws h s m) i) ≡ length ws
-unfolding outputs rowBits
-length-outputs n [] h s m i = refl
-length-outputs n (w ∷ ws) h s m i = ap suc (length-outputs n ws (next h) s m i)
-
--- "A broadcast row holds A + O bits"
-pub length-row : (n : ℕ) (outs : List ℕ) (gs : List Gate) (o z : ℕ → Column) (h : Hearing) (s : ℕ → Column) (m : ℕ → Bool) (i : ℕ)
-    → length (rowBits (run n outs gs o z h s m) i) ≡ ands gs + length outs
-unfolding run rowBits ands
-length-row n outs [] o z h s m i = length-outputs n outs h s m i ∙ sym (zero-add (length outs))
-length-row n outs (xor a b c ∷ gs) o z h s m i = length-row n outs gs o z h _ _ i
-length-row n outs (and a b c ∷ gs) o z h s m i = ap suc (length-row n outs gs (next o) (next z) (next h) _ _ i) ∙ sym (suc-add (ands gs) (length outs))
-length-row n outs (inv a c ∷ gs) o z h s m i = length-row n outs gs o z h _ _ i
-
--- all bits of a list
-first-all : (k : ℕ) (bs : List Bool) → length bs ≡ k → firstBits k bs ≡ bs
-unfolding firstBits
-first-all k bs e =
-    tabulate-cong (length bs) (λ t. ltb t k && getD bs t false) (λ t. getD bs t false) (λ t h. rw (lt-ltb t k (omega arith)))
-    ∙ tabulate-getD bs false
-
 -- the cut after all gates shows all bits
 shown-all : (c : Circuit) → shownBits c (length (c .gates)) ≡ andsOf c + length (c .outputs)
 unfolding shownBits
 shown-all c = rw (le-ltb (length (c .gates)) (length (c .gates)) (omega arith))
-
--- an honest run's row
-pub length-honest : (c : Circuit) (n p : ℕ) (w tapes : List ℕ) → length (rowBits (honestRun c n w tapes) p) ≡ andsOf c + length (c .outputs)
-unfolding honestRun runOn runWith
-length-honest c n p w tapes = length-row n (c .outputs) (c .gates) _ _ _ _ _ p
 
 -- is shown whole
 pub row-all : (c : Circuit) (n p : ℕ) (w tapes : List ℕ)

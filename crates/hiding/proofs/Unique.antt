@@ -21,7 +21,8 @@ use Rattle.hiding.proofs.Columns.{Others, all-agree, sum-agrees}
 use Rattle.hiding.proofs.Masked.{bit}
 use Rattle.hiding.proofs.Fixed.{cancel, row-fixes}
 use Rattle.hiding.proofs.Rows.{inputs-end, used-last, used-inside, row-here, row-other}
-use Rattle.hiding.proofs.Shown.{pack-injective, tabulate-injective, length-corrections, length-honest, row-all}
+use Rattle.mpc.proofs.Lengths.{length-corrections, length-honest}
+use Rattle.hiding.proofs.Shown.{pack-injective, tabulate-injective, row-all}
 
 -- rows of one party are equal if their input masks, output masks and product shares are
 rows-equal : (c : Circuit) (n p : ℕ) (x y : List ℕ) → Row c n p x → Row c n p y → ((k : ℕ) → k < c .inputs → bitAt x k ≡ bitAt y k)

@@ -16,7 +16,7 @@ use Rattle.parties.specs.Parties.{heightOf}
 use Rattle.circuit.specs.Circuit.{Circuit}
 use Rattle.mpc.specs.Tapes.{andsOf}
 use Rattle.mpc.specs.Showing.{runWith, rowBits, rowsOf, replayOf}
-use Rattle.hiding.proofs.Shown.{length-row}
+use Rattle.mpc.proofs.Lengths.{length-row}
 use Rattle.hiding.proofs.Kept.{replay-keeps-row}
 use Rattle.instance.specs.Instance.{Asked, opened, hiding}
 use Rattle.instance.specs.Stretch.{correctionBytes, stretchBytes, rowPart}

@@ -16,7 +16,7 @@ use Rattle.parties.specs.Parties.{heightOf}
 use Rattle.circuit.specs.Circuit.{Circuit}
 use Rattle.mpc.specs.Tapes.{andsOf}
 use Rattle.mpc.specs.Showing.{correctionBits, maskedInputs, rowBits}
-use Rattle.hiding.proofs.Shown.{length-corrections, length-honest}
+use Rattle.mpc.proofs.Lengths.{length-corrections, length-honest}
 use Rattle.tree.specs.Tree.{siblingsBelow}
 use Rattle.party.specs.Derive.{commitmentOf}
 use Rattle.tree.proofs.Lengths.{length-siblings}

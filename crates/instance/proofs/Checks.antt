@@ -15,10 +15,9 @@ use Rattle.bits.specs.Bits.{oct, unusedZero}
 use Rattle.bits.proofs.Rows.{row-fits}
 use Rattle.bits.proofs.Tests.{and-true-left, and-true-right}
 use Rattle.parties.specs.Parties.{heightOf}
-use Rattle.parties.proofs.Counts.{sizes, count-no, height-small}
 use Rattle.circuit.specs.File.{circuitOf}
 use Rattle.mpc.specs.Tapes.{andsOf, withRow}
-use Rattle.mpc.specs.Steps.{Known, Parties}
+use Rattle.mpc.specs.Steps.{Known}
 use Rattle.mpc.proofs.Opened.{sized, circuit-inputs, circuit-outputs, circuit-ands, circuit-row}
 use Rattle.tree.specs.Tree.{openedBelow}
 use Rattle.instance.specs.Instance.{hiding, seedsOf, tapesOf}
@@ -34,18 +33,6 @@ sent-none p n x e = rw (eq-eqb (suc p) n (sym (add-one p) ∙ e)) refl
 pub sent-all : (p n x r : ℕ) → (p + 1 ≡ n → ⊥) → r ≡ x → r ≡ cond (eqb (suc p) n) 0 x
 sent-all p n x r e q = rw (ne-eqb (suc p) n (λ t. e (add-one p ∙ t))) q
 
--- false is not true
-never : false ≡ true → ⊥
-never e = let z : _≡_ {A = ℕ} 0 1 = cc in omega arith
-
--- a tree is that of a party count
-pub tree-parties : (n h : ℕ) → Tree n h → Parties n
-tree-parties n h t = let z = sizes n (λ e. never (sym (count-no n e) ∙ t .parties)) in record { some = omega (arith, z .some); few = z .few }
-
--- it is low
-pub tree-low : (n h : ℕ) → Tree n h → h ≤ 4
-tree-low n h t = omega (arith, height-small n, t .height)
-
 -- a part is what lies from its start on
 part-is : (m a b : ℕ) (s : List ℕ) → b ≡ a + m → take (b - a) (drop a s) ≡ take m (drop a s)
 part-is m a b s e = let d : b - a ≡ m = omega (arith, e) in ap (λ (k : ℕ). take k (drop a s)) d
@@ -55,7 +42,7 @@ part-rest : (a : ℕ) (s : List ℕ) → take (length s - a) (drop a s) ≡ drop
 part-rest a s = take-all (length s - a) (drop a s) (omega (arith, length-drop a s))
 
 -- the bytes sent are few
-sent-few : (b : Bool) (x y : ℕ) → x ≡ cond b 0 y → x ≤ y
+pub sent-few : (b : Bool) (x y : ℕ) → x ≡ cond b 0 y → x ≤ y
 sent-few true x y e = omega (arith, e)
 sent-few false x y e = omega (arith, e)
 

@@ -4,9 +4,7 @@ use mathlib.Core.Path.{_≡_, refl, sym, ap, ap₂, _∙_}
 use mathlib.Core.Bool.{Bool, true, false, cond}
 use mathlib.Core.List.{List, [], _++_, append-nil, append-assoc}
 use Prim.Native.Nat.{ℕ, suc, _+_, _-_, _*_, _^_, _≤_, _<_}
-use native.Mathlib.Numerals.{add-one}
 use native.Mathlib.Omega.{arith}
-use borrow.Author.Tests.{eq-eqb, ne-eqb}
 use borrow.Rule.Slice.PartMut.{post-is, mid-len}
 use lib.Dec.{eqb}
 use lib.ListN.{length, take, drop, replicate, length-append, length-drop, drop-of-length-le}
@@ -23,7 +21,9 @@ use Rattle.tree.specs.Tree.{siblingsBelow}
 use Rattle.instance.specs.Instance.{hiding, masterSeeds, masterTapes, masterCorrections, masterRun, masterMasked, sentCorrections, stretchOf}
 use Rattle.instance.specs.Stretch.{correctionBytes, stretchBytes}
 use Rattle.instance.specs.Steps.{Tree}
-use Rattle.instance.proofs.Sent.{tree-sizes, row-made}
+use Rattle.instance.proofs.Trees.{tree-sizes}
+use Rattle.instance.proofs.Checks.{sent-few}
+use Rattle.instance.proofs.Sent.{row-made}
 
 -- x is written at a place
 module _ (at : ℕ) (x p : List ℕ) (l : at + length x ≤ length p) where
@@ -42,10 +42,6 @@ put-front pre x p q at to l t e y =
     let n : length (pre ++ x) ≡ to = length-append pre x ∙ omega (arith, l, e) in
     (n, ap (take to) (y ∙ ap (λ (u : List ℕ). u ++ x ++ drop (at + length x) p) t) ∙ take-at (pre ++ x) (drop (at + length x) p) to n)
 
--- what is left after f places
-pub rest-length : (f r : ℕ) (q : List ℕ) → f + r ≡ length q → length (take (length q - f) (drop f q)) ≡ r
-rest-length f r q e = mid-len f (length q) q (omega arith) ∙ omega (arith, e)
-
 -- five parts
 pub five-parts : (first second third fourth k : ℕ) (p0 z1 x y v z5 p2 p3 p4 : List ℕ) → length z1 ≡ first → second ≡ first + length x
     → p2 ≡ take first (z1 ++ drop first p0) ++ x ++ drop (first + length x) (z1 ++ drop first p0) → third ≡ second + length y
@@ -60,17 +56,7 @@ five-parts first second third fourth k p0 z1 x y v z5 p2 p3 p4 l1 e2 q2 e3 q3 e4
     ap₂ (λ (u t : List ℕ). u ++ (z5 ++ t)) (f4 .1) (drop-of-length-le (drop fourth p4) {i = k} (omega (arith, length-drop fourth p4, l)))
     ∙ ap (λ (t : List ℕ). z1 ++ x ++ y ++ v ++ t) (append-nil z5)
 
--- the corrections' bytes that are sent
-pub sent-none : (n p a v : ℕ) → p + 1 ≡ n → v ≡ 0 → v ≡ cond (eqb (suc p) n) 0 a
-sent-none n p a v e f = f ∙ sym (ap (λ (b : Bool). cond b 0 a) (ap (λ (t : ℕ). eqb t n) (sym (add-one p)) ∙ eq-eqb (p + 1) n e))
-
-pub sent-all : (n p a v : ℕ) → (p + 1 ≡ n → ⊥) → v ≡ a → v ≡ cond (eqb (suc p) n) 0 a
-sent-all n p a v e f = f ∙ sym (ap (λ (b : Bool). cond b 0 a) (ap (λ (t : ℕ). eqb t n) (sym (add-one p)) ∙ ne-eqb (p + 1) n e))
-
-sent-few : (b : Bool) (a v : ℕ) → v ≡ cond b 0 a → v ≤ a
-sent-few true a v e = omega (arith, e)
-sent-few false a v e = omega (arith, e)
-
+-- the corrections that are sent
 sent-front : (b : Bool) (a v : ℕ) (x r : List ℕ) → length x ≡ a → v ≡ cond b 0 a → take v (x ++ r) ≡ cond b [] x
 sent-front true a v x r l e = rw e refl
 sent-front false a v x r l e = take-at x r v (l ∙ sym e)
@@ -92,7 +78,7 @@ module _ (s : List ℕ) (i o g a n h p v : ℕ) (k : Known s (sized i o g a)) (t
       ∙ ap (λ (x : ℕ). 16 * h + x + 32 + oct i + oct (a + o)) (sym sent)
 
   pub sent-inside : v ≤ oct a
-  sent-inside = sent-few (eqb (suc p) n) (oct a) v sent
+  sent-inside = sent-few (eqb (suc p) n) v (oct a) sent
 
   -- what the siblings ask
   pub siblings-asks : ((1 + 1) * 2 ^ h ≤ 65536) × (p < 2 ^ h)

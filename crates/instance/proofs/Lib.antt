@@ -1,6 +1,7 @@
+pub mod Trees
 pub mod Seeded
 pub mod Committed
-pub mod Works
+pub mod Online
 pub mod Sent
 pub mod Laid
 pub mod Checks

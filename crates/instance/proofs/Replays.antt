@@ -1,6 +1,6 @@
 -- A replay in the work memory and in a checker's buffers: its output, its two digests, and the digest over the commitments from a master.
 -- Assumes nothing.
-use mathlib.Core.Path.{_≡_, refl, sym, ap, ap₂, _∙_}
+use mathlib.Core.Path.{_≡_, sym, ap, ap₂, _∙_}
 use mathlib.Core.Bool.{Bool, true, false, cond}
 use mathlib.Core.List.{List, _++_, flatten}
 use Prim.Native.Nat.{ℕ, suc, _+_, _-_, _*_, _≤_, _<_}
@@ -13,12 +13,12 @@ use Rattle.bits.specs.Bits.{tabulate, oct, pack, unusedZero}
 use Rattle.bits.specs.Bytes.{sameBytes}
 use Rattle.bits.proofs.Tabulate.{tabulate-cong}
 use Rattle.parties.specs.Parties.{heightOf}
-use Rattle.circuit.specs.File.{headOf, circuitOf}
+use Rattle.circuit.specs.File.{circuitOf}
 use Rattle.engine.specs.Steps.{packed, packedRows}
 use Rattle.mpc.specs.Tapes.{andsOf}
 use Rattle.mpc.specs.Showing.{correctionBits, Showing, rowsOf, replayOf}
-use Rattle.mpc.specs.Steps.{Known, Parties, loaded, gatesRun, outputsRun, valuesRun, prepared, opened, replayed, replayedValues}
-use Rattle.mpc.proofs.Agreement.{replay-rows-agree, replay-output-agrees}
+use Rattle.mpc.specs.Steps.{Known, Begun, replayed, replayedValues}
+use Rattle.mpc.proofs.Worked.{replayed-rows, replayed-output}
 use Rattle.party.specs.Derive.{commitmentOf}
 use Rattle.instance.specs.Instance.{hiding, tapesOf, commitmentsDigest, onlineDigest, commitmentsOf, masterSeeds, masterTapes, masterCorrections, masterCommitments}
 use Rattle.instance.specs.Stretch.{stretchBytes, correctionsPart, commitmentPart}
@@ -42,37 +42,22 @@ prefix-inside k m z w l h = omega (arith, l, h, length-append z w)
 pub prefix-taken : (k m : ℕ) (z w : List ℕ) → length z ≡ m → k ≤ m → k ≡ length (take k (z ++ w))
 prefix-taken k m z w l h = sym (length-take-le k (z ++ w) (prefix-inside k m z w l h))
 
--- the replay of a legal file's circuit in a work memory of z bytes
-module _ (s : List ℕ) (i o g a : ℕ) (k : Known s (sized i o g a)) (n p : ℕ) (parties : Parties n) (l : p < n) (tapes corr masked row : List ℕ)
-    (unused : unusedZero i masked ≡ true) (z : ℕ) (room : 64 * (i + g) + 4096 ≤ z) where
+-- the replay of a legal file's circuit in a work memory m that was clear
+module _ (s : List ℕ) (i o g a n : ℕ) (tapes m : List ℕ) (k : Known s (sized i o g a)) (b : Begun (sized i o g a) n m) (p : ℕ) (corr masked row : List ℕ) (l : p < n)
+    (unused : unusedZero i masked ≡ true) where
   -- what is shown
   abbrev shown : Showing
   shown = record { tapes = tapes; corrections = corr; maskedInputs = masked; row = row }
 
-  -- the broadcast rows
-  rows-replayed : packedRows (i + g) (replayed s (sized i o g a) n p shown (replicate z 0)) n (a + o) (oct (a + o)) ≡ rowsOf n (replayOf (circuitOf s) n p shown)
-  unfolding replayed outputsRun gatesRun opened loaded replayOf
-  rows-replayed =
-      replay-rows-agree s i o g a (headOf s) n z (k .legal) refl (k .ands) (parties .some) (parties .few) room tapes p corr masked row l unused
-
-  -- the output
-  output-replayed : packed (replayedValues s (sized i o g a) n p shown (replicate z 0) (replicate 4096 0)) 0 o (oct o)
-      ≡ pack (replayOf (circuitOf s) n p shown .output)
-  unfolding replayedValues valuesRun gatesRun opened loaded replayOf
-  output-replayed =
-      replay-output-agrees s i o g a (headOf s) n z (k .legal) refl (k .ands) (parties .some) (parties .few) room tapes p corr masked row l unused
-
-  -- whether it is y
-  pub agrees-made : (values y : List ℕ) (r : Bool) → values ≡ replayedValues s (sized i o g a) n p shown (replicate z 0) (replicate 4096 0) → r ≡ sameBytes (packed values 0 o (oct o)) y
-      → r ≡ sameBytes (pack (replayOf (circuitOf s) n p shown .output)) y
-  agrees-made values y r e q =
-      q ∙ ap (λ (v : List ℕ). sameBytes (packed v 0 o (oct o)) y) e ∙ ap (λ (v : List ℕ). sameBytes v y) output-replayed
+  -- whether its output is y
+  pub agrees-made : (values y : List ℕ) (r : Bool) → values ≡ replayedValues s (sized i o g a) n p shown m (replicate 4096 0)
+      → r ≡ sameBytes (packed values 0 o (oct o)) y → r ≡ sameBytes (pack (replayOf (circuitOf s) n p shown .output)) y
+  agrees-made values y r e q = q ∙ ap (λ (v : List ℕ). sameBytes v y) (replayed-output s i o g a n tapes m k b p corr masked row l unused values e)
 
   -- the digest over the rows
-  pub online-made : (j : ℕ) (memory r : List ℕ) → memory ≡ replayed s (sized i o g a) n p shown (replicate z 0)
-      → r ≡ onlineDigest j masked (packedRows (i + g) memory n (a + o) (oct (a + o))) → r ≡ onlineDigest j masked (rowsOf n (replayOf (circuitOf s) n p shown))
-  online-made j memory r e q =
-      q ∙ ap (λ (v : List ℕ). onlineDigest j masked (packedRows (i + g) v n (a + o) (oct (a + o)))) e ∙ ap (onlineDigest j masked) rows-replayed
+  pub online-made : (j : ℕ) (x r : List ℕ) → x ≡ replayed s (sized i o g a) n p shown m
+      → r ≡ onlineDigest j masked (packedRows (i + g) x n (a + o) (oct (a + o))) → r ≡ onlineDigest j masked (rowsOf n (replayOf (circuitOf s) n p shown))
+  online-made j x r e q = q ∙ ap (onlineDigest j masked) (replayed-rows s i o g a n tapes m k b p corr masked row l unused x e)
 
 -- the commitments of n parties, with another for party p
 abbrev committed : (n j p : ℕ) → List ℕ → List ℕ → List ℕ → List ℕ

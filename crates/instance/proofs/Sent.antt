@@ -1,94 +1,45 @@
 -- What an instance's digests and stretch are made of: seeds, corrections and rows as the steps leave them; the stretch, part by part.
 -- Assumes nothing.
 use mathlib.Core.Path.{_≡_, refl, sym, ap, ap₂, _∙_}
-use mathlib.Core.Bool.{Bool, true, false, cond, _&&_}
-use mathlib.Core.List.{List, [], _∷_, _++_, flatten}
-use Prim.Native.Nat.{ℕ, suc, _+_, _*_, _≤_, _<_}
-use native.Mathlib.Nat.{suc-add, zero-add}
+use mathlib.Core.Bool.{true, cond}
+use mathlib.Core.List.{List, _++_, flatten}
+use Prim.Native.Nat.{ℕ, _+_, _*_, _≤_, _<_}
 use native.Mathlib.Omega.{arith}
-use borrow.Author.Tests.{lt-ltb, ne-eqb}
-use lib.Dec.{eqb, ltb}
-use lib.ListN.{length, getD, take, drop, replicate, length-replicate}
+use borrow.Author.Tests.{ne-eqb}
+use lib.Dec.{eqb}
+use lib.ListN.{length, take, drop, replicate, length-replicate}
 use lib.Seq.{length-take-le, take-at, length-front}
 use Rattle.bits.specs.Bits.{tabulate, oct, pack, unusedZero}
-use Rattle.bits.proofs.Tabulate.{tabulate-cong, tabulate-getD}
-use Rattle.parties.proofs.Counts.{Sizes, sizes, count-no}
-use Rattle.circuit.specs.Circuit.{Gate, xor, and, inv, Circuit, ands}
-use Rattle.circuit.specs.File.{headOf, circuitOf}
+use Rattle.bits.proofs.Tabulate.{tabulate-cong}
+use Rattle.circuit.specs.File.{circuitOf}
 use Rattle.engine.specs.Steps.{Room, packed, packedRows}
-use Rattle.mpc.specs.Run.{Column, next, Hearing, outputs, run}
-use Rattle.mpc.specs.Tapes.{andsOf}
 use Rattle.mpc.specs.Showing as shown
-use Rattle.mpc.specs.Showing.{correctionBits, runWith, runOn, honestRun, rowBits, rowsOf, firstBits}
-use Rattle.mpc.specs.Steps.{Known, Parties, loaded, gatesRun, outputsRun, worked}
-use Rattle.mpc.proofs.Agreement.{show-corrections-agree, show-row-agrees, show-rows-agree}
-use Rattle.mpc.proofs.Opened.{sized, circuit-outputs, circuit-ands, ands-low, room}
+use Rattle.mpc.specs.Showing.{correctionBits, honestRun, rowBits}
+use Rattle.mpc.specs.Steps.{Known, Parties, Begun, worked}
+use Rattle.mpc.proofs.Lengths.{first-all, length-honest}
+use Rattle.mpc.proofs.Worked.{worked-corrections, worked-row, worked-rows}
+use Rattle.mpc.proofs.Opened.{sized, begun, circuit-outputs, circuit-ands, ands-low, room}
 use Rattle.mpc.proofs.Asks.{ands-few}
 use Rattle.party.specs.Derive.{commitmentOf}
 use Rattle.instance.specs.Instance.{tapesOf, commitmentsDigest, onlineDigest, commitmentsOf, masterSeeds, masterTapes, masterCorrections, masterCommitments, masterRun, masterMasked, masterOnline}
 use Rattle.instance.specs.Steps.{Tree}
-
--- a party count
-false-true : false ≡ true → ⊥
-false-true e = let z : _≡_ {A = ℕ} 0 1 = cc in omega arith
-
-pub tree-sizes : (n h : ℕ) → Tree n h → Sizes n
-tree-sizes n h t = sizes n (λ e. false-true (sym (count-no n e) ∙ t .parties))
-
-pub tree-parties : (n h : ℕ) → Tree n h → Parties n
-tree-parties n h t = let z = tree-sizes n h t in record { some = omega (arith, z .some); few = z .few }
-
--- a bit for each output
-length-outputs : (n : ℕ) (ws : List ℕ) (h : Hearing) (s : ℕ → Column) (m : ℕ → Bool) (i : ℕ) → length (rowBits (outputs n ws h s m) i) ≡ length ws
-unfolding outputs rowBits
-length-outputs n [] h s m i = refl
-length-outputs n (w ∷ ws) h s m i = ap suc (length-outputs n ws (next h) s m i)
-
--- "A broadcast row holds A + O bits"
-length-row : (n : ℕ) (outs : List ℕ) (gs : List Gate) (o z : ℕ → Column) (h : Hearing) (s : ℕ → Column) (m : ℕ → Bool) (i : ℕ)
-    → length (rowBits (run n outs gs o z h s m) i) ≡ ands gs + length outs
-unfolding run rowBits ands
-length-row n outs [] o z h s m i = length-outputs n outs h s m i ∙ sym (zero-add (length outs))
-length-row n outs (xor a b c ∷ gs) o z h s m i = length-row n outs gs o z h _ _ i
-length-row n outs (and a b c ∷ gs) o z h s m i = ap suc (length-row n outs gs (next o) (next z) (next h) _ _ i) ∙ sym (suc-add (ands gs) (length outs))
-length-row n outs (inv a c ∷ gs) o z h s m i = length-row n outs gs o z h _ _ i
-
--- all bits of a list
-first-all : (k : ℕ) (bs : List Bool) → length bs ≡ k → firstBits k bs ≡ bs
-unfolding firstBits
-first-all k bs e =
-    tabulate-cong (length bs) (λ t. ltb t k && getD bs t false) (λ t. getD bs t false) (λ t h. rw (lt-ltb t k (omega arith)))
-    ∙ tabulate-getD bs false
-
--- an honest run's row
-length-honest : (c : Circuit) (n p : ℕ) (w tapes : List ℕ) → length (rowBits (honestRun c n w tapes) p) ≡ andsOf c + length (c .outputs)
-unfolding honestRun runOn runWith
-length-honest c n p w tapes = length-row n (c .outputs) (c .gates) _ _ _ _ _ p
+use Rattle.instance.proofs.Trees.{tree-sizes}
 
 -- the work memory of Z bytes after the run
 module _ (s : List ℕ) (i o g a n Z : ℕ) (w tapes : List ℕ) (k : Known s (sized i o g a)) (parties : Parties n) (room : 64 * (i + g) + 4096 ≤ Z)
     (unused : unusedZero i w ≡ true) where
-  -- the memory that is left
+  -- it was clear
+  begins : Begun (sized i o g a) n (replicate Z 0)
+  begins = begun (sized i o g a) n Z (replicate Z 0) parties refl room
+
+  -- what is left
   abbrev left : List ℕ
   left = worked s (sized i o g a) n w tapes (replicate Z 0)
 
-  -- its corrections
-  corrections-made : packed left (16 * (i + g) + 1) a (oct a) ≡ pack (correctionBits (circuitOf s) n tapes)
-  unfolding worked outputsRun gatesRun loaded
-  corrections-made =
-      show-corrections-agree s i o g a (headOf s) n Z (k .legal) refl (k .ands) (parties .some) (parties .few) room tapes w unused
-
-  -- its broadcast rows
-  pub rows-made : packedRows (i + g) left n (a + o) (oct (a + o)) ≡ rowsOf n (honestRun (circuitOf s) n w tapes)
-  unfolding worked outputsRun gatesRun loaded
-  rows-made =
-      show-rows-agree s i o g a (headOf s) n Z (k .legal) refl (k .ands) (parties .some) (parties .few) room tapes w unused
-
-  -- one of them
+  -- a broadcast row of it
   pub row-made : (p : ℕ) → p < n → packed left (48 * (i + g) + p) (a + o) (oct (a + o)) ≡ pack (rowBits (honestRun (circuitOf s) n w tapes) p)
-  unfolding worked outputsRun gatesRun loaded
   row-made p l =
-      show-row-agrees s i o g a (headOf s) n Z (k .legal) refl (k .ands) (parties .some) (parties .few) room tapes w unused p (a + o) l (omega arith)
+      worked-row s i o g a n tapes (replicate Z 0) k begins w unused p (a + o) l (omega arith)
       ∙ ap pack
       (first-all (a + o) (rowBits (honestRun (circuitOf s) n w tapes) p)
       (length-honest (circuitOf s) n p w tapes ∙ ap₂ (λ (x y : ℕ). x + y) (circuit-ands s i o g a k) (circuit-outputs s i o g a k)))
@@ -102,7 +53,7 @@ module _ (s : List ℕ) (i o g a n Z : ℕ) (w tapes : List ℕ) (k : Known s (s
       let t : tapes ≡ tapesOf (circuitOf s) n j (masterSeeds n j master) = e2 ∙ ap (tapesOf (circuitOf s) n j) e1 in (
         e1,
         (
-          e6 ∙ ap₂ (λ (y : List ℕ) (q : ℕ). packed y (16 * (i + g) + 1) a q) e4 e5 ∙ corrections-made
+          e6 ∙ ap₂ (λ (y : List ℕ) (q : ℕ). packed y (16 * (i + g) + 1) a q) e4 e5 ∙ worked-corrections s i o g a n tapes (replicate Z 0) k begins w unused
               ∙ ap (λ (y : List ℕ). pack (correctionBits (circuitOf s) n y)) t,
           (e3 ∙ ap (shown.maskedInputs (circuitOf s) n w) t, (t, e4 ∙ ap (λ (y : List ℕ). worked s (sized i o g a) n w y (replicate Z 0)) t)),
         ),
@@ -127,7 +78,7 @@ module _ (s : List ℕ) (i o g a n Z j : ℕ) (w master : List ℕ) (k : Known s
         e6
             ∙ ap₂ (onlineDigest j) e3
             (ap (λ (t : List ℕ). packedRows (i + g) t n (a + o) (oct (a + o))) e4
-            ∙ rows-made s i o g a n Z w (masterTapes (circuitOf s) n j master) k parties room unused),
+            ∙ worked-rows s i o g a n (masterTapes (circuitOf s) n j master) (replicate Z 0) k (begun (sized i o g a) n Z (replicate Z 0) parties refl room) w unused),
       )
 
 -- the sizes of an instance's arrays

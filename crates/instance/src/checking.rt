@@ -17,16 +17,16 @@ ghost use Rattle.instance.specs.Steps.{Tree, Lent};
 use crate::Instance;
 use crate::Replayed;
 use crate::committing::commit;
+use crate::committing::online;
 use crate::seeding::master_seeds;
 use crate::seeding::opened_seeds;
 use crate::seeding::tape_rows;
-use crate::working::online;
-use crate::working::rework;
 use bits::clear;
 use bits::copy;
 use circuit::Sizes;
 use mpc::preparing::prepare_in;
 use mpc::tests::both;
+use mpc::working::run_opened;
 use replaying::outputs_are;
 
 // h_j of an instance that is not chosen, from its master.
@@ -132,7 +132,8 @@ fn rerun(
     ensures { λ _. ⌜ now (memory .exit) ≡ «replayed-memory» (now (s .entry)) z n p (record { tapes = now (tapes .entry); corrections = now (corrections .entry); maskedInputs = now (masked .entry); row = now (row .entry) }) (replicate (length (now (memory .entry))) 0) ⌝ }
 {
     let mut values = [0u8; 4096];
-    rework(
+    clear(memory);
+    run_opened(
         s,
         z,
         n,

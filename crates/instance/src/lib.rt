@@ -3,7 +3,6 @@ pub mod checking;
 pub mod committing;
 pub mod seeding;
 pub mod sending;
-pub mod working;
 
 // An instance: its number j, its parties n, and the height of their tree.
 pub struct Instance {

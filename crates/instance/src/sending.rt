@@ -12,13 +12,14 @@ ghost use Rattle.instance.specs.Steps.{Lent};
 use crate::Digests;
 use crate::Instance;
 use crate::committing::commit;
+use crate::committing::online;
 use crate::seeding::master_seeds;
 use crate::seeding::tape_rows;
-use crate::working::online;
-use crate::working::work;
+use bits::clear;
 use bits::copy;
 use circuit::Sizes;
 use engine::memory::pack;
+use mpc::working::run_honest;
 use party::commitment;
 use tree::siblings_below;
 
@@ -45,7 +46,8 @@ pub fn from_master(
     let n = inst.parties;
     master_seeds(inst, master, seeds);
     tape_rows(s, z, inst, seeds, tapes);
-    work(s, z, n as usize, witness, tapes, masked, memory);
+    clear(memory);
+    run_honest(s, z, n as usize, witness, tapes, masked, memory);
     pack(memory, 16 * (z.inputs + z.gates) + 1, z.ands, corrections);
 }
 

@@ -70,6 +70,21 @@ module _ (s : List ℕ) (i o g a : ℕ) (k : Known s (sized i o g a)) where
         let y = k .legal .laid .few-gates in
         (omega (arith, e), (omega (arith, l, y), (omega (arith, x, y, parties .few), omega (arith, l, large, parties .few))))
 
+    -- unpack of row p
+    pub row-asks : (p t : ℕ) → p < n → t ≡ oct (a + o)
+        → (0 + (a + o) ≤ 8 * t) × ((0 + (a + o) < 65536) × ((48 * (i + g) + p < 4294967296) × (48 * (i + g) + p + 16 * (a + o) ≤ z + 15)))
+    row-asks p t l e =
+        let x = k .legal .laid .few-inputs in
+        let y = k .legal .laid .few-gates in
+        (omega (arith, e), (omega (arith, broadcasts-few), (omega (arith, x, y, parties .few, l), omega (arith, large, ands-low s i o g a k, k .legal .laid .few-outputs, parties .few, l))))
+
+    -- unpack of the masked inputs
+    pub unmasked-asks : (t : ℕ) → t ≡ oct i → (0 + i ≤ 8 * t) × ((0 + i < 65536) × ((16 * (i + g) < 4294967296) × (16 * (i + g) + 16 * i ≤ z + 15)))
+    unmasked-asks t e =
+        let x = k .legal .laid .few-inputs in
+        let y = k .legal .laid .few-gates in
+        (omega (arith, e), (omega (arith, x), (omega (arith, x, y), omega (arith, large))))
+
     -- pack of the masked inputs
     pub masked-asks : (t : ℕ) → t ≡ oct i → (t ≤ 4096) × ((16 * (i + g) < 4294967296) × (16 * (i + g) + 16 * i ≤ z + 15))
     masked-asks t e =

@@ -8,5 +8,7 @@ pub mod Agreement
 pub mod Opened
 pub mod Tested
 pub mod Asks
+pub mod Worked
+pub mod Lengths
 pub mod Prepared
 pub mod Ran

@@ -5,46 +5,26 @@ use mathlib.Core.Bool.{Bool, true, false, not, _&&_}
 use mathlib.Core.List.{List, [], _∷_}
 use Prim.Native.Nat.{ℕ, _+_, _*_}
 use lib.Dec.{eqb}
-use lib.ListN.{length, replicate}
+use lib.ListN.{length}
 use Rattle.bits.specs.Bits.{oct, pack}
 use Rattle.refusal.specs.declared.Refusal.{Refusal}
 use Rattle.refusal.specs.declared.Refusal.the-variants.{BufferLength, UnusedBits, Parameter}
 use Rattle.parties.specs.Parties.{heightOf}
 use Rattle.parties.proofs.Counts.{count-yes, count-no}
-use Rattle.circuit.specs.File.{headOf, circuitOf, Reading}
+use Rattle.circuit.specs.File.{circuitOf, Reading}
 use Rattle.circuit.specs.Operations.{readOp, onLegal, holds}
 use Rattle.circuit.specs.Answers.{readPaper}
 use Rattle.circuit.specs.declared.Sizes.{Sizes}
 use Rattle.circuit.specs.declared.ReadAnswer.{ReadAnswer}
 use Rattle.circuit.specs.declared.ReadAnswer.the-variants as readAnswer
 use Rattle.circuit.proofs.Answered.{fell, held}
-use Rattle.engine.specs.Steps.{packed, loadedTapes, walked}
 use Rattle.mpc.specs.Tapes.{andsOf, unusedRows}
 use Rattle.mpc.specs.Showing.{correctionBits}
 use Rattle.mpc.specs.Operations.{holdsRows, tapeBits, prepareLegal, prepareOp}
 use Rattle.mpc.specs.Answers.{outcome}
-use Rattle.mpc.specs.Steps.{Known, Begun, loaded, gatesRun, prepared}
+use Rattle.mpc.specs.Steps.{Known}
 use Rattle.mpc.specs.declared.Answer.the-variants.{Done, Refused}
-use Rattle.mpc.proofs.Agreement.{prepare-agrees}
 use Rattle.mpc.proofs.Opened.{sized, opened-refused, opened-legal, circuit-inputs, circuit-ands}
-
--- the corrections as they are packed out of the work memory
-pub prepare-made : (s : List ℕ) (i o g a h n len : ℕ) (tapes m0 m1 m2 out x : List ℕ) → Known s (sized i o g a) → h ≡ headOf s → Begun (sized i o g a) n m0
-    → len ≡ oct (i + 2 * a) → m1 ≡ loadedTapes (i + g) i a len tapes n m0 → m2 ≡ walked (i + g) n n true s g h 0 m1
-    → length out ≡ oct a → x ≡ packed m2 (16 * (i + g) + 1) a (length out) → x ≡ pack (correctionBits (circuitOf s) n tapes)
-prepare-made s i o g a h n len tapes m0 m1 m2 out x k p b l e f t q =
-    let base = loadedTapes (i + g) i a (oct (i + 2 * a)) tapes n in
-    let d : m1 ≡ base (replicate (length m0) 0) = e ∙ ap (λ (j : ℕ). loadedTapes (i + g) i a j tapes n m0) l ∙ ap base (b .clear) in
-    let w : m2 ≡ walked (i + g) n n true s g h 0 (base (replicate (length m0) 0)) = f ∙ ap (walked (i + g) n n true s g h 0) d in
-    q ∙ ap₂ (λ (m : List ℕ) (j : ℕ). packed m (16 * (i + g) + 1) a j) w t
-    ∙ prepare-agrees s i o g a h n (length m0) (k .legal) p (k .ands) (b .parties .some) (b .parties .few) (b .room) tapes
-
--- the work memory that is left
-pub prepare-left : (s : List ℕ) (i o g a h n len : ℕ) (tapes m0 m1 m2 : List ℕ) → Known s (sized i o g a) → h ≡ headOf s → len ≡ oct (i + 2 * a)
-    → m1 ≡ loadedTapes (i + g) i a len tapes n m0 → m2 ≡ walked (i + g) n n true s g h 0 m1 → m2 ≡ prepared s (sized i o g a) n tapes m0
-unfolding prepared gatesRun loaded
-prepare-left s i o g a h n len tapes m0 m1 m2 k p l e f =
-    f ∙ ap₂ (λ (x : ℕ) (m : List ℕ). walked (i + g) n n true s g x 0 m) p (e ∙ ap (λ (j : ℕ). loadedTapes (i + g) i a j tapes n m0) l)
 
 -- the answers on a legal file
 module _ (s : List ℕ) (i o g a : ℕ) (k : Known s (sized i o g a)) (n h : ℕ) (tapes out : List ℕ) (count : h ≡ heightOf n) where

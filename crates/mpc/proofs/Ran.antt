@@ -3,88 +3,29 @@
 use mathlib.Core.Path.{_≡_, sym, ap, ap₂, _∙_}
 use mathlib.Core.Bool.{Bool, true, false, not, _&&_}
 use mathlib.Core.List.{List, [], _∷_}
-use Prim.Native.Nat.{ℕ, _+_, _-_, _*_}
+use Prim.Native.Nat.{ℕ, _+_, _*_}
 use borrow.Author.Tests.{eqb-true, not-false}
 use lib.Dec.{eqb}
-use lib.ListN.{length, replicate}
-use Rattle.bits.specs.Bits.{oct, pack, bitAt, unusedZero}
+use lib.ListN.{length}
+use Rattle.bits.specs.Bits.{oct, unusedZero}
 use Rattle.bits.proofs.Tests.{and-true-left, and-true-right}
 use Rattle.refusal.specs.declared.Refusal.{Refusal}
 use Rattle.refusal.specs.declared.Refusal.the-variants.{BufferLength, UnusedBits, Parameter}
 use Rattle.parties.specs.Parties.{heightOf}
 use Rattle.parties.proofs.Counts.{count-yes, count-no}
-use Rattle.circuit.specs.File.{headOf, circuitOf, Reading}
+use Rattle.circuit.specs.File.{circuitOf, Reading}
 use Rattle.circuit.specs.Operations.{readOp, onLegal}
 use Rattle.circuit.specs.Answers.{readPaper}
 use Rattle.circuit.specs.declared.Sizes.{Sizes}
 use Rattle.circuit.specs.declared.ReadAnswer.{ReadAnswer}
 use Rattle.circuit.specs.declared.ReadAnswer.the-variants as readAnswer
 use Rattle.circuit.proofs.Answered.{fell, held}
-use Rattle.engine.specs.Steps.{unpacked, packed, packedRows, loadedTapes, maskedInputs, walked, spoken, outputValues}
 use Rattle.mpc.specs.Tapes.{andsOf, unusedRows}
-use Rattle.mpc.specs.Showing as shown
-use Rattle.mpc.specs.Showing.{runOn, rowsOf}
 use Rattle.mpc.specs.Operations.{ran, runLegal, runOp}
 use Rattle.mpc.specs.Answers.{outcome}
-use Rattle.mpc.specs.Steps.{Known, Begun, WitnessFits, RunLent}
+use Rattle.mpc.specs.Steps.{Known, WitnessFits, RunLent}
 use Rattle.mpc.specs.declared.Answer.the-variants.{Done, Refused}
-use Rattle.mpc.proofs.Agreement.{run-masked-agrees, run-rows-agree, run-output-agrees}
 use Rattle.mpc.proofs.Opened.{sized, opened-refused, opened-legal, circuit-inputs, circuit-outputs, circuit-ands}
-
--- the work memory: as lent, with the tapes, with the corrections, with the masked inputs, after the walk
-module _ (s : List ℕ) (i o g a h n len : ℕ) (w tapes corr m0 m1 m2 m3 m4 : List ℕ) (k : Known s (sized i o g a)) (head : h ≡ headOf s) (b : Begun (sized i o g a) n m0)
-    (fit : len ≡ oct (i + 2 * a)) (e1 : m1 ≡ loadedTapes (i + g) i a len tapes n m0) (e2 : m2 ≡ unpacked corr 0 a (48 * (i + g) + (n - 1)) m1)
-    (e3 : m3 ≡ maskedInputs (i + g) n i w m2) where
-  -- the tapes
-  abbrev base : List ℕ
-  base = loadedTapes (i + g) i a (oct (i + 2 * a)) tapes n (replicate (length m0) 0)
-
-  -- the masked inputs
-  abbrev begin : List ℕ
-  begin = maskedInputs (i + g) n i w (unpacked corr 0 a (48 * (i + g) + (n - 1)) base)
-
-  -- the memory before the walk
-  begins : m3 ≡ begin
-  begins =
-      let d : m1 ≡ base
-      = e1 ∙ ap (λ (j : ℕ). loadedTapes (i + g) i a j tapes n m0) fit ∙ ap (loadedTapes (i + g) i a (oct (i + 2 * a)) tapes n) (b .clear) in
-      e3 ∙ ap (maskedInputs (i + g) n i w) (e2 ∙ ap (unpacked corr 0 a (48 * (i + g) + (n - 1))) d)
-
-  -- the masked inputs as they are packed
-  run-masked : (x out : List ℕ) → length out ≡ oct i → x ≡ packed m3 (16 * (i + g)) i (length out) → x ≡ shown.maskedInputs (circuitOf s) n w tapes
-  run-masked x out t q =
-      q ∙ ap₂ (λ (m : List ℕ) (j : ℕ). packed m (16 * (i + g)) i j) begins t
-      ∙ run-masked-agrees s i o g a h n (length m0) (k .legal) head (k .ands) (b .parties .some) (b .parties .few) (b .room) tapes w corr
-
-  module _ (e4 : m4 ≡ walked (i + g) n n false s g h 0 m3) (unused : unusedZero i w ≡ true) where
-    -- the memory after the walk
-    walks-on : m4 ≡ walked (i + g) n n false s g h 0 begin
-    walks-on = e4 ∙ ap (walked (i + g) n n false s g h 0) begins
-
-    -- the rows as they are packed
-    run-rows : (m5 x : List ℕ) (j : ℕ) → m5 ≡ spoken (i + g) n n a s o m4 → j ≡ oct (a + o) → x ≡ packedRows (i + g) m5 n (a + o) j
-        → x ≡ rowsOf n (runOn (circuitOf s) n w tapes (bitAt corr))
-    run-rows m5 x j e5 t q =
-        q ∙ ap₂ (λ (m : List ℕ) (l : ℕ). packedRows (i + g) m n (a + o) l) (e5 ∙ ap (spoken (i + g) n n a s o) walks-on) t
-        ∙ run-rows-agree s i o g a h n (length m0) (k .legal) head (k .ands) (b .parties .some) (b .parties .few) (b .room) tapes w corr unused
-
-    -- the output as it is packed
-    run-output : (v y x : List ℕ) → v ≡ outputValues (i + g) n n a s o m4 (replicate 4096 0) → length y ≡ oct o → x ≡ packed v 0 o (length y)
-        → x ≡ pack (runOn (circuitOf s) n w tapes (bitAt corr) .output)
-    run-output v y x e6 t q =
-        q
-        ∙ ap₂ (λ (z : List ℕ) (l : ℕ). packed z 0 o l) (e6 ∙ ap (λ (m : List ℕ). outputValues (i + g) n n a s o m (replicate 4096 0)) walks-on) t
-        ∙ run-output-agrees s i o g a h n (length m0) (k .legal) head (k .ands) (b .parties .some) (b .parties .few) (b .room) tapes w corr unused
-
-    -- all three
-    pub run-made : (m5 v masked y p q r : List ℕ) (j : ℕ) → length masked ≡ oct i → p ≡ packed m3 (16 * (i + g)) i (length masked)
-        → m5 ≡ spoken (i + g) n n a s o m4 → j ≡ oct (a + o) → q ≡ packedRows (i + g) m5 n (a + o) j
-        → v ≡ outputValues (i + g) n n a s o m4 (replicate 4096 0) → length y ≡ oct o → r ≡ packed v 0 o (length y)
-        → p ∷ q ∷ r ∷ [] ≡ ran (circuitOf s) n w tapes corr
-    unfolding ran
-    run-made m5 v masked y p q r j t1 q1 e5 t2 q2 e6 t3 q3 =
-        ap₂ {C = List (List ℕ)} _∷_ (run-masked p masked t1 q1)
-        (ap₂ {C = List (List ℕ)} _∷_ (run-rows m5 q j e5 t2 q2) (ap (λ (x : List ℕ). x ∷ []) (run-output v y r e6 t3 q3)))
 
 -- six tests that hold together
 six : (b1 b2 b3 b4 b5 b6 : Bool) → b1 && b2 && b3 && b4 && b5 && b6 ≡ true

@@ -2,6 +2,7 @@
 pub mod preparing;
 pub mod running;
 pub mod tests;
+pub mod working;
 
 use refusal::Refusal;
 

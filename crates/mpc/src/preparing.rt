@@ -14,11 +14,11 @@ use crate::tests::both;
 use crate::tests::holds;
 use crate::tests::holds_rows;
 use crate::tests::unused_rows;
+use crate::working::load;
+use crate::working::run_gates;
 use circuit::ReadAnswer;
 use circuit::Sizes;
 use circuit::reading::read;
-use engine::chain::walk;
-use engine::memory::load_tapes;
 use engine::memory::pack;
 use refusal::Refusal;
 
@@ -35,12 +35,9 @@ pub fn prepare_in(
     ensures { λ _. ⌜ now (corrections .exit) ≡ pack (correctionBits (circuitOf (now (s .entry))) n (now (tapes .entry))) ⌝ }
     ensures { λ _. ⌜ now (memory .exit) ≡ prepared (now (s .entry)) z n (now (tapes .entry)) (now (memory .entry)) ⌝ }
 {
-    let head = bits::read_u16(s, 6) as usize;
-    let wires = z.inputs + z.gates;
-    let len = bits::oct(z.inputs + 2 * z.ands);
-    load_tapes(tapes, len, n, wires, z.inputs, z.ands, memory);
-    walk(s, z, head, n, n, true, memory);
-    pack(memory, 16 * wires + 1, z.ands, corrections);
+    load(s, z, n, tapes, memory);
+    run_gates(s, z, n, n, true, memory);
+    pack(memory, 16 * (z.inputs + z.gates) + 1, z.ands, corrections);
 }
 
 // The same with a work memory of its own.

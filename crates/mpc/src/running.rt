@@ -15,13 +15,11 @@ use crate::tests::both;
 use crate::tests::holds;
 use crate::tests::holds_rows;
 use crate::tests::unused_rows;
+use crate::working::load;
+use crate::working::run_masked;
 use circuit::ReadAnswer;
 use circuit::Sizes;
 use circuit::reading::read;
-use engine::chain::speak;
-use engine::chain::walk;
-use engine::memory::load_tapes;
-use engine::memory::mask_inputs;
 use engine::memory::pack;
 use engine::memory::pack_rows;
 use engine::memory::unpack;
@@ -43,17 +41,12 @@ fn run_in(
     requires { ⌜ Known (now s) z × (Begun z n (now memory) × (WitnessFits z (now witness) × RunLent z n (now tapes) (now corrections) (now masked) (now rows) (now y))) ⌝ }
     ensures { λ _. ⌜ now (masked .exit) ∷ now (rows .exit) ∷ now (y .exit) ∷ [] ≡ ran (circuitOf (now (s .entry))) n (now (witness .entry)) (now (tapes .entry)) (now (corrections .entry)) ⌝ }
 {
-    let head = bits::read_u16(s, 6) as usize;
     let wires = z.inputs + z.gates;
-    let len = bits::oct(z.inputs + 2 * z.ands);
-    load_tapes(tapes, len, n, wires, z.inputs, z.ands, memory);
-    unpack(corrections, 0, z.ands, memory, 48 * wires + (n - 1));
-    mask_inputs(witness, z.inputs, n, wires, memory);
-    pack(memory, 16 * wires, z.inputs, masked);
-    walk(s, z, head, n, n, false, memory);
-    let mut values = [0u8; 4096];
-    speak(s, z, n, n, memory, &mut values);
     let said = z.ands + z.outputs;
+    let mut values = [0u8; 4096];
+    load(s, z, n, tapes, memory);
+    unpack(corrections, 0, z.ands, memory, 48 * wires + (n - 1));
+    run_masked(s, z, n, witness, false, masked, memory, &mut values);
     pack_rows(memory, wires, n, said, bits::oct(said), rows);
     pack(&values, 0, z.outputs, y);
 }

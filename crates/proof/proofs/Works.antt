@@ -13,7 +13,8 @@ use Rattle.mpc.specs.Steps.{Known}
 use Rattle.mpc.proofs.Opened.{sized, ands-low}
 use Rattle.mpc.proofs.Asks.{small}
 use Rattle.instance.specs.Steps.{Tree, Lent}
-use Rattle.instance.proofs.Sent.{tree-sizes, front-length}
+use Rattle.instance.proofs.Trees.{tree-sizes}
+use Rattle.instance.proofs.Sent.{front-length}
 
 -- a legal file
 module _ (s : List ℕ) (i o g a : ℕ) (k : Known s (sized i o g a)) where

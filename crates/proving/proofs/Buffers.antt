@@ -23,7 +23,7 @@ use Rattle.seeds.proofs.Instances.{counts-fit}
 use Rattle.instance.specs.Instance.{Asked, opened, hiding}
 use Rattle.instance.specs.Stretch.{stretchBytes}
 use Rattle.instance.specs.Steps.{Tree, Lent}
-use Rattle.instance.proofs.Sent.{tree-sizes}
+use Rattle.instance.proofs.Trees.{tree-sizes}
 use Rattle.proof.specs.Protocol.{mastersOf, hstarOf, firstMessage, challenged, responseOf}
 use Rattle.proof.specs.File.{headerOf, stretchStart, proofBytes}
 use Rattle.proof.specs.Prove.{proofOf}

@@ -17,23 +17,22 @@ use Rattle.refusal.specs.declared.Refusal.{Refusal}
 use Rattle.refusal.specs.declared.Refusal.the-variants.{BufferLength, UnusedBits, Parameter, Index, Output}
 use Rattle.parties.specs.Parties.{heightOf, isPartyCount}
 use Rattle.parties.proofs.Counts.{count-yes, count-no}
-use Rattle.circuit.specs.File.{headOf, circuitOf, Reading}
+use Rattle.circuit.specs.File.{circuitOf, Reading}
 use Rattle.circuit.specs.Operations.{readOp, onLegal, holds}
 use Rattle.circuit.specs.Answers.{readPaper}
 use Rattle.circuit.specs.declared.Sizes.{Sizes}
 use Rattle.circuit.specs.declared.ReadAnswer.{ReadAnswer}
 use Rattle.circuit.specs.declared.ReadAnswer.the-variants as readAnswer
 use Rattle.circuit.proofs.Answered.{fell, held}
-use Rattle.engine.specs.Steps.{unpacked, packed, packedRows, loadedTapes, walked, spoken, outputValues}
-use Rattle.mpc.specs.Run.{Transcript}
+use Rattle.engine.specs.Steps.{packed, packedRows}
 use Rattle.mpc.specs.Tapes.{andsOf, tapeRow, unusedRows}
 use Rattle.mpc.specs.Showing.{Showing, rowsOf, replayOf}
 use Rattle.mpc.specs.Operations.{holdsRows, holdsShowing, broadcastBits, unusedShowing, replayLegal, replayOp}
 use Rattle.mpc.specs.Answers.{outcome}
-use Rattle.mpc.specs.Steps.{Known, Parties, Begun, ShowingFits}
+use Rattle.mpc.specs.Steps.{Known, Begun, ShowingFits, replayed, replayedValues}
 use Rattle.mpc.specs.declared.Answer.the-variants.{Done, Refused}
-use Rattle.mpc.proofs.Agreement.{replay-rows-agree, replay-output-agrees}
-use Rattle.mpc.proofs.Opened.{sized, opened-refused, opened-legal, circuit-inputs, circuit-outputs, circuit-ands, circuit-row, ands-low}
+use Rattle.mpc.proofs.Worked.{replayed-rows, replayed-output}
+use Rattle.mpc.proofs.Opened.{sized, opened-refused, opened-legal, circuit-inputs, circuit-outputs, circuit-ands, circuit-row}
 
 -- six tests, one after the other
 pub all-six : (a b c d e f a' b' c' d' e' f' p q r s t : Bool) → a ≡ a' → b ≡ b' → c ≡ c' → d ≡ d' → e ≡ e' → f ≡ f'
@@ -82,81 +81,16 @@ module _ (good : Bool) (w : ℕ) (m : List ℕ) (n said : ℕ) (rows : List ℕ)
   pub packed-not : good ≡ false → rows ≡ cond good (packedRows w m n said (oct said)) rows
   packed-not t = sym (ap (λ (j : Bool). cond j (packedRows w m n said (oct said)) rows) t)
 
--- what the unpacking into a work memory m asks
-module _ (s : List ℕ) (i o g a : ℕ) (k : Known s (sized i o g a)) (n : ℕ) (parties : Parties n) (m : List ℕ) (large : 64 * (i + g) + 4096 ≤ length m) where
-  pub corrections-fit : (corr : List ℕ) → length corr ≡ oct a
-      → (0 + a ≤ 8 * length corr) × ((0 + a < 65536) × ((48 * (i + g) + (n - 1) < 4294967296) × (48 * (i + g) + (n - 1) + 16 * a ≤ length m + 15)))
-  corrections-fit corr e =
-      let low = ands-low s i o g a k in
-      let is = k .legal .laid .few-inputs in
-      let gs = k .legal .laid .few-gates in
-      let few = parties .few in
-      (omega (arith, e), (omega (arith, low, gs), (omega (arith, is, gs, few), omega (arith, large, low, few))))
-
-  pub row-fits : (p : ℕ) (row : List ℕ) → p < n → length row ≡ oct (a + o)
-      → (0 + (a + o) ≤ 8 * length row) × ((0 + (a + o) < 65536) × ((48 * (i + g) + p < 4294967296) × (48 * (i + g) + p + 16 * (a + o) ≤ length m + 15)))
-  row-fits p row hp e =
-      let low = ands-low s i o g a k in
-      let is = k .legal .laid .few-inputs in
-      let os = k .legal .laid .few-outputs in
-      let gs = k .legal .laid .few-gates in
-      let few = parties .few in
-      (omega (arith, e), (omega (arith, low, gs, os), (omega (arith, is, gs, few, hp), omega (arith, large, low, os, few, hp))))
-
-  pub masked-fit : (masked : List ℕ) → length masked ≡ oct i
-      → (0 + i ≤ 8 * length masked) × ((0 + i < 65536) × ((16 * (i + g) < 4294967296) × (16 * (i + g) + 16 * i ≤ length m + 15)))
-  masked-fit masked e =
-      let is = k .legal .laid .few-inputs in
-      let gs = k .legal .laid .few-gates in
-      (omega (arith, e), (omega (arith, is), (omega (arith, is, gs), omega (arith, large))))
-
--- what the work memory gives: m1 with the tapes, m2 with the corrections, m3 with row p, m4 with the masked inputs, m5 after the walk
-module _ (s : List ℕ) (i o g a h n len p : ℕ) (tapes corr masked row m0 m1 m2 m3 m4 m5 : List ℕ) (k : Known s (sized i o g a)) (q : h ≡ headOf s)
-    (b : Begun (sized i o g a) n m0) (hp : p < n) (unused : unusedZero i masked ≡ true) (l : len ≡ oct (i + 2 * a)) (e1 : m1 ≡ loadedTapes (i + g) i a len tapes n m0)
-    (e2 : m2 ≡ unpacked corr 0 a (48 * (i + g) + (n - 1)) m1) (e3 : m3 ≡ unpacked row 0 (a + o) (48 * (i + g) + p) m2)
-    (e4 : m4 ≡ unpacked masked 0 i (16 * (i + g)) m3) (e5 : m5 ≡ walked (i + g) n p false s g h 0 m4) where
-  -- the memory after the walk
-  abbrev replayed : List ℕ
-  replayed =
-      walked (i + g) n p false s g h 0
-      (unpacked masked 0 i (16 * (i + g))
-      (unpacked row 0 (a + o) (48 * (i + g) + p)
-      (unpacked corr 0 a (48 * (i + g) + (n - 1)) (loadedTapes (i + g) i a (oct (i + 2 * a)) tapes n (replicate (length m0) 0)))))
-
-  walked-right : m5 ≡ replayed
-  walked-right =
-      let d1 : m1 ≡ loadedTapes (i + g) i a (oct (i + 2 * a)) tapes n (replicate (length m0) 0)
-      = e1 ∙ ap₂ (λ (j : ℕ) (m : List ℕ). loadedTapes (i + g) i a j tapes n m) l (b .clear) in
-      let d2 = e2 ∙ ap (unpacked corr 0 a (48 * (i + g) + (n - 1))) d1 in
-      let d3 = e3 ∙ ap (unpacked row 0 (a + o) (48 * (i + g) + p)) d2 in
-      let d4 = e4 ∙ ap (unpacked masked 0 i (16 * (i + g))) d3 in
-      e5 ∙ ap (walked (i + g) n p false s g h 0) d4
-
-  -- the run that is replayed
-  abbrev again : Transcript
-  again = replayOf (circuitOf s) n p (record { tapes = tapes; corrections = corr; maskedInputs = masked; row = row })
-
-  -- the output
-  output-right : (values : List ℕ) → values ≡ outputValues (i + g) n p a s o m5 (replicate 4096 0) → packed values 0 o (oct o) ≡ pack (again .output)
-  unfolding replayOf
-  output-right values v =
-      ap (λ (x : List ℕ). packed x 0 o (oct o)) (v ∙ ap (λ (m : List ℕ). outputValues (i + g) n p a s o m (replicate 4096 0)) walked-right)
-      ∙ replay-output-agrees s i o g a h n (length m0) (k .legal) q (k .ands) (b .parties .some) (b .parties .few) (b .room) tapes p corr masked row hp unused
-
-  -- the rows
-  rows-right : (m6 : List ℕ) → m6 ≡ spoken (i + g) n p a s o m5 → packedRows (i + g) m6 n (a + o) (oct (a + o)) ≡ rowsOf n again
-  unfolding replayOf
-  rows-right m6 e6 =
-      ap (λ (m : List ℕ). packedRows (i + g) m n (a + o) (oct (a + o))) (e6 ∙ ap (spoken (i + g) n p a s o) walked-right)
-      ∙ replay-rows-agree s i o g a h n (length m0) (k .legal) q (k .ands) (b .parties .some) (b .parties .few) (b .room) tapes p corr masked row hp unused
-
-  -- the answer, and the rows x that are left
-  pub replayed-right : (values y m6 x rows : List ℕ) (r : Bool) → values ≡ outputValues (i + g) n p a s o m5 (replicate 4096 0)
-      → r ≡ sameBytes (packed values 0 o (oct o)) y → m6 ≡ spoken (i + g) n p a s o m5
-      → x ≡ cond r (packedRows (i + g) m6 n (a + o) (oct (a + o))) rows
-      → (r ≡ sameBytes (pack (again .output)) y) × (x ≡ cond r (rowsOf n again) rows)
-  replayed-right values y m6 x rows r v t e6 z =
-      (t ∙ ap (λ (j : List ℕ). sameBytes j y) (output-right values v), z ∙ ap (λ (j : List ℕ). cond r j rows) (rows-right m6 e6))
+-- the answer, and the rows x that are left, as a work memory m that was clear gives them
+pub replayed-right : (s : List ℕ) (i o g a n p : ℕ) (tapes corr masked row m : List ℕ) → Known s (sized i o g a) → Begun (sized i o g a) n m → p < n
+    → unusedZero i masked ≡ true → (values y m1 x rows : List ℕ) (r : Bool) → let v : Showing = record { tapes = tapes; corrections = corr; maskedInputs = masked; row = row } in
+    values ≡ replayedValues s (sized i o g a) n p v m (replicate 4096 0) → r ≡ sameBytes (packed values 0 o (oct o)) y → m1 ≡ replayed s (sized i o g a) n p v m
+    → x ≡ cond r (packedRows (i + g) m1 n (a + o) (oct (a + o))) rows
+    → (r ≡ sameBytes (pack (replayOf (circuitOf s) n p v .output)) y) × (x ≡ cond r (rowsOf n (replayOf (circuitOf s) n p v)) rows)
+replayed-right s i o g a n p tapes corr masked row m k b l unused values y m1 x rows r e t f z = (
+  t ∙ ap (λ (j : List ℕ). sameBytes j y) (replayed-output s i o g a n tapes m k b p corr masked row l unused values e),
+  z ∙ ap (λ (j : List ℕ). cond r j rows) (replayed-rows s i o g a n tapes m k b p corr masked row l unused m1 f),
+)
 
 -- the lengths in the numbers that the code carries
 abbrev lengthsHold : ℕ → ℕ → ℕ → ℕ → List ℕ → List ℕ → List ℕ → List ℕ → List ℕ → List ℕ → Bool

@@ -16,18 +16,15 @@ ghost use Rattle.mpc.specs.Steps.{Known, Parties, Begun, ShowingFits};
 use circuit::ReadAnswer;
 use circuit::Sizes;
 use circuit::reading::read;
-use engine::chain::speak;
-use engine::chain::walk;
-use engine::memory::load_tapes;
 use engine::memory::pack;
 use engine::memory::pack_rows;
-use engine::memory::unpack;
 use mpc::Answer;
 use mpc::tests::both;
 use mpc::tests::either;
 use mpc::tests::holds;
 use mpc::tests::holds_rows;
 use mpc::tests::unused_rows;
+use mpc::working::run_opened;
 use refusal::Refusal;
 
 // Whether y is the first bits at every 16th byte of the values, packed.
@@ -68,17 +65,21 @@ fn replay_in(
     requires { ⌜ Known (now s) z × (Begun z n (now memory) × ((p < n) × ((unusedZero (z .inputs) (now masked) ≡ true) × (ShowingFits z n (now tapes) (now corrections) (now masked) (now row) × (length (now rows) ≡ n * oct (z .ands + z .outputs)))))) ⌝ }
     ensures { λ r. ⌜ (r ≡ sameBytes (pack (replayOf (circuitOf (now (s .entry))) n p (record { tapes = now (tapes .entry); corrections = now (corrections .entry); maskedInputs = now (masked .entry); row = now (row .entry) }) .output)) (now (y .entry))) × (now (rows .exit) ≡ cond r (rowsOf n (replayOf (circuitOf (now (s .entry))) n p (record { tapes = now (tapes .entry); corrections = now (corrections .entry); maskedInputs = now (masked .entry); row = now (row .entry) }))) (now (rows .entry))) ⌝ }
 {
-    let head = bits::read_u16(s, 6) as usize;
     let wires = z.inputs + z.gates;
-    let len = bits::oct(z.inputs + 2 * z.ands);
     let said = z.ands + z.outputs;
-    load_tapes(tapes, len, n, wires, z.inputs, z.ands, memory);
-    unpack(corrections, 0, z.ands, memory, 48 * wires + (n - 1));
-    unpack(row, 0, said, memory, 48 * wires + p);
-    unpack(masked, 0, z.inputs, memory, 16 * wires);
-    walk(s, z, head, n, p, false, memory);
     let mut values = [0u8; 4096];
-    speak(s, z, n, p, memory, &mut values);
+    run_opened(
+        s,
+        z,
+        n,
+        p,
+        tapes,
+        corrections,
+        masked,
+        row,
+        &mut values,
+        memory,
+    );
     let good = outputs_are(&values, z.outputs, y);
     pack_if(good, memory, wires, n, said, rows);
     good

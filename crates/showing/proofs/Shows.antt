@@ -28,15 +28,15 @@ use Rattle.circuit.specs.declared.ReadAnswer.{ReadAnswer}
 use Rattle.circuit.specs.declared.ReadAnswer.the-variants as readAnswer
 use Rattle.circuit.proofs.Answered.{gates-count, fell, held}
 use Rattle.circuit.proofs.Run.{goodChain-walks, gates-order}
-use Rattle.engine.specs.Steps.{packed, loadedTapes, maskedInputs, walked, spoken}
+use Rattle.engine.specs.Steps.{packed}
 use Rattle.mpc.specs.Tapes.{andsOf, unusedRows, withRow}
 use Rattle.mpc.specs.Showing as shown
 use Rattle.mpc.specs.Showing.{correctionBits, honestRun, rowBits, shownBits, firstBits, Showing, hidden, showing}
 use Rattle.mpc.specs.Operations.{holdsRows, tapeBits, partsOf, holdsShowing, showLegal, showOp}
 use Rattle.mpc.specs.Answers.{outcome}
-use Rattle.mpc.specs.Steps.{Known, Begun, WitnessFits, TapesFit, ShowingFits}
+use Rattle.mpc.specs.Steps.{Known, Begun, WitnessFits, TapesFit, ShowingFits, worked}
 use Rattle.mpc.specs.declared.Answer.the-variants.{Done, Refused}
-use Rattle.mpc.proofs.Agreement.{masked-agrees, show-corrections-agree, show-row-agrees}
+use Rattle.mpc.proofs.Worked.{worked-corrections, worked-row}
 use Rattle.mpc.proofs.Opened.{sized, opened-refused, opened-legal, circuit-inputs, circuit-outputs, circuit-gates, circuit-ands, circuit-row}
 
 -- the first k gates of the chain
@@ -117,57 +117,35 @@ corrections-hidden p n y x z e q = rw (eq-eqb (suc p) n (sym (add-one p) ∙ e))
 pub corrections-shown : (p n : ℕ) (y x z : List ℕ) → (p + 1 ≡ n → ⊥) → y ≡ z → y ≡ cond (eqb (suc p) n) x z
 corrections-shown p n y x z e q = rw (ne-eqb (suc p) n (λ t. e (add-one p ∙ t))) q
 
--- a run as the work memory holds it: m0 clear, m1 with the tapes, m2 with the masked inputs, m3 after the walk, m4 after the outputs
-module _ (s : List ℕ) (i o g a : ℕ) (k : Known s (sized i o g a)) (n h len : ℕ) (w tapes m0 m1 m2 : List ℕ) (start : h ≡ headOf s) (b : Begun (sized i o g a) n m0)
-    (l : len ≡ oct (i + 2 * a)) (e : m1 ≡ loadedTapes (i + g) i a len tapes n m0) (f : m2 ≡ maskedInputs (i + g) n i w m1) where
-  -- the memory with the tapes
-  abbrev base : List ℕ
-  base = loadedTapes (i + g) i a (oct (i + 2 * a)) tapes n (replicate (length m0) 0)
+-- a run as it leaves a work memory m that was clear in m1
+module _ (s : List ℕ) (i o g a : ℕ) (k : Known s (sized i o g a)) (n : ℕ) (w tapes m m1 : List ℕ) (b : Begun (sized i o g a) n m) (unused : unusedZero i w ≡ true)
+    (e : m1 ≡ worked s (sized i o g a) n w tapes m) where
+  -- the bits of row p that the cut shows
+  pub row-made : (p cut r : ℕ) (out x : List ℕ) → p < n → r ≡ shownBits (circuitOf s) cut → length out ≡ oct (a + o)
+      → x ≡ packed m1 (48 * (i + g) + p) r (length out)
+      → x ≡ pack (firstBits (shownBits (circuitOf s) cut) (rowBits (honestRun (circuitOf s) n w tapes) p))
+  row-made p cut r out x hp t u q =
+      q ∙ ap₂ (λ (y : List ℕ) (j : ℕ). packed y (48 * (i + g) + p) r j) e u
+      ∙ ap (λ (j : ℕ). packed (worked s (sized i o g a) n w tapes m) (48 * (i + g) + p) j (oct (a + o))) t
+      ∙ worked-row s i o g a n tapes m k b w unused p (shownBits (circuitOf s) cut) hp (shown-few s i o g a k cut)
 
-  -- m2 in one piece
-  second : m2 ≡ maskedInputs (i + g) n i w base
-  second =
-      f ∙ ap (maskedInputs (i + g) n i w)
-      (e ∙ ap (λ (j : ℕ). loadedTapes (i + g) i a j tapes n m0) l ∙ ap (loadedTapes (i + g) i a (oct (i + 2 * a)) tapes n) (b .clear))
+  -- the corrections
+  pub corrections-made : (p : ℕ) (out x : List ℕ) → length out ≡ oct a
+      → x ≡ cond (eqb (suc p) n) (replicate (length out) 0) (packed m1 (16 * (i + g) + 1) a (length out))
+      → x ≡ cond (eqb (suc p) n) (replicate (oct (andsOf (circuitOf s))) 0) (pack (correctionBits (circuitOf s) n tapes))
+  corrections-made p out x t q =
+      let y : replicate {A = ℕ} (length out) 0 ≡ replicate (oct (andsOf (circuitOf s))) 0
+      = ap (λ (j : ℕ). replicate j 0) (t ∙ ap oct (sym (circuit-ands s i o g a k))) in
+      let z : packed m1 (16 * (i + g) + 1) a (length out) ≡ pack (correctionBits (circuitOf s) n tapes)
+      = ap₂ (λ (u : List ℕ) (j : ℕ). packed u (16 * (i + g) + 1) a j) e t ∙ worked-corrections s i o g a n tapes m k b w unused in
+      q ∙ ap₂ (cond (eqb (suc p) n)) y z
 
-  -- the masked inputs
-  pub masked-made : (out x : List ℕ) → length out ≡ oct i → x ≡ packed m2 (16 * (i + g)) i (length out) → x ≡ shown.maskedInputs (circuitOf s) n w tapes
-  masked-made out x t q =
-      q ∙ ap₂ (λ (m : List ℕ) (j : ℕ). packed m (16 * (i + g)) i j) second t
-      ∙ masked-agrees s i o g a h n (length m0) (k .legal) start (k .ands) (b .parties .some) (b .parties .few) (b .room) tapes w
-
-  module _ (m3 m4 : List ℕ) (c : m3 ≡ walked (i + g) n n true s g h 0 m2) (d : m4 ≡ spoken (i + g) n n a s o m3) (unused : unusedZero i w ≡ true) where
-    -- m4 in one piece
-    last : m4 ≡ spoken (i + g) n n a s o (walked (i + g) n n true s g h 0 (maskedInputs (i + g) n i w base))
-    last = d ∙ ap (spoken (i + g) n n a s o) (c ∙ ap (walked (i + g) n n true s g h 0) second)
-
-    -- the bits of row p that the cut shows
-    pub row-made : (p cut r : ℕ) (out x : List ℕ) → p < n → r ≡ shownBits (circuitOf s) cut → length out ≡ oct (a + o)
-        → x ≡ packed m4 (48 * (i + g) + p) r (length out)
-        → x ≡ pack (firstBits (shownBits (circuitOf s) cut) (rowBits (honestRun (circuitOf s) n w tapes) p))
-    row-made p cut r out x hp t u q =
-        q ∙ ap₂ (λ (m : List ℕ) (j : ℕ). packed m (48 * (i + g) + p) r j) last u
-        ∙ ap (λ (j : ℕ). packed (spoken (i + g) n n a s o (walked (i + g) n n true s g h 0 (maskedInputs (i + g) n i w base))) (48 * (i + g) + p) j (oct (a + o))) t
-        ∙ show-row-agrees s i o g a h n (length m0) (k .legal) start (k .ands) (b .parties .some) (b .parties .few) (b .room) tapes w unused p
-        (shownBits (circuitOf s) cut) hp (shown-few s i o g a k cut)
-
-    -- the corrections
-    pub corrections-made : (p : ℕ) (out x : List ℕ) → length out ≡ oct a
-        → x ≡ cond (eqb (suc p) n) (replicate (length out) 0) (packed m4 (16 * (i + g) + 1) a (length out))
-        → x ≡ cond (eqb (suc p) n) (replicate (oct (andsOf (circuitOf s))) 0) (pack (correctionBits (circuitOf s) n tapes))
-    corrections-made p out x t q =
-        let y : replicate {A = ℕ} (length out) 0 ≡ replicate (oct (andsOf (circuitOf s))) 0
-        = ap (λ (j : ℕ). replicate j 0) (t ∙ ap oct (sym (circuit-ands s i o g a k))) in
-        let z : packed m4 (16 * (i + g) + 1) a (length out) ≡ pack (correctionBits (circuitOf s) n tapes)
-        = ap₂ (λ (m : List ℕ) (j : ℕ). packed m (16 * (i + g) + 1) a j) last t
-        ∙ show-corrections-agree s i o g a h n (length m0) (k .legal) start (k .ands) (b .parties .some) (b .parties .few) (b .room) tapes w unused in
-        q ∙ ap₂ (cond (eqb (suc p) n)) y z
-
-  -- the tapes with row p hidden
-  pub hidden-made : (p : ℕ) (x : List ℕ) → x ≡ take (p * len) tapes ++ replicate len 0 ++ drop (p * len + len) tapes → x ≡ hidden (circuitOf s) p tapes
-  unfolding withRow
-  hidden-made p x q =
-      q ∙ ap (λ (j : ℕ). take (p * j) tapes ++ replicate j 0 ++ drop (p * j + j) tapes) (l ∙ sym (circuit-row s i o g a k))
+-- the tapes with row p hidden
+pub hidden-made : (s : List ℕ) (i o g a : ℕ) → Known s (sized i o g a) → (len p : ℕ) (tapes x : List ℕ) → len ≡ oct (i + 2 * a)
+    → x ≡ take (p * len) tapes ++ replicate len 0 ++ drop (p * len + len) tapes → x ≡ hidden (circuitOf s) p tapes
+unfolding withRow
+hidden-made s i o g a k len p tapes x l q =
+    q ∙ ap (λ (j : ℕ). take (p * j) tapes ++ replicate j 0 ++ drop (p * j + j) tapes) (l ∙ sym (circuit-row s i o g a k))
 
 -- the four parts are the showing
 pub show-made : (c : Circuit) (n p cut : ℕ) (w tapes x y z u : List ℕ) → x ≡ hidden c p tapes

@@ -17,16 +17,13 @@ use circuit::ReadAnswer;
 use circuit::Sizes;
 use circuit::reading::read;
 use engine::chain::ands_passed;
-use engine::chain::speak;
-use engine::chain::walk;
-use engine::memory::load_tapes;
-use engine::memory::mask_inputs;
 use engine::memory::pack;
 use mpc::Answer;
 use mpc::tests::both;
 use mpc::tests::holds;
 use mpc::tests::holds_rows;
 use mpc::tests::unused_rows;
+use mpc::working::run_honest;
 use refusal::Refusal;
 
 // The bits of a broadcast row that a cut shows.
@@ -88,12 +85,7 @@ fn show_in(
     let head = bits::read_u16(s, 6) as usize;
     let wires = z.inputs + z.gates;
     let len = bits::oct(z.inputs + 2 * z.ands);
-    load_tapes(tapes, len, n, wires, z.inputs, z.ands, memory);
-    mask_inputs(witness, z.inputs, n, wires, memory);
-    pack(memory, 16 * wires, z.inputs, masked);
-    walk(s, z, head, n, n, true, memory);
-    let mut values = [0u8; 4096];
-    speak(s, z, n, n, memory, &mut values);
+    run_honest(s, z, n, witness, tapes, masked, memory);
     let shown = shown_bits(s, z, head, cut);
     pack(memory, 48 * wires + p, shown, row);
     show_corrections(memory, wires, z.ands, n, p, corrections);

@@ -6,7 +6,7 @@ use native.Mathlib.Omega.{arith}
 use lib.ListN.{length, take, drop, replicate}
 use Rattle.mpc.specs.Steps.{prepared}
 use Rattle.mpc.proofs.Opened.{ands-low, begun}
-use Rattle.instance.proofs.Checks.{tree-parties}
+use Rattle.instance.proofs.Trees.{tree-parties}
 use Rattle.instance.proofs.Replays.{prefix-length, kept-prefix, prefix-inside, prefix-taken, master-tapes, master-made}
 use Rattle.instance.proofs.checking.reopen.Statement.{statement}
 use Rattle.instance.proofs.checking.reopen.Tie as tie

@@ -6,7 +6,8 @@ use native.Mathlib.Omega.{arith}
 use borrow.Rule.Slice.PartMut.{same-len-mid}
 use lib.Seq.{length-take-le}
 use Rattle.mpc.proofs.Opened.{ands-low}
-use Rattle.instance.proofs.Checks.{sent-all, tree-parties, tree-low, stretch-size, row-room, row-few, part-length, seeds-opened, tapes-shown, corrections-zero, corrections-sent}
+use Rattle.instance.proofs.Trees.{tree-parties, tree-low}
+use Rattle.instance.proofs.Checks.{sent-all, stretch-size, row-room, row-few, part-length, seeds-opened, tapes-shown, corrections-zero, corrections-sent}
 use Rattle.instance.proofs.checking.reopen_parties.Statement.{statement}
 use Rattle.instance.proofs.checking.reopen_parties.Tie as tie
 

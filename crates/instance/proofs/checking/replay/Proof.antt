@@ -8,7 +8,8 @@ use Rattle.bits.specs.Bits.{oct}
 use Rattle.mpc.specs.Showing.{Showing}
 use Rattle.mpc.specs.Steps.{replayed}
 use Rattle.mpc.proofs.Opened.{ands-low}
-use Rattle.instance.proofs.Checks.{tree-parties, tree-low, stretch-size, sent-small, masked-unused, part-length, rest-length}
+use Rattle.instance.proofs.Trees.{tree-parties, tree-low}
+use Rattle.instance.proofs.Checks.{stretch-size, sent-small, masked-unused, part-length, rest-length}
 use Rattle.instance.proofs.Replays.{prefix-length, kept-prefix, prefix-inside, prefix-taken, commitments-made, lent-shown, output-made, rows-made}
 use Rattle.instance.proofs.checking.replay.Statement.{statement}
 use Rattle.instance.proofs.checking.replay.Tie as tie

@@ -2,7 +2,8 @@
 -- Assumes nothing.
 use native.Mathlib.Omega.{arith}
 use Rattle.mpc.proofs.Opened.{ands-low}
-use Rattle.instance.proofs.Checks.{tree-low, stretch-size, sent-small, unused-made}
+use Rattle.instance.proofs.Trees.{tree-low}
+use Rattle.instance.proofs.Checks.{stretch-size, sent-small, unused-made}
 use Rattle.instance.proofs.checking.unused.Statement.{statement}
 use Rattle.instance.proofs.checking.unused.Tie as tie
 

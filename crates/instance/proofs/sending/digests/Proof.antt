@@ -5,7 +5,8 @@ use native.Mathlib.Omega.{arith}
 use Prim.Native.Nat.{ℕ, _*_}
 use lib.ListN.{length-replicate}
 use Rattle.mpc.proofs.Asks.{kept-room, broadcasts-small}
-use Rattle.instance.proofs.Sent.{tree-sizes, tree-parties, digests-made, few-seeds, few-corrections, few-masked, front-length, front-inside, front-back, front-taken, online-asks}
+use Rattle.instance.proofs.Trees.{tree-sizes, tree-parties}
+use Rattle.instance.proofs.Sent.{digests-made, few-seeds, few-corrections, few-masked, front-length, front-inside, front-back, front-taken, online-asks}
 use Rattle.instance.proofs.sending.digests.Statement.{statement}
 use Rattle.instance.proofs.sending.digests.Tie as tie
 

@@ -12,8 +12,10 @@ use lib.Seq.{length-take-le, length-front}
 use Rattle.bits.specs.Bits.{oct}
 use Rattle.parties.proofs.Counts.{height-small}
 use Rattle.mpc.proofs.Asks.{kept-room, broadcasts-small}
-use Rattle.instance.proofs.Sent.{tree-sizes, tree-parties, few-seeds, few-corrections, few-masked, front-length, front-inside, front-back, front-taken, front-less, front-some}
-use Rattle.instance.proofs.Laid.{rest-length, five-parts, sent-none, sent-all, length-commitment, stretch-size, sent-inside, siblings-asks, row-asks, stretch-made}
+use Rattle.instance.proofs.Trees.{tree-sizes, tree-parties}
+use Rattle.instance.proofs.Sent.{few-seeds, few-corrections, few-masked, front-length, front-inside, front-back, front-taken, front-less, front-some}
+use Rattle.instance.proofs.Checks.{sent-none, sent-all, rest-length}
+use Rattle.instance.proofs.Laid.{five-parts, length-commitment, stretch-size, sent-inside, siblings-asks, row-asks, stretch-made}
 use Rattle.instance.proofs.sending.send.Statement.{statement}
 use Rattle.instance.proofs.sending.send.Tie as tie
 
@@ -57,7 +59,7 @@ from-master-requires c κs =
 
 -- the corrections' bytes that are sent
 sent-is : (c : tie.Joined1) → c .if1 .sent ≡ cond (eqb (suc (c .before .before .before .before .before .before .before .before .before .before .before .before .before .before .before .before .before .before .before .before .before .before .args .p)) (c .before .before .before .before .before .before .before .before .before .before .before .before .before .before .before .before .before .before .before .before .before .before .args .inst .parties)) 0 (oct (c .before .before .before .before .before .before .before .before .before .before .before .before .before .before .before .before .before .before .before .before .before .before .args .z .ands))
-sent-is c = ⊎-elim (λ t. sent-none _ _ _ _ (t .0 .taken) (t .1)) (λ t. sent-all _ _ _ _ (t .0 .left) (t .1 ∙ c .before .before .before .before .before .before .before .before .before .before .before .before .before .before .before .oct .ensures)) (c .if1 .came)
+sent-is c = ⊎-elim (λ t. t .1 ∙ sent-none _ _ _ (t .0 .taken)) (λ t. sent-all _ _ _ _ (t .0 .left) (t .1 ∙ c .before .before .before .before .before .before .before .before .before .before .before .before .before .before .before .oct .ensures)) (c .if1 .came)
 
 -- are at most all
 sent-low : (c : tie.Joined1) → c .if1 .sent ≤ c .before .before .before .before .before .before .before .before .before .before .before .before .before .before .before .oct .result
@@ -161,7 +163,7 @@ part-pack-end : tie.Need-part-pack-end
 part-pack-end c = omega (arith, rest (c .before .before .before .before .before))
 
 pack-requires : tie.Need-pack-requires
-pack-requires c κs = row-asks _ _ _ _ _ _ _ _ _ (c .before .before .before .before .before .before .before .before .before .before .before .before .before .before .before .before .before .before .before .before .before .before .before .before .before .before .before .before .before .before .before .before .before .before .before .before .before .before .before .before .before .before .before .before .before .before .before .before .pre .0 .known) (c .before .before .before .before .before .before .before .before .before .before .before .before .before .before .before .before .before .before .before .before .before .before .before .before .before .before .before .before .before .before .before .before .before .before .before .before .before .before .before .before .before .before .before .before .before .before .before .before .pre .0 .tree) (c .before .before .before .before .before .before .before .before .before .before .before .before .before .before .before .before .before .before .before .before .before .before .before .before .before .before .before .before .before .before .before .before .before .before .before .before .before .before .before .before .before .before .before .before .before .before .before .before .pre .1 .1 .1 .0) (sent-is (c .before .before .before .before .before .before .before .before .before .before .before .before .before .before .before .before .before .before .before .before .before .before .before .before .before .before)) _ _ (kept-room _ _ _ (c .before .before .before .before .before .before .before .before .before .before .before .before .before .before .before .before .before .before .before .before .before .before .before .before .before .before .before .before .before .before .before .before .before .before .from-master .kept .1 .1 .1 .1 .1 .1 .1 .1 .1 .0) (c .before .before .before .before .before .before .before .before .before .before .before .before .before .before .before .before .before .before .before .before .before .before .before .before .before .before .before .before .before .before .before .before .before .before .before .before .before .before .before .before .before .before .before .before .before .before .before .before .pre .0 .room)) (rest-length (c .before .before .before .before .before .before .put3 .result) _ (c .before .before .before .before .before .before .put3 .last .1 .1 .0) (rest (c .before .before .before .before .before .before)))
+pack-requires c κs = row-asks _ _ _ _ _ _ _ _ _ (c .before .before .before .before .before .before .before .before .before .before .before .before .before .before .before .before .before .before .before .before .before .before .before .before .before .before .before .before .before .before .before .before .before .before .before .before .before .before .before .before .before .before .before .before .before .before .before .before .pre .0 .known) (c .before .before .before .before .before .before .before .before .before .before .before .before .before .before .before .before .before .before .before .before .before .before .before .before .before .before .before .before .before .before .before .before .before .before .before .before .before .before .before .before .before .before .before .before .before .before .before .before .pre .0 .tree) (c .before .before .before .before .before .before .before .before .before .before .before .before .before .before .before .before .before .before .before .before .before .before .before .before .before .before .before .before .before .before .before .before .before .before .before .before .before .before .before .before .before .before .before .before .before .before .before .before .pre .1 .1 .1 .0) (sent-is (c .before .before .before .before .before .before .before .before .before .before .before .before .before .before .before .before .before .before .before .before .before .before .before .before .before .before)) _ _ (kept-room _ _ _ (c .before .before .before .before .before .before .before .before .before .before .before .before .before .before .before .before .before .before .before .before .before .before .before .before .before .before .before .before .before .before .before .before .before .before .from-master .kept .1 .1 .1 .1 .1 .1 .1 .1 .1 .0) (c .before .before .before .before .before .before .before .before .before .before .before .before .before .before .before .before .before .before .before .before .before .before .before .before .before .before .before .before .before .before .before .before .before .before .before .before .before .before .before .before .before .before .before .before .before .before .before .before .pre .0 .room)) (rest-length (c .before .before .before .before .before .before .put3 .result) _ (c .before .before .before .before .before .before .put3 .last .1 .1 .0) (sym (rest (c .before .before .before .before .before .before))))
 
 same-length : tie.Need-same-length
 same-length c = same-len-mid (c .before .before .before .before .before .before .before .before .before .put3 .result) (length (c .before .before .before .before .before .before .before .before .before .put3 .last .1 .1 .0) - c .before .before .before .before .before .before .before .before .before .put3 .result) (c .before .before .before .before .before .before .before .before .before .put3 .last .1 .1 .0) (c .before .before .pack .last .1 .1 .1 .0) (c .before .before .pack .kept .1 .1 .1 .0) ∙ kept (c .before .before .before .before .before .before .before .before .before)
@@ -186,7 +188,7 @@ returns c =
           (front-back 512 (c .before .before .before .before .before .before .before .before .before .before .before .before .before .before .before .before .before .before .before .before .before .before .before .before .before .before .before .before .before .before .before .before .before .before .before .before .before .before .before .before .before .before .before .before .oct .result) (v .last .1 .1 .1 .1 .1 .1 .0) b (v .kept .1 .1 .1 .1 .1 .1 .0)) (v .ensures .0) (v .ensures .1 .0)
           (v .kept .1 .1 .1 .1 .1 .1 .0 ∙ front-length 512 _ b ∙ c .before .before .before .before .before .before .before .before .before .before .before .before .before .before .before .before .before .before .before .before .before .before .before .before .before .before .before .before .before .before .before .before .before .before .before .before .before .before .before .before .before .before .before .before .oct .ensures) (v .ensures .1 .1 .1 .1) (c .before .before .before .before .before .before .before .before .before .before .before .before .before .before .before .before .before .before .before .before .before .before .before .before .siblings-below .ensures) refl (c .before .before .before .before .before .before .before .before .before .before .before .before .before .before .before .before .before .before .before .before .before .before .before .before .before .before .commitment .ensures)
           (front-back 64 (c .before .before .before .before .before .before .before .before .before .before .before .before .before .before .before .before .before .before .before .before .before .before .before .before .before .before .before .before .before .before .before .before .before .before .before .before .before .before .before .before .before .before .before .oct2 .result) (v .last .1 .1 .1 .1 .1 .1 .1 .0) (few-masked _ _ _ _ _ _ (p .0 .known) (c .before .before .before .before .before .before .before .before .before .before .before .before .before .before .before .before .before .before .before .before .before .before .before .before .before .before .before .before .before .before .before .before .before .before .before .before .before .before .before .before .before .before .before .oct2 .ensures)) (v .kept .1 .1 .1 .1 .1 .1 .1 .0) ∙ v .ensures .1 .1 .0)
-          (rest-length (c .before .before .before .before .before .before .before .before .before .put3 .result) _ (c .before .before .before .before .before .before .before .before .before .put3 .last .1 .1 .0) r) (c .before .before .pack .ensures)
+          (rest-length (c .before .before .before .before .before .before .before .before .before .put3 .result) _ (c .before .before .before .before .before .before .before .before .before .put3 .last .1 .1 .0) (sym r)) (c .before .before .pack .ensures)
           (five-parts (16 * x .inst .height) (c .before .before .before .before .before .before .before .before .before .before .before .before .before .before .before .before .before .before .before .put .result) (c .before .before .before .before .before .before .before .before .before .before .before .before .before .before .put2 .result) (c .before .before .before .before .before .before .before .before .before .put3 .result) (length (c .before .before .before .before .before .before .before .before .before .put3 .last .1 .1 .0) - c .before .before .before .before .before .before .before .before .before .put3 .result) (x .part .now) (c .before .before .before .before .before .before .before .before .before .before .before .before .before .before .before .before .before .before .before .before .before .before .before .before .siblings-below .last .1 .1 .1 .1 .1 .0) _ _ _ (c .before .before .pack .last .1 .1 .1 .0) (c .before .before .before .before .before .before .before .before .before .before .before .before .before .before .before .before .before .before .before .put .last .1 .1 .0) (c .before .before .before .before .before .before .before .before .before .before .before .before .before .before .put2 .last .1 .1 .0) (c .before .before .before .before .before .before .before .before .before .put3 .last .1 .1 .0)
           (c .before .before .before .before .before .before .before .before .before .before .before .before .before .before .before .before .before .before .before .before .before .before .before .before .siblings-below .kept .1 .1 .1 .1 .1 .0 ∙ length-take-le (16 * x .inst .height) (x .part .now) (first-inside (c .before .before .before .before .before .before .before .before .before .before .before .before .before .before .before .before .before .before .before .before .before .before .before .before .before .before))) (c .before .before .before .before .before .before .before .before .before .before .before .before .before .before .before .before .before .before .before .put .ensures .0) (c .before .before .before .before .before .before .before .before .before .before .before .before .before .before .before .before .before .before .before .put .ensures .1) (c .before .before .before .before .before .before .before .before .before .before .before .before .before .before .put2 .ensures .0) (c .before .before .before .before .before .before .before .before .before .before .before .before .before .before .put2 .ensures .1) (c .before .before .before .before .before .before .before .before .before .put3 .ensures .0) (c .before .before .before .before .before .before .before .before .before .put3 .ensures .1) (omega (arith, r))),
       (v .ensures .1 .1 .1 .0, v .ensures .1 .1 .1 .1),

@@ -1,14 +1,14 @@
--- The work memory of an instance after its run and after its replay, and the digest over its masked inputs and broadcast rows.
+-- The digest over the masked inputs and the broadcast rows of an instance.
 -- Assumes nothing.
 use mathlib.Core.Path.{_≡_, sym, ap, ap₂, _∙_}
-use mathlib.Core.Bool.{true, false, _&&_}
+use mathlib.Core.Bool.{_&&_}
 use mathlib.Core.List.{List, [], _∷_, _++_, flatten, append-nil, append-assoc}
 use mathlib.Core.Logic.{⊎-elim}
-use Prim.Native.Nat.{ℕ, zero, suc, _+_, _-_, _*_, _≤_}
+use Prim.Native.Nat.{ℕ, zero, suc, _+_, _*_, _≤_}
 use native.Mathlib.Omega.{arith}
 use native.Mathlib.Numerals.{add-one}
 use lib.Dec.{ltb}
-use lib.ListN.{length, take, drop, replicate, length-append, length-drop, length-replicate}
+use lib.ListN.{length, take, drop, length-append, length-drop}
 use lib.Seq.{take-at, length-take-le}
 use Rattle.bits.specs.Bits.{tabulate, odd, oct, fromBits}
 use Rattle.bits.specs.Bytes.{leBytes}
@@ -18,73 +18,12 @@ use Rattle.bits.proofs.Tabulate.{getD-tabulate, getD-tabulate-end}
 use Rattle.keccak.specs.declared.sponge.Sponge.{Sponge}
 use Rattle.keccak.specs.Steps.{absorbs}
 use Rattle.keccak.proofs.Absorbing.{Bytes}
-use Rattle.circuit.specs.File.{headOf, circuitOf}
-use Rattle.engine.specs.Steps.{at, saidAt, unpacked, packedByte, packed, packedRows, loadedTapes, maskedInputs, walked, spoken, outputValues}
-use Rattle.mpc.specs.Showing as shown
-use Rattle.mpc.specs.Steps.{Known, Parties, loaded, gatesRun, outputsRun, valuesRun, worked, opened, replayed, replayedValues}
-use Rattle.mpc.proofs.Agreement.{masked-agrees}
+use Rattle.engine.specs.Steps.{at, saidAt, packedByte, packed, packedRows}
 use Rattle.hashing.specs.Inputs.{onlineInput}
 use Rattle.hashing.specs.Steps.{taken, given}
 use Rattle.hashing.proofs.Hashes.{bytes-append, bytes-one}
 use Rattle.hashing.proofs.Digests.{taken-more, online-more, given-taken}
 use Rattle.instance.specs.Instance.{onlineDigest}
-use Rattle.mpc.proofs.Opened.{sized}
-
--- the work memory: as lent, cleared, and with the tapes
-module _ (s : List ℕ) (i o g a h n len : ℕ) (tapes m m0 m1 : List ℕ) (k : Known s (sized i o g a)) (head : h ≡ headOf s) (fit : len ≡ oct (i + 2 * a))
-    (e0 : m0 ≡ replicate (length m) 0) (e1 : m1 ≡ loadedTapes (i + g) i a len tapes n m0) where
-  -- the tapes in a clear memory
-  loads : m1 ≡ loadedTapes (i + g) i a (oct (i + 2 * a)) tapes n (replicate (length m) 0)
-  loads = e1 ∙ ap₂ (λ (j : ℕ) (x : List ℕ). loadedTapes (i + g) i a j tapes n x) fit e0
-
-  -- a run: with the masked inputs
-  module _ (w m2 : List ℕ) (e2 : m2 ≡ maskedInputs (i + g) n i w m1) where
-    -- they are packed
-    pub work-masked : Parties n → 64 * (i + g) + 4096 ≤ length m → (x out : List ℕ) → length out ≡ oct i
-        → x ≡ packed m2 (16 * (i + g)) i (length out) → x ≡ shown.maskedInputs (circuitOf s) n w tapes
-    work-masked parties room x out t q =
-        q ∙ ap₂ (λ (y : List ℕ) (j : ℕ). packed y (16 * (i + g)) i j) (e2 ∙ ap (maskedInputs (i + g) n i w) loads) t
-        ∙ masked-agrees s i o g a h n (length m) (k .legal) head (k .ands) (parties .some) (parties .few) room tapes w
-
-    -- the memory after the walk and the outputs
-    pub work-made : (m3 m4 : List ℕ) → m3 ≡ walked (i + g) n n true s g h 0 m2 → m4 ≡ spoken (i + g) n n a s o m3
-        → m4 ≡ worked s (sized i o g a) n w tapes (replicate (length m) 0)
-    unfolding worked outputsRun gatesRun loaded
-    work-made m3 m4 e3 e4 =
-        let d2 = e2 ∙ ap (maskedInputs (i + g) n i w) loads in
-        e4 ∙ ap (spoken (i + g) n n a s o) (e3 ∙ ap₂ (λ (x : ℕ) (y : List ℕ). walked (i + g) n n true s g x 0 y) head d2)
-
-  -- a replay: with the corrections, row p, the masked inputs, and after the walk
-  module _ (p : ℕ) (corr masked row m2 m3 m4 m5 : List ℕ) (e2 : m2 ≡ unpacked corr 0 a (48 * (i + g) + (n - 1)) m1)
-      (e3 : m3 ≡ unpacked row 0 (a + o) (48 * (i + g) + p) m2) (e4 : m4 ≡ unpacked masked 0 i (16 * (i + g)) m3)
-      (e5 : m5 ≡ walked (i + g) n p false s g h 0 m4) where
-    -- what is shown
-    abbrev showing : shown.Showing
-    showing = record { tapes = tapes; corrections = corr; maskedInputs = masked; row = row }
-
-    -- the memory before the outputs
-    rework-gates : m5 ≡ gatesRun s (sized i o g a) n p false (opened (sized i o g a) n p showing (replicate (length m) 0))
-    unfolding gatesRun opened loaded
-    rework-gates =
-        let d2 = e2 ∙ ap (unpacked corr 0 a (48 * (i + g) + (n - 1))) loads in
-        let d3 = e3 ∙ ap (unpacked row 0 (a + o) (48 * (i + g) + p)) d2 in
-        let d4 = e4 ∙ ap (unpacked masked 0 i (16 * (i + g))) d3 in
-        e5 ∙ ap₂ (λ (x : ℕ) (y : List ℕ). walked (i + g) n p false s g x 0 y) head d4
-
-    -- the memory after them
-    pub rework-made : (m6 : List ℕ) → m6 ≡ spoken (i + g) n p a s o m5 → m6 ≡ replayed s (sized i o g a) n p showing (replicate (length m) 0)
-    unfolding replayed outputsRun
-    rework-made m6 e6 = e6 ∙ ap (spoken (i + g) n p a s o) rework-gates
-
-    -- the outputs' values
-    pub rework-values : (v y : List ℕ) → y ≡ outputValues (i + g) n p a s o m5 v
-        → y ≡ replayedValues s (sized i o g a) n p showing (replicate (length m) 0) v
-    unfolding replayedValues valuesRun
-    rework-values v y e6 = e6 ∙ ap (λ (x : List ℕ). outputValues (i + g) n p a s o x v) rework-gates
-
--- the values' buffer, lent clear, has room
-pub clear-values : (v : List ℕ) → v ≡ replicate 4096 0 → 4096 ≤ length v
-clear-values v e = omega (arith, ap length e, length-replicate {A = ℕ} 4096 0)
 
 -- packed bits are bytes
 packed-bytes : (m : List ℕ) (from shown len : ℕ) → Bytes (packed m from shown len)

@@ -1,4 +1,4 @@
--- `instance::working::online` meets its contract. The loop's invariant: the masked inputs and the first i rows are taken in.
+-- `instance::committing::online` meets its contract. The loop's invariant: the masked inputs and the first i rows are taken in.
 -- Assumes nothing.
 use mathlib.Core.Path.{_≡_, refl, sym}
 use mathlib.Core.List.{flatten}
@@ -10,9 +10,9 @@ use Rattle.engine.specs.Steps.{saidAt, packed}
 use Rattle.hashing.specs.Inputs.{onlineInput}
 use Rattle.hashing.specs.Steps.{taken}
 use Rattle.hashing.proofs.Digests.{taken-room}
-use Rattle.instance.proofs.Works.{part-length, put-inside, put-taken, put-length, online-begins, online-turn, online-ends}
-use Rattle.instance.proofs.working.online.Statement.{statement}
-use Rattle.instance.proofs.working.online.Tie as tie
+use Rattle.instance.proofs.Online.{part-length, put-inside, put-taken, put-length, online-begins, online-turn, online-ends}
+use Rattle.instance.proofs.committing.online.Statement.{statement}
+use Rattle.instance.proofs.committing.online.Tie as tie
 
 abbrev Inv-loop : tie.InvT-loop
 Inv-loop j masked memory wires n said len row₀ s₀ i₀ row s i =
