@@ -18,7 +18,7 @@ use Rattle.bits.specs.Bytes.{rowOf}
 use Rattle.bits.proofs.Numbers.{mod-two}
 use Rattle.bits.proofs.Tabulate.{length-tabulate, getD-tabulate}
 use Rattle.circuit.proofs.Run.{byte-turn}
-use Rattle.engine.specs.Steps.{at, shareAt, valueAt, saidAt, fill, xorBytes, unpacked, loadedRow, loadedTapes, maskByte, packedByte, packed, packedRows}
+use Rattle.engine.specs.Steps.{at, shareAt, valueAt, broadcastAt, fill, xorBytes, unpacked, loadedRow, loadedTapes, maskByte, packedByte, packed, packedRows}
 use Rattle.engine.proofs.Fill.{fill-read}
 
 -- a row is loaded in three parts
@@ -109,13 +109,13 @@ rows-turn len i g rows z h l p q =
 
 -- the part of row i, packed
 pub row-packed : (W i shown len : ℕ) (m rows z : List ℕ) → i * len + len ≤ length rows
-    → z ≡ packed m (48 * W + i) shown (length (midOf (i * len) (i * len + len - i * len) rows)) → z ≡ packed m (saidAt W 0 i) shown len
+    → z ≡ packed m (48 * W + i) shown (length (midOf (i * len) (i * len + len - i * len) rows)) → z ≡ packed m (broadcastAt W 0 i) shown len
 row-packed W i shown len m rows z h e =
     let y : 48 * W + i ≡ 48 * W + 16 * 0 + i = omega arith in
     e ∙ ap₂ (λ (a b : ℕ). packed m a shown b) y (part-length len i rows h)
 
 -- all rows
 pub rows-end : (W n shown len : ℕ) (m rows : List ℕ) → length rows ≡ n * len
-    → take (n * len) rows ≡ flatten (tabulate n (λ i. packed m (saidAt W 0 i) shown len)) → rows ≡ packedRows W m n shown len
+    → take (n * len) rows ≡ flatten (tabulate n (λ i. packed m (broadcastAt W 0 i) shown len)) → rows ≡ packedRows W m n shown len
 unfolding packedRows
 rows-end W n shown len m rows l e = sym (take-all (n * len) rows (omega arith)) ∙ e

@@ -9,7 +9,7 @@ use native.Mathlib.Numerals.{add-one}
 use lib.Dec.{eqb}
 use lib.ListN.{length, getD, set}
 use lib.Bits.{bitXor, bitAnd}
-use Rattle.engine.specs.Steps.{shareAt, valueAt, saidAt, at, fill, Room, Fit, correctStep, broadcastStep, maskedProduct, takeStep, andStep, gateStep, walked, broadcastByte, outputByte, outputStep, unmasked, spoken, outputValues}
+use Rattle.engine.specs.Steps.{shareAt, valueAt, broadcastAt, at, fill, Room, Fit, correctStep, broadcastStep, maskedProduct, takeStep, andStep, gateStep, walked, broadcastByte, outputByte, outputStep, unmasked, outputsBroadcast, outputValues}
 use Rattle.circuit.specs.File.{inputsOf, outputWire, nextOf}
 use Rattle.circuit.specs.Records.{gateOf, recordOf}
 use Rattle.circuit.specs.Steps.{andOne}
@@ -45,19 +45,19 @@ copy-turn w m a c n i e h few l =
     share-turn f w m c n i e h few (getD m (a + i) 0) (fill-read (shareAt c) f w m i (a + i) e (λ u k q. omega arith))
 
 -- the loop has filled i parties' broadcasts t, with f: the memory was w, and is m
-module _ (f : ℕ → ℕ) (w m : List ℕ) (W t n i : ℕ) (e : m ≡ fill (saidAt W t) f i w) (h : i < n) (few : n ≤ 16) where
+module _ (f : ℕ → ℕ) (w m : List ℕ) (W t n i : ℕ) (e : m ≡ fill (broadcastAt W t) f i w) (h : i < n) (few : n ≤ 16) where
   -- the other planes, and the byte in hand, are as at the start
-  said-below : (j : ℕ) → j < 48 * W → getD m j 0 ≡ getD w j 0
-  said-below j l = fill-read (saidAt W t) f w m i j e (λ u k q. omega arith)
+  sent-below : (j : ℕ) → j < 48 * W → getD m j 0 ≡ getD w j 0
+  sent-below j l = fill-read (broadcastAt W t) f w m i j e (λ u k q. omega arith)
 
-  said-same : getD m (48 * W + 16 * t + i) 0 ≡ getD w (48 * W + 16 * t + i) 0
-  said-same = fill-read (saidAt W t) f w m i (48 * W + 16 * t + i) e (λ u k q. omega arith)
+  sent-same : getD m (48 * W + 16 * t + i) 0 ≡ getD w (48 * W + 16 * t + i) 0
+  sent-same = fill-read (broadcastAt W t) f w m i (48 * W + 16 * t + i) e (λ u k q. omega arith)
 
-  said-turn : (v : ℕ) → v ≡ f i → set m (48 * W + 16 * t + i) v ≡ fill (saidAt W t) f (i + 1) w
-  said-turn v q = fill-turn (saidAt W t) f w m i (48 * W + 16 * t + i) v e refl q
+  sent-turn : (v : ℕ) → v ≡ f i → set m (48 * W + 16 * t + i) v ≡ fill (broadcastAt W t) f (i + 1) w
+  sent-turn v q = fill-turn (broadcastAt W t) f w m i (48 * W + 16 * t + i) v e refl q
 
 -- what a turn stores is the broadcast, though it reads the memory in which i places are filled
-pub broadcast-turn : (w m : List ℕ) (W n p a b t i x y v : ℕ) → m ≡ fill (saidAt W t) (broadcastByte W p a b t w) i w → i < n → n ≤ 16 → a < W → b < W → t < W
+pub broadcast-turn : (w m : List ℕ) (W n p a b t i x y v : ℕ) → m ≡ fill (broadcastAt W t) (broadcastByte W p a b t w) i w → i < n → n ≤ 16 → a < W → b < W → t < W
     → x ≡ at w (valueAt W a) → y ≡ at w (valueAt W b)
     → v
     ≡ cond (eqb i p) (getD m (48 * W + 16 * t + i) 0)
@@ -66,19 +66,19 @@ pub broadcast-turn : (w m : List ℕ) (W n p a b t i x y v : ℕ) → m ≡ fill
     → v ≡ broadcastByte W p a b t w i
 broadcast-turn w m W n p a b t i x y v e h few ha hb ht hx hy q =
     let f = broadcastByte W p a b t w in
-    let s = said-same f w m W t n i e h few in
-    let sa = said-below f w m W t n i e h few (16 * a + i) (omega arith) in
-    let sb = said-below f w m W t n i e h few (16 * b + i) (omega arith) in
-    let sm = said-below f w m W t n i e h few (32 * W + 16 * t + i) (omega arith) in
+    let s = sent-same f w m W t n i e h few in
+    let sa = sent-below f w m W t n i e h few (16 * a + i) (omega arith) in
+    let sb = sent-below f w m W t n i e h few (16 * b + i) (omega arith) in
+    let sm = sent-below f w m W t n i e h few (32 * W + 16 * t + i) (omega arith) in
     q ∙ unfold broadcastByte in rw (s, sa, sb, sm, hx, hy)
 
-pub output-turn : (w m : List ℕ) (W n p x t i v : ℕ) → m ≡ fill (saidAt W t) (outputByte W p x t w) i w → i < n → n ≤ 16 → x < W
+pub output-turn : (w m : List ℕ) (W n p x t i v : ℕ) → m ≡ fill (broadcastAt W t) (outputByte W p x t w) i w → i < n → n ≤ 16 → x < W
     → v ≡ cond (eqb i p) (getD m (48 * W + 16 * t + i) 0) (getD m (16 * x + i) 0)
     → v ≡ outputByte W p x t w i
 output-turn w m W n p x t i v e h few l q =
     let f = outputByte W p x t w in
-    let s = said-same f w m W t n i e h few in
-    let sx = said-below f w m W t n i e h few (16 * x + i) (omega arith) in
+    let s = sent-same f w m W t n i e h few in
+    let sx = sent-below f w m W t n i e h few (16 * x + i) (omega arith) in
     q ∙ unfold outputByte in rw (s, sx)
 
 -- a memory of the same length has the same room
@@ -140,23 +140,23 @@ module _ (W n p : ℕ) (correcting : Bool) (s : List ℕ) where
 
 -- the output wires: one more is broadcast, and its value kept
 module _ (W n p A : ℕ) (s : List ℕ) where
-  pub spoken-none : (w : List ℕ) → w ≡ spoken W n p A s 0 w
-  unfolding spoken
-  spoken-none w = refl
+  pub outputs-none : (w : List ℕ) → w ≡ outputsBroadcast W n p A s 0 w
+  unfolding outputsBroadcast
+  outputs-none w = refl
 
-  pub spoken-turn : (j x : ℕ) (m m′ w : List ℕ) → m ≡ spoken W n p A s j w → x ≡ outputWire s j → m′ ≡ outputStep W n p x (A + j) m
-      → m′ ≡ spoken W n p A s (j + 1) w
-  unfolding spoken
-  spoken-turn j x m m′ w e h q =
+  pub outputs-turn : (j x : ℕ) (m m′ w : List ℕ) → m ≡ outputsBroadcast W n p A s j w → x ≡ outputWire s j → m′ ≡ outputStep W n p x (A + j) m
+      → m′ ≡ outputsBroadcast W n p A s (j + 1) w
+  unfolding outputsBroadcast
+  outputs-turn j x m m′ w e h q =
       q ∙ ap₂ (λ (o : ℕ) (l : List ℕ). outputStep W n p o (A + j) l) h e ∙ rw add-one
 
   pub values-none : (w y : List ℕ) → y ≡ outputValues W n p A s 0 w y
   unfolding outputValues
-  values-none w y = fill-none (λ j. 16 * j) (λ j. unmasked W n p (outputWire s j) (A + j) (spoken W n p A s j w)) y
+  values-none w y = fill-none (λ j. 16 * j) (λ j. unmasked W n p (outputWire s j) (A + j) (outputsBroadcast W n p A s j w)) y
 
-  pub values-turn : (j x r : ℕ) (m w v y : List ℕ) → m ≡ spoken W n p A s j w → v ≡ outputValues W n p A s j w y → x ≡ outputWire s j
+  pub values-turn : (j x r : ℕ) (m w v y : List ℕ) → m ≡ outputsBroadcast W n p A s j w → v ≡ outputValues W n p A s j w y → x ≡ outputWire s j
       → r ≡ unmasked W n p x (A + j) m → set v (16 * j) r ≡ outputValues W n p A s (j + 1) w y
   unfolding outputValues
   values-turn j x r m w v y e d h q =
-      fill-turn (λ k. 16 * k) (λ k. unmasked W n p (outputWire s k) (A + k) (spoken W n p A s k w)) y v j (16 * j) r d refl
+      fill-turn (λ k. 16 * k) (λ k. unmasked W n p (outputWire s k) (A + k) (outputsBroadcast W n p A s k w)) y v j (16 * j) r d refl
       (q ∙ ap₂ (λ (o : ℕ) (l : List ℕ). unmasked W n p o (A + j) l) h e)

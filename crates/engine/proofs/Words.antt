@@ -18,7 +18,7 @@ use Rattle.bits.specs.Bytes.{leAt, leBytes}
 use Rattle.bits.proofs.Little.{getD-leBytes, leAt-cong, leAt-last, leAt-lt, leBytes-add, leBytes-leAt, length-leBytes, pow-bytes, sets-append}
 use Rattle.bits.proofs.Numbers.{eq-or-ne, lt-or-le}
 use Rattle.bits.proofs.Ops.{bitXor-assoc}
-use Rattle.engine.specs.Steps.{shareAt, valueAt, correctionAt, maskAt, saidAt, at, fill, xorBytes, broadcastByte, correctionByte, correctStep, outputByte, Fit}
+use Rattle.engine.specs.Steps.{shareAt, valueAt, correctionAt, maskAt, broadcastAt, at, fill, xorBytes, broadcastByte, correctionByte, correctStep, outputByte, Fit}
 use Rattle.engine.proofs.Fill.{fill-cong, fill-join}
 use Rattle.engine.proofs.Loading.{xorBytes-cong}
 
@@ -295,7 +295,7 @@ module _ (m : List ℕ) (small : (j : ℕ) → getD m j 0 < 256) where
   row-sum a lo hi r h p q e =
       row-summed (λ i. at m (a + i)) lo hi 0 r (read-holds a 0 a lo (omega arith) (omega arith) p) (read-holds a 8 (a + 8) hi refl (omega arith) q) e
 
-  -- a word of broadcasts of AND gate t: old is what stands there, new what the parties say, v what is chosen
+  -- a word of broadcasts of AND gate t: old is what stands there, new what the parties broadcast, v what is chosen
   pub broadcast-word : (W n p a b t f A B S M x y old new v : ℕ) → f ≤ 8
       → A ≡ 16 * a + f → B ≡ 16 * b + f → S ≡ 48 * W + 16 * t + f → M ≡ 32 * W + 16 * t + f → Fit W n a b 0 t m
       → x ≡ at m (valueAt W a) → y ≡ at m (valueAt W b) → old ≡ leAt 8 m S
@@ -323,7 +323,7 @@ module _ (m : List ℕ) (small : (j : ℕ) → getD m j 0 < 256) where
       (byte-xor (bitXor (bitAnd X wB) (bitAnd Y wA)) old i
       ∙ ap (λ (k : ℕ). bitXor k (byte old i))
       (byte-xor (bitAnd X wB) (bitAnd Y wA) i ∙ ap₂ bitXor (byte-and X wB i) (byte-and Y wA i))) in
-      let z : byte new i ≡ bitXor (bitXor (bitXor (bitAnd (at m (valueAt W a)) (at m (shareAt b (f + i)))) (bitAnd (at m (valueAt W b)) (at m (shareAt a (f + i))))) (at m (saidAt W t (f + i)))) (at m (maskAt W t (f + i))) =
+      let z : byte new i ≡ bitXor (bitXor (bitXor (bitAnd (at m (valueAt W a)) (at m (shareAt b (f + i)))) (bitAnd (at m (valueAt W b)) (at m (shareAt a (f + i))))) (at m (broadcastAt W t (f + i)))) (at m (maskAt W t (f + i))) =
       e ∙ ap₂ bitXor (ap₂ bitXor (ap₂ bitXor (ap₂ bitAnd bx rB) (ap₂ bitAnd by rA)) rS) rM in
       hv i l ∙ ap₂ (cond (eqb (f + i) p)) rS z
 
@@ -353,7 +353,7 @@ module _ (m : List ℕ) (small : (j : ℕ) → getD m j 0 < 256) where
       ∙ sym (leAt-last 7 k j ∙ ap₂ (λ (y z : ℕ). y + z * 72057594037927936) (leAt-cong 7 k m j j same) top)
 
   -- so the word at j of product shares, its last party's the correction x
-  pub corrected-last : (W n a b t j w x : ℕ) (k : List ℕ) → t < W → j + 7 ≡ saidAt W t (n - 1) → 48 * W ≤ j → j + 8 ≤ length m → w ≡ leAt 8 m j
+  pub corrected-last : (W n a b t j w x : ℕ) (k : List ℕ) → t < W → j + 7 ≡ broadcastAt W t (n - 1) → 48 * W ≤ j → j + 8 ≤ length m → w ≡ leAt 8 m j
       → k ≡ correctStep W n a b t m → x ≡ correctionByte W n a b t m → x * 72057594037927936 + w % 72057594037927936 ≡ leAt 8 k j
   unfolding correctStep
   corrected-last W n a b t j w x k l q far h e d r =

@@ -67,8 +67,8 @@ abbrev pub maskAt : ℕ → ℕ → ℕ → ℕ
 maskAt W t i = 32 * W + 16 * t + i
 
 -- party i's product share of AND gate t, and then its broadcast; after the AND gates, its broadcasts of the output masks
-abbrev pub saidAt : ℕ → ℕ → ℕ → ℕ
-saidAt W t i = 48 * W + 16 * t + i
+abbrev pub broadcastAt : ℕ → ℕ → ℕ → ℕ
+broadcastAt W t i = 48 * W + 16 * t + i
 
 -- the byte at a place
 abbrev pub at : List ℕ → ℕ → ℕ
@@ -78,13 +78,13 @@ at m k = getD m k 0
 -- product share, its share of c's mask"; the hidden party p has its broadcast there already
 unfoldable pub broadcastByte : ℕ → ℕ → ℕ → ℕ → ℕ → List ℕ → ℕ → ℕ
 broadcastByte W p a b t m i =
-    cond (eqb i p) (at m (saidAt W t i))
-    (bitXor (bitXor (bitXor (bitAnd (at m (valueAt W a)) (at m (shareAt b i))) (bitAnd (at m (valueAt W b)) (at m (shareAt a i)))) (at m (saidAt W t i)))
+    cond (eqb i p) (at m (broadcastAt W t i))
+    (bitXor (bitXor (bitXor (bitAnd (at m (valueAt W a)) (at m (shareAt b i))) (bitAnd (at m (valueAt W b)) (at m (shareAt a i)))) (at m (broadcastAt W t i)))
     (at m (maskAt W t i)))
 
 -- "After the last gate each party broadcasts its mask shares of the O outputs": party i's share of wire w as broadcast t
 unfoldable pub outputByte : ℕ → ℕ → ℕ → ℕ → List ℕ → ℕ → ℕ
-outputByte W p w t m i = cond (eqb i p) (at m (saidAt W t i)) (at m (shareAt w i))
+outputByte W p w t m i = cond (eqb i p) (at m (broadcastAt W t i)) (at m (shareAt w i))
 
 -- the memory with f 0 .. f (k - 1) at pos 0 .. pos (k - 1)
 unfoldable pub fill : (ℕ → ℕ) → (ℕ → ℕ) → ℕ → List ℕ → List ℕ
@@ -102,19 +102,19 @@ unfoldable pub invStep : ℕ → ℕ → ℕ → ℕ → List ℕ → List ℕ
 invStep W n a c m = set (fill (shareAt c) (λ i. at m (shareAt a i)) n m) (valueAt W c) (bitXor 1 (at m (valueAt W a)))
 
 unfoldable pub broadcastStep : ℕ → ℕ → ℕ → ℕ → ℕ → ℕ → List ℕ → List ℕ
-broadcastStep W n p a b t m = fill (saidAt W t) (broadcastByte W p a b t m) n m
+broadcastStep W n p a b t m = fill (broadcastAt W t) (broadcastByte W p a b t m) n m
 
 -- "an AND gate's output takes the tapes' next output masks"
 unfoldable pub takeStep : ℕ → ℕ → ℕ → ℕ → List ℕ → List ℕ
 takeStep W n c t m = fill (shareAt c) (λ i. at m (maskAt W t i)) n m
 
 unfoldable pub outputStep : ℕ → ℕ → ℕ → ℕ → ℕ → List ℕ → List ℕ
-outputStep W n p w t m = fill (saidAt W t) (outputByte W p w t m) n m
+outputStep W n p w t m = fill (broadcastAt W t) (outputByte W p w t m) n m
 
 -- the first o output wires of the file s, with A AND gates before them
-unfoldable pub spoken : ℕ → ℕ → ℕ → ℕ → List ℕ → ℕ → List ℕ → List ℕ
-spoken W n p A s zero m = m
-spoken W n p A s (suc o) m = outputStep W n p (outputWire s o) (A + o) (spoken W n p A s o m)
+unfoldable pub outputsBroadcast : ℕ → ℕ → ℕ → ℕ → List ℕ → ℕ → List ℕ → List ℕ
+outputsBroadcast W n p A s zero m = m
+outputsBroadcast W n p A s (suc o) m = outputStep W n p (outputWire s o) (A + o) (outputsBroadcast W n p A s o m)
 
 -- z XOR f 0 XOR .. XOR f (k - 1)
 unfoldable pub xorBytes : (ℕ → ℕ) → ℕ → ℕ → ℕ
@@ -131,7 +131,7 @@ unmasked W n p w t m = xorBytes (outputByte W p w t m) (at m (valueAt W w)) n
 
 -- the values of those wires, at every 16th byte of y
 unfoldable pub outputValues : ℕ → ℕ → ℕ → ℕ → List ℕ → ℕ → List ℕ → List ℕ → List ℕ
-outputValues W n p A s o m y = fill (λ j. 16 * j) (λ j. unmasked W n p (outputWire s j) (A + j) (spoken W n p A s j m)) o y
+outputValues W n p A s o m y = fill (λ j. 16 * j) (λ j. unmasked W n p (outputWire s j) (A + j) (outputsBroadcast W n p A s j m)) o y
 
 -- count bits of s, from bit `from` on, at every 16th byte from `to` on
 unfoldable pub unpacked : List ℕ → ℕ → ℕ → ℕ → List ℕ → List ℕ
@@ -148,7 +148,7 @@ packed m from shown len = tabulate len (packedByte m from shown)
 -- party i's tape row: I input masks, A output masks of AND gates, A product shares
 unfoldable pub loadedRow : ℕ → ℕ → ℕ → ℕ → List ℕ → List ℕ → List ℕ
 loadedRow W I A i row m =
-    unpacked row (I + A) A (saidAt W 0 i) (unpacked row I A (maskAt W 0 i) (unpacked row 0 I (shareAt 0 i) m))
+    unpacked row (I + A) A (broadcastAt W 0 i) (unpacked row I A (maskAt W 0 i) (unpacked row 0 I (shareAt 0 i) m))
 
 -- the rows of the first n parties, of len bytes each
 unfoldable pub loadedTapes : ℕ → ℕ → ℕ → ℕ → List ℕ → ℕ → List ℕ → List ℕ
@@ -161,12 +161,12 @@ maskByte n m w = xorBytes (λ i. at m (shareAt w i)) 0 n
 
 -- "the correction bit: the product of the two input masks XOR the other parties' product shares"
 unfoldable pub correctionByte : ℕ → ℕ → ℕ → ℕ → ℕ → List ℕ → ℕ
-correctionByte W n a b t m = xorBytes (λ i. at m (saidAt W t i)) (bitAnd (maskByte n m a) (maskByte n m b)) (n - 1)
+correctionByte W n a b t m = xorBytes (λ i. at m (broadcastAt W t i)) (bitAnd (maskByte n m a) (maskByte n m b)) (n - 1)
 
 -- the correction is kept, and is "Party n − 1's product share"
 unfoldable pub correctStep : ℕ → ℕ → ℕ → ℕ → ℕ → List ℕ → List ℕ
 correctStep W n a b t m =
-    set (set m (correctionAt W t) (correctionByte W n a b t m)) (saidAt W t (n - 1)) (correctionByte W n a b t m)
+    set (set m (correctionAt W t) (correctionByte W n a b t m)) (broadcastAt W t (n - 1)) (correctionByte W n a b t m)
 
 -- AND gate t, with its correction made or as it stands
 unfoldable pub andStep : ℕ → ℕ → ℕ → Bool → ℕ → ℕ → ℕ → ℕ → List ℕ → List ℕ
@@ -193,4 +193,4 @@ maskedInputs W n I w m = fill (valueAt W) (λ k. bitXor (bitVal (bitAt w k)) (ma
 
 -- the broadcast rows of n parties, `shown` bits in len bytes each
 unfoldable pub packedRows : ℕ → List ℕ → ℕ → ℕ → ℕ → List ℕ
-packedRows W m n shown len = flatten (tabulate n (λ i. packed m (saidAt W 0 i) shown len))
+packedRows W m n shown len = flatten (tabulate n (λ i. packed m (broadcastAt W 0 i) shown len))

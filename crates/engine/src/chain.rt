@@ -3,7 +3,7 @@ ghost use mathlib.Core.Path.{_≡_};
 ghost use Prim.Native.Nat.{_≤_};
 ghost use Rattle.circuit.specs.Circuit.{ands};
 ghost use Rattle.circuit.specs.Steps.{Chained, gatesFrom, andOne};
-ghost use Rattle.engine.specs.Steps.{walked, spoken, outputValues, wireCount, Ready, Ended};
+ghost use Rattle.engine.specs.Steps.{walked, outputsBroadcast, outputValues, wireCount, Ready, Ended};
 use crate::gates::gate;
 use crate::gates::output;
 use circuit::Gate;
@@ -70,9 +70,9 @@ pub fn walk(
 }
 
 // Broadcasts the output masks, after the broadcasts of the AND gates, and gives the outputs' values at every 16th byte.
-pub fn speak(s: &[u8], z: Sizes, n: usize, p: usize, memory: &mut [u8], values: &mut [u8])
+pub fn broadcast_outputs(s: &[u8], z: Sizes, n: usize, p: usize, memory: &mut [u8], values: &mut [u8])
     requires { ⌜ Ended (now s) z n (now memory) (now values) ⌝ }
-    ensures { λ _. ⌜ now (memory .exit) ≡ spoken (wireCount z) n p (z .ands) (now (s .entry)) (z .outputs) (now (memory .entry)) ⌝ }
+    ensures { λ _. ⌜ now (memory .exit) ≡ outputsBroadcast (wireCount z) n p (z .ands) (now (s .entry)) (z .outputs) (now (memory .entry)) ⌝ }
     ensures { λ _. ⌜ now (values .exit) ≡ outputValues (wireCount z) n p (z .ands) (now (s .entry)) (z .outputs) (now (memory .entry)) (now (values .entry)) ⌝ }
 {
     let outputs = z.outputs;

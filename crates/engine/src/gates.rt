@@ -147,7 +147,7 @@ fn taken(memory: &[u8], wires: usize, w: usize) -> u8
 }
 
 // The broadcasts of 8 parties: x and y the masked values, s the product shares, the other shares from places a, b and m on.
-fn said8(memory: &[u8], x: u8, y: u8, s: u64, a: usize, b: usize, m: usize) -> u64
+fn terms8(memory: &[u8], x: u8, y: u8, s: u64, a: usize, b: usize, m: usize) -> u64
     requires { ⌜ (a + 8 ≤ length (now memory)) × ((b + 8 ≤ length (now memory)) × (m + 8 ≤ length (now memory))) ⌝ }
     ensures { λ r. ⌜ r ≡ bitXor (bitXor (bitXor (bitAnd (x * 72340172838076673) (leAt 8 (now (memory .entry)) b)) (bitAnd (y * 72340172838076673) (leAt 8 (now (memory .entry)) a))) s) (leAt 8 (now (memory .entry)) m) ⌝ }
 {
@@ -174,7 +174,7 @@ fn broadcast8(
     let x = taken(memory, wires, a);
     let y = taken(memory, wires, b);
     let m = 32 * wires + 16 * t;
-    let new = unless_hidden8(0, p, last, said8(memory, x, y, last, 16 * a, 16 * b, m));
+    let new = unless_hidden8(0, p, last, terms8(memory, x, y, last, 16 * a, 16 * b, m));
     bits::write_u64(memory, 48 * wires + 16 * t, new);
     xy ^ fold(new)
 }
@@ -198,8 +198,8 @@ fn broadcast16(
     let s = 48 * wires + 16 * t;
     let m = 32 * wires + 16 * t;
     let first = bits::read_u64(memory, s);
-    let lo = unless_hidden8(0, p, first, said8(memory, x, y, first, 16 * a, 16 * b, m));
-    let new = said8(memory, x, y, last, 16 * a + 8, 16 * b + 8, m + 8);
+    let lo = unless_hidden8(0, p, first, terms8(memory, x, y, first, 16 * a, 16 * b, m));
+    let new = terms8(memory, x, y, last, 16 * a + 8, 16 * b + 8, m + 8);
     let hi = unless_hidden8(8, p, last, new);
     put(memory, s, lo, hi);
     xy ^ fold(lo ^ hi)

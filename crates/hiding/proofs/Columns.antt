@@ -9,7 +9,7 @@ use borrow.Author.Tests.{eq-eqb, ne-eqb}
 use Rattle.bits.specs.Xor.{_⊕_, xors}
 use Rattle.bits.proofs.Numbers.{eq-or-ne}
 use Rattle.bits.proofs.Xor.{ring, xor-false, xors-zero, xors-suc, xors-change, xors-without-cong, share-from-others}
-use Rattle.mpc.specs.Run.{Column, plus, says}
+use Rattle.mpc.specs.Run.{Column, plus, broadcast}
 
 -- the column that is d at party p
 abbrev pub at : ℕ → Bool → Column
@@ -19,12 +19,12 @@ at p d i = eqb i p && d
 pub xors-at : (n p : ℕ) (x : Column) (d : Bool) → p < n → xors n (plus x (at p d)) ≡ xors n x ⊕ d
 xors-at n p x d h = xors-change n x (plus x (at p d)) p d h (rw (eq-eqb p p refl)) (λ j l m. rw (ne-eqb j p m) (xor-false (x j)))
 
--- the sum of what the parties say
-pub xors-says : (n : ℕ) (ma mb : Bool) (sa sb z o : Column)
-    → xors n (says ma mb sa sb z o) ≡ (ma && xors n sb) ⊕ (mb && xors n sa) ⊕ xors n z ⊕ xors n o
-unfolding says
-xors-says zero ma mb sa sb z o = simp (xors-zero, ring)
-xors-says (suc n) ma mb sa sb z o = simp xors-suc (rw (xors-says n ma mb sa sb z o) (simp ring))
+-- the sum of the parties' broadcasts
+pub xors-broadcast : (n : ℕ) (ma mb : Bool) (sa sb z o : Column)
+    → xors n (broadcast ma mb sa sb z o) ≡ (ma && xors n sb) ⊕ (mb && xors n sa) ⊕ xors n z ⊕ xors n o
+unfolding broadcast
+xors-broadcast zero ma mb sa sb z o = simp (xors-zero, ring)
+xors-broadcast (suc n) ma mb sa sb z o = simp xors-suc (rw (xors-broadcast n ma mb sa sb z o) (simp ring))
 
 -- columns that agree but at party p
 abbrev pub Others : ℕ → Column → Column → Type 0

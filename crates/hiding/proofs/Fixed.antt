@@ -11,7 +11,7 @@ use native.Mathlib.Omega.{arith}
 use Rattle.bits.specs.Xor.{_⊕_, xors}
 use Rattle.bits.proofs.Xor.{xor-self-left}
 use Rattle.circuit.specs.Circuit.{Gate, xor, and, inv, put, ands}
-use Rattle.mpc.specs.Run.{Column, next, corrections, corrected, says, asSaid, run}
+use Rattle.mpc.specs.Run.{Column, next, corrections, corrected, broadcast, asSent, run}
 use Rattle.mpc.specs.Showing.{rowBits}
 use Rattle.hiding.proofs.Columns.{Others, all-agree, sum-agrees}
 use Rattle.hiding.proofs.Masked.{bit}
@@ -20,10 +20,10 @@ use Rattle.hiding.proofs.Masked.{bit}
 pub cancel : (a b c : Bool) → a ⊕ b ≡ a ⊕ c → b ≡ c
 cancel a b c e = sym (xor-self-left a b) ∙ ap (λ (x : Bool). a ⊕ x) e ∙ xor-self-left a c
 
--- what party p says fixes its output mask
-said-fixes : (p : ℕ) (ma mb : Bool) (sa sb z o o′ : Column) → says ma mb sa sb z o p ≡ says ma mb sa sb z o′ p → o p ≡ o′ p
-unfolding says
-said-fixes p ma mb sa sb z o o′ e = cancel ((ma && sb p) ⊕ (mb && sa p) ⊕ z p) (o p) (o′ p) e
+-- party p's broadcast fixes its output mask
+sent-fixes : (p : ℕ) (ma mb : Bool) (sa sb z o o′ : Column) → broadcast ma mb sa sb z o p ≡ broadcast ma mb sa sb z o′ p → o p ≡ o′ p
+unfolding broadcast
+sent-fixes p ma mb sa sb z o o′ e = cancel ((ma && sb p) ⊕ (mb && sa p) ⊕ z p) (o p) (o′ p) e
 
 -- two equal lists
 module _ {x y : Bool} {xs ys : List Bool} (e : x ∷ xs ≡ y ∷ ys) where
@@ -46,8 +46,8 @@ both n p o o′ z z′ e f r (suc k) h = r k (omega arith)
 pub row-fixes : (n p : ℕ) → p < n → (outs : List ℕ) (gs : List Gate) (o o′ z z′ s : ℕ → Column) (m : ℕ → Bool)
     → ((k : ℕ) → Others p (o k) (o′ k)) → ((k : ℕ) → Others p (z k) (z′ k)) → (suc p ≡ n → (k : ℕ) → z k p ≡ z′ k p)
     → (suc p < n → corrections n gs o z s ≡ corrections n gs o′ z′ s)
-    → rowBits (run n outs gs o (corrected n (bit (corrections n gs o z s)) z) asSaid s m) p
-    ≡ rowBits (run n outs gs o′ (corrected n (bit (corrections n gs o′ z′ s)) z′) asSaid s m) p
+    → rowBits (run n outs gs o (corrected n (bit (corrections n gs o z s)) z) asSent s m) p
+    ≡ rowBits (run n outs gs o′ (corrected n (bit (corrections n gs o′ z′ s)) z′) asSent s m) p
     → (k : ℕ) → k < ands gs → (o k p ≡ o′ k p) × (z k p ≡ z′ k p)
 unfolding run corrections corrected rowBits ands
 row-fixes n p l outs [] o o′ z z′ s m ho hz hl ec er = λ k h. absurd (omega arith)
@@ -59,17 +59,17 @@ row-fixes n p l outs (and a b c ∷ gs) o o′ z z′ s m ho hz hl ec er =
     (eq-or-lt-of-le l) in
     let z0 : z 0 ≡ z′ 0 = all-agree p (z 0) (z′ 0) (hz 0) zp in
     let op : o 0 p ≡ o′ 0 p =
-    said-fixes p (m a) (m b) (s a) (s b) (first (z′ 0)) (o 0) (o′ 0)
-    (ap (λ (y : Column). said y (o 0) p) (sym z0) ∙ head-eq er) in
+    sent-fixes p (m a) (m b) (s a) (s b) (first (z′ 0)) (o 0) (o′ 0)
+    (ap (λ (y : Column). broadcasts y (o 0) p) (sym z0) ∙ head-eq er) in
     let o0 : o 0 ≡ o′ 0 = all-agree p (o 0) (o′ 0) (ho 0) op in
     both (ands gs) p o o′ z z′ op zp
-    (row-fixes n p l outs gs (next o) (next o′) (next z) (next z′) (put s c (o 0)) (put m c ((m a && m b) ⊕ xors n (said (z 0) (o 0))))
+    (row-fixes n p l outs gs (next o) (next o′) (next z) (next z′) (put s c (o 0)) (put m c ((m a && m b) ⊕ xors n (broadcasts (z 0) (o 0))))
     (λ k. ho (suc k)) (λ k. hz (suc k)) (λ e k. hl e (suc k)) (λ h. rw (← o0) at (tail-eq (ec h)))
-    (rw (← (ap₂ said z0 o0), ← o0) at (tail-eq er)))
+    (rw (← (ap₂ broadcasts z0 o0), ← o0) at (tail-eq er)))
   where
     first : Column → Column
     first y i = cond (eqb (suc i) n) ((xors n (s a) && xors n (s b)) ⊕ xors (n - 1) y) (y i)
 
-    said : Column → Column → Column
-    said y w = says (m a) (m b) (s a) (s b) (first y) w
+    broadcasts : Column → Column → Column
+    broadcasts y w = broadcast (m a) (m b) (s a) (s b) (first y) w
 row-fixes n p l outs (inv a c ∷ gs) o o′ z z′ s m ho hz hl ec er = row-fixes n p l outs gs o o′ z z′ _ _ ho hz hl ec er

@@ -13,7 +13,7 @@ use borrow.Author.Tests.{eq-eqb, ne-eqb, eqb-true, eqb-false}
 use Rattle.bits.specs.Xor.{_⊕_, xors}
 use Rattle.bits.proofs.Xor.{ring}
 use Rattle.circuit.specs.Circuit.{Gate, xor, and, inv, put, ands, evalGates}
-use Rattle.mpc.specs.Run.{Column, next, plus, corrections, corrected, says, asSaid, outputs, run}
+use Rattle.mpc.specs.Run.{Column, next, plus, corrections, corrected, broadcast, asSent, outputs, run}
 use Rattle.mpc.specs.Showing.{rowBits}
 use Rattle.hiding.proofs.Columns.{at, xors-at}
 use Rattle.hiding.proofs.Masked.{bit, Masked, masked-xor, masked-and, masked-inv}
@@ -142,7 +142,7 @@ corrected-last n p h cs ds z d f = fun-ext (λ k. fun-ext (λ i. go k i (eqb (su
 
 -- party p's shares of wires with equal values
 outputs-stay : (n p : ℕ) (s : ℕ → Column) (v u m : ℕ → Bool) (ws : List ℕ) → map v ws ≡ map u ws
-    → rowBits (outputs n ws asSaid (shift p s v u) m) p ≡ rowBits (outputs n ws asSaid s m) p
+    → rowBits (outputs n ws asSent (shift p s v u) m) p ≡ rowBits (outputs n ws asSent s m) p
 unfolding outputs rowBits
 outputs-stay n p s v u m [] e = refl
 outputs-stay n p s v u m (w ∷ ws) e =
@@ -150,20 +150,20 @@ outputs-stay n p s v u m (w ∷ ws) e =
     let e1 : map v ws ≡ map u ws = cc in
     ap₂ _∷_ (rw e0 (simp ring)) (outputs-stay n p s v u m ws e1)
 
--- what the parties say at an AND gate of values va and vb, or ua and ub, and masks x and y
-said-stays : (p : ℕ) (sa sb z o : Column) (va vb ua ub x y : Bool)
-    → says (va ⊕ x) (vb ⊕ y) (plus sa (at p (va ⊕ ua))) (plus sb (at p (vb ⊕ ub)))
+-- the parties' broadcasts at an AND gate of values va and vb, or ua and ub, and masks x and y
+sent-stays : (p : ℕ) (sa sb z o : Column) (va vb ua ub x y : Bool)
+    → broadcast (va ⊕ x) (vb ⊕ y) (plus sa (at p (va ⊕ ua))) (plus sb (at p (vb ⊕ ub)))
     (plus z (at p (productFlip x y (va ⊕ ua) (vb ⊕ ub)))) (plus o (at p ((va && vb) ⊕ (ua && ub))))
-    ≡ says (va ⊕ x) (vb ⊕ y) sa sb z o
-unfolding says
-said-stays p sa sb z o va vb ua ub x y = fun-ext (λ i. simp ring)
+    ≡ broadcast (va ⊕ x) (vb ⊕ y) sa sb z o
+unfolding broadcast
+sent-stays p sa sb z o va vb ua ub x y = fun-ext (λ i. simp ring)
 
 -- with all changes, party p's row stays
 pub row-stays : (n p : ℕ) (h : 1 ≤ n) (outs : List ℕ) (gs : List Gate) (rest : List Bool) (o z s : ℕ → Column) (v u m : ℕ → Bool)
     → Masked n s v m → map (evalGates gs v) outs ≡ map (evalGates gs u) outs
     → rowBits (run n outs gs (turn p o (bit (maskFlips gs v u ++ rest)))
-    (turn p (corrected n (bit (corrections n gs o z s)) z) (bit (productFlips n gs o s v u))) asSaid (shift p s v u) m) p
-    ≡ rowBits (run n outs gs o (corrected n (bit (corrections n gs o z s)) z) asSaid s m) p
+    (turn p (corrected n (bit (corrections n gs o z s)) z) (bit (productFlips n gs o s v u))) asSent (shift p s v u) m) p
+    ≡ rowBits (run n outs gs o (corrected n (bit (corrections n gs o z s)) z) asSent s m) p
 unfolding run corrections corrected evalGates maskFlips productFlips rowBits
 row-stays n p h outs [] rest o z s v u m g e = outputs-stay n p s v u m outs e
 row-stays n p h outs (xor a b c ∷ gs) rest o z s v u m g e =
@@ -172,9 +172,9 @@ row-stays n p h outs (and a b c ∷ gs) rest o z s v u m g e =
     let cs : ℕ → Bool = bit (corrections n (and a b c ∷ gs) o z s) in
     let x : Bool = xors n (s a) in
     let y : Bool = xors n (s b) in
-    let same : says (m a) (m b) (shift p s v u a) (shift p s v u b) (plus (corrected n cs z 0) (at p (productFlip x y (v a ⊕ u a) (v b ⊕ u b))))
-    (plus (o 0) (at p ((v a && v b) ⊕ (u a && u b)))) ≡ says (m a) (m b) (s a) (s b) (corrected n cs z 0) (o 0) =
-    rw (g a, g b) (said-stays p (s a) (s b) (corrected n cs z 0) (o 0) (v a) (v b) (u a) (u b) x y) in
+    let same : broadcast (m a) (m b) (shift p s v u a) (shift p s v u b) (plus (corrected n cs z 0) (at p (productFlip x y (v a ⊕ u a) (v b ⊕ u b))))
+    (plus (o 0) (at p ((v a && v b) ⊕ (u a && u b)))) ≡ broadcast (m a) (m b) (s a) (s b) (corrected n cs z 0) (o 0) =
+    rw (g a, g b) (sent-stays p (s a) (s b) (corrected n cs z 0) (o 0) (v a) (v b) (u a) (u b) x y) in
     rw (put-shift p s v u c (o 0) (v a && v b) (u a && u b), same)
     (ap₂ _∷_ refl
     (row-stays n p h outs gs rest (next o) (next z) _ _ _ _ (masked-and n s v m g a b c h cs z (o 0) refl) e))
@@ -210,6 +210,6 @@ module _ (n p : ℕ) (l : p < n) (gs : List Gate) (rest : List Bool) (o z s o′
 
   -- and the row stays
   pub row-kept : (outs : List ℕ) (m : ℕ → Bool) → Masked n s v m → map (evalGates gs v) outs ≡ map (evalGates gs u) outs
-      → rowBits (run n outs gs o′ (corrected n (bit (corrections n gs o′ z′ s′)) z′) asSaid s′ m) p
-      ≡ rowBits (run n outs gs o (corrected n (bit (corrections n gs o z s)) z) asSaid s m) p
-  row-kept outs m g e = (λ j. rowBits (run n outs gs (eo j) (products-kept j) asSaid (es j) m) p) ∙ row-stays n p (omega arith) outs gs rest o z s v u m g e
+      → rowBits (run n outs gs o′ (corrected n (bit (corrections n gs o′ z′ s′)) z′) asSent s′ m) p
+      ≡ rowBits (run n outs gs o (corrected n (bit (corrections n gs o z s)) z) asSent s m) p
+  row-kept outs m g e = (λ j. rowBits (run n outs gs (eo j) (products-kept j) asSent (es j) m) p) ∙ row-stays n p (omega arith) outs gs rest o z s v u m g e

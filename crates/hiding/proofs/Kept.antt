@@ -13,7 +13,7 @@ use Rattle.bits.proofs.Packing.{length-pack, pack-unpack}
 use Rattle.bits.proofs.Rows.{row-tabulate}
 use Rattle.circuit.specs.Circuit.{Gate, xor, and, inv, Circuit, put, ands}
 use Rattle.circuit.proofs.Chain.{put-same}
-use Rattle.mpc.specs.Run.{Column, next, says, asLent, outputs, run}
+use Rattle.mpc.specs.Run.{Column, next, broadcast, asShown, outputs, run}
 use Rattle.mpc.specs.Tapes.{andsOf}
 use Rattle.mpc.specs.Showing.{runWith, rowBits, rowsOf, Showing, replayOf}
 use Rattle.hiding.specs.Hiding.{Bytes}
@@ -21,23 +21,23 @@ use Rattle.mpc.proofs.Lengths.{length-row}
 
 -- p's bits of the outputs are those of its row
 outputs-lent : (n p : ℕ) (ws : List ℕ) (row : ℕ → Bool) (s : ℕ → Column) (m : ℕ → Bool)
-    → rowBits (outputs n ws (asLent p row) s m) p ≡ tabulate (length ws) row
+    → rowBits (outputs n ws (asShown p row) s m) p ≡ tabulate (length ws) row
 unfolding outputs rowBits
 outputs-lent n p [] row s m = refl
 outputs-lent n p (w ∷ ws) row s m = λ j. put-same (s w) p (row 0) j ∷ outputs-lent n p ws (next row) s m j
 
 -- p's bits of a run are those of its row
 row-lent : (n p : ℕ) (outs : List ℕ) (gs : List Gate) (o z : ℕ → Column) (row : ℕ → Bool) (s : ℕ → Column) (m : ℕ → Bool)
-    → rowBits (run n outs gs o z (asLent p row) s m) p ≡ tabulate (ands gs + length outs) row
+    → rowBits (run n outs gs o z (asShown p row) s m) p ≡ tabulate (ands gs + length outs) row
 unfolding run rowBits ands
 row-lent n p outs [] o z row s m = outputs-lent n p outs row s m ∙ ap (λ (k : ℕ). tabulate k row) (sym (zero-add (length outs)))
 row-lent n p outs (xor a b c ∷ gs) o z row s m = row-lent n p outs gs o z row _ _
 row-lent n p outs (and a b c ∷ gs) o z row s m =
-    let x : Column = put (says (m a) (m b) (s a) (s b) (z 0) (o 0)) p (row 0) in
-    let r : rowBits (run n outs gs (next o) (next z) (asLent p (next row)) (put s c (o 0)) (put m c ((m a && m b) ⊕ xors n x))) p
+    let x : Column = put (broadcast (m a) (m b) (s a) (s b) (z 0) (o 0)) p (row 0) in
+    let r : rowBits (run n outs gs (next o) (next z) (asShown p (next row)) (put s c (o 0)) (put m c ((m a && m b) ⊕ xors n x))) p
     ≡ tabulate (ands gs + length outs) (next row) =
     row-lent n p outs gs (next o) (next z) (next row) (put s c (o 0)) (put m c ((m a && m b) ⊕ xors n x)) in
-    (λ j. put-same (says (m a) (m b) (s a) (s b) (z 0) (o 0)) p (row 0) j ∷ r j) ∙ ap (λ (k : ℕ). tabulate k row) (sym (suc-add (ands gs) (length outs)))
+    (λ j. put-same (broadcast (m a) (m b) (s a) (s b) (z 0) (o 0)) p (row 0) j ∷ r j) ∙ ap (λ (k : ℕ). tabulate k row) (sym (suc-add (ands gs) (length outs)))
 row-lent n p outs (inv a c ∷ gs) o z row s m = row-lent n p outs gs o z row _ _
 
 -- p of n parties hidden in a showing

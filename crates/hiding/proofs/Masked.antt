@@ -11,9 +11,9 @@ use borrow.Author.Tests.{eq-eqb, ne-eqb}
 use Rattle.bits.specs.Xor.{_⊕_, xors}
 use Rattle.bits.proofs.Xor.{ring, xors-suc, xors-xor, xors-cong}
 use Rattle.circuit.specs.Circuit.{Gate, xor, and, inv, put, evalGates}
-use Rattle.mpc.specs.Run.{Column, next, plus, corrections, corrected, says, asSaid, outputs, run}
+use Rattle.mpc.specs.Run.{Column, next, plus, corrections, corrected, broadcast, asSent, outputs, run}
 use Rattle.hiding.specs.Laws.{after}
-use Rattle.hiding.proofs.Columns.{xors-says}
+use Rattle.hiding.proofs.Columns.{xors-broadcast}
 
 -- bit k of a list, false beyond its end
 abbrev pub bit : List Bool → ℕ → Bool
@@ -60,20 +60,20 @@ module _ (n : ℕ) (s : ℕ → Column) (v m : ℕ → Bool) (g : Masked n s v m
 
   -- after an AND gate, with product shares z and the right correction
   pub masked-and : 1 ≤ n → (cs : ℕ → Bool) (z : ℕ → Column) (o : Column) → cs 0 ≡ (xors n (s a) && xors n (s b)) ⊕ xors (n - 1) (z 0)
-      → Masked n (put s c o) (put v c (v a && v b)) (put m c ((m a && m b) ⊕ xors n (says (m a) (m b) (s a) (s b) (corrected n cs z 0) o)))
+      → Masked n (put s c o) (put v c (v a && v b)) (put m c ((m a && m b) ⊕ xors n (broadcast (m a) (m b) (s a) (s b) (corrected n cs z 0) o)))
   masked-and h cs z o e =
       masked-put n s v m c _ _ _ g
-      (rw (xors-says n (m a) (m b) (s a) (s b) (corrected n cs z 0) o, corrected-sum n h (xors n (s a)) (xors n (s b)) cs z e, g a, g b) (simp ring))
+      (rw (xors-broadcast n (m a) (m b) (s a) (s b) (corrected n cs z 0) o, corrected-sum n h (xors n (s a)) (xors n (s b)) cs z e, g a, g b) (simp ring))
 
 -- the outputs are the values
-outputs-evaluate : (n : ℕ) (ws : List ℕ) (s : ℕ → Column) (v m : ℕ → Bool) → Masked n s v m → outputs n ws asSaid s m .output ≡ map v ws
+outputs-evaluate : (n : ℕ) (ws : List ℕ) (s : ℕ → Column) (v m : ℕ → Bool) → Masked n s v m → outputs n ws asSent s m .output ≡ map v ws
 unfolding outputs
 outputs-evaluate n [] s v m g = refl
 outputs-evaluate n (w ∷ ws) s v m g = ap₂ _∷_ (rw (g w) (simp ring)) (outputs-evaluate n ws s v m g)
 
 -- with right corrections the run gives the circuit's output
 pub run-output : (n : ℕ) → 1 ≤ n → (outs : List ℕ) (gs : List Gate) (o z s : ℕ → Column) (v m : ℕ → Bool) → Masked n s v m
-    → run n outs gs o (corrected n (bit (corrections n gs o z s)) z) asSaid s m .output ≡ map (evalGates gs v) outs
+    → run n outs gs o (corrected n (bit (corrections n gs o z s)) z) asSent s m .output ≡ map (evalGates gs v) outs
 unfolding run corrections corrected evalGates
 run-output n h outs [] o z s v m g = outputs-evaluate n outs s v m g
 run-output n h outs (xor a b c ∷ gs) o z s v m g = run-output n h outs gs o z _ _ _ (masked-xor n s v m g a b c)

@@ -16,7 +16,7 @@ use Rattle.bits.proofs.Packing.{bitAt-pack}
 use Rattle.bits.proofs.Tabulate.{getD-tabulate, getD-tabulate-end}
 use Rattle.bits.proofs.Xor.{xors-false}
 use Rattle.circuit.specs.Circuit.{Gate, xor, and, inv, Circuit, put}
-use Rattle.mpc.specs.Run.{Column, next, plus, corrected, says, asSaid, asLent, Transcript, outputs, run}
+use Rattle.mpc.specs.Run.{Column, next, plus, corrected, broadcast, asSent, asShown, Transcript, outputs, run}
 use Rattle.mpc.specs.Tapes.{andsOf, rowBytes, tapeRow, inputMasks, outputMasks, productShares}
 use Rattle.mpc.specs.Showing.{correctionBits, maskedInput, maskedInputs, runWith, runOn, honestRun, rowBits, rowsOf, hidden, Showing, showing, replayOf}
 use Rattle.hiding.specs.Hiding.{Tapes, Witness}
@@ -27,10 +27,10 @@ use Rattle.hiding.proofs.Rows.{inputs-end, row-other, row-again}
 use Rattle.hiding.proofs.Shown.{row-all}
 use Rattle.hiding.proofs.Partner.{witness-end}
 
--- a column heard of all but p, and of p as lent
-heard : (p : ℕ) (x y : Column) (b : Bool) → Others p x y → b ≡ y p → put x p b ≡ y
+-- a column of all but p as sent, and of p as shown
+delivered : (p : ℕ) (x y : Column) (b : Bool) → Others p x y → b ≡ y p → put x p b ≡ y
 unfolding put
-heard p x y b h e = all-agree p (put x p b) y (λ i m. rw (ne-eqb i p m) (h i m)) (rw (eq-eqb p p refl) e)
+delivered p x y b h e = all-agree p (put x p b) y (λ i m. rw (ne-eqb i p m) (h i m)) (rw (eq-eqb p p refl) e)
 
 -- one wire written
 others-put : (p : ℕ) (s t : ℕ → Column) (c : ℕ) (x y : Column) → ((k : ℕ) → Others p (s k) (t k)) → Others p x y
@@ -42,46 +42,46 @@ others-put p s t c x y h e k i m = go (eqb k c)
     go true = e i m
     go false = h k i m
 
--- what the others say of the same
-others-say : (p : ℕ) (ma mb : Bool) (sa sb z o sa′ sb′ z′ o′ : Column) → Others p sa sa′ → Others p sb sb′ → Others p z z′ → Others p o o′
-    → Others p (says ma mb sa sb z o) (says ma mb sa′ sb′ z′ o′)
-unfolding says
-others-say p ma mb sa sb z o sa′ sb′ z′ o′ ha hb hz ho i q = rw (ha i q, hb i q, hz i q, ho i q)
+-- the others' broadcasts of the same
+others-broadcast : (p : ℕ) (ma mb : Bool) (sa sb z o sa′ sb′ z′ o′ : Column) → Others p sa sa′ → Others p sb sb′ → Others p z z′ → Others p o o′
+    → Others p (broadcast ma mb sa sb z o) (broadcast ma mb sa′ sb′ z′ o′)
+unfolding broadcast
+others-broadcast p ma mb sa sb z o sa′ sb′ z′ o′ ha hb hz ho i q = rw (ha i q, hb i q, hz i q, ho i q)
 
--- the outputs heard
-outputs-heard : (n p : ℕ) (ws : List ℕ) (s t : ℕ → Column) (m row : ℕ → Bool) → ((k : ℕ) → Others p (s k) (t k))
-    → ((k : ℕ) → row k ≡ bit (rowBits (outputs n ws asSaid t m) p) k) → outputs n ws (asLent p row) s m ≡ outputs n ws asSaid t m
+-- the outputs' broadcasts as delivered
+outputs-delivered : (n p : ℕ) (ws : List ℕ) (s t : ℕ → Column) (m row : ℕ → Bool) → ((k : ℕ) → Others p (s k) (t k))
+    → ((k : ℕ) → row k ≡ bit (rowBits (outputs n ws asSent t m) p) k) → outputs n ws (asShown p row) s m ≡ outputs n ws asSent t m
 unfolding outputs rowBits
-outputs-heard n p [] s t m row h e = refl
-outputs-heard n p (w ∷ ws) s t m row h e =
-    let x : put (s w) p (row 0) ≡ t w = heard p (s w) (t w) (row 0) (h w) (e 0) in
-    let r : outputs n ws (asLent p (next row)) s m ≡ outputs n ws asSaid t m = outputs-heard n p ws s t m (next row) h (λ k. e (suc k)) in
-    λ j. record { said = x j ∷ r j .said; output = (m w ⊕ xors n (x j)) ∷ r j .output }
+outputs-delivered n p [] s t m row h e = refl
+outputs-delivered n p (w ∷ ws) s t m row h e =
+    let x : put (s w) p (row 0) ≡ t w = delivered p (s w) (t w) (row 0) (h w) (e 0) in
+    let r : outputs n ws (asShown p (next row)) s m ≡ outputs n ws asSent t m = outputs-delivered n p ws s t m (next row) h (λ k. e (suc k)) in
+    λ j. record { broadcasts = x j ∷ r j .broadcasts; output = (m w ⊕ xors n (x j)) ∷ r j .output }
 
--- where the others hold the same, and of p is heard its row, all is said as in the run
-run-heard : (n p : ℕ) (outs : List ℕ) (gs : List Gate) (o o′ z z′ s s′ : ℕ → Column) (m row : ℕ → Bool)
+-- where the others hold the same, and of p its row is delivered, all is broadcast as in the run
+run-delivered : (n p : ℕ) (outs : List ℕ) (gs : List Gate) (o o′ z z′ s s′ : ℕ → Column) (m row : ℕ → Bool)
     → ((k : ℕ) → Others p (o k) (o′ k)) → ((k : ℕ) → Others p (z k) (z′ k)) → ((k : ℕ) → Others p (s k) (s′ k))
-    → ((k : ℕ) → row k ≡ bit (rowBits (run n outs gs o′ z′ asSaid s′ m) p) k)
-    → run n outs gs o z (asLent p row) s m ≡ run n outs gs o′ z′ asSaid s′ m
+    → ((k : ℕ) → row k ≡ bit (rowBits (run n outs gs o′ z′ asSent s′ m) p) k)
+    → run n outs gs o z (asShown p row) s m ≡ run n outs gs o′ z′ asSent s′ m
 unfolding run rowBits
-run-heard n p outs [] o o′ z z′ s s′ m row ho hz hs e = outputs-heard n p outs s s′ m row hs e
-run-heard n p outs (xor a b c ∷ gs) o o′ z z′ s s′ m row ho hz hs e =
-    run-heard n p outs gs o o′ z z′ _ _ _ row ho hz
+run-delivered n p outs [] o o′ z z′ s s′ m row ho hz hs e = outputs-delivered n p outs s s′ m row hs e
+run-delivered n p outs (xor a b c ∷ gs) o o′ z z′ s s′ m row ho hz hs e =
+    run-delivered n p outs gs o o′ z z′ _ _ _ row ho hz
     (others-put p s s′ c (plus (s a) (s b)) (plus (s′ a) (s′ b)) hs (λ i q. rw (hs a i q, hs b i q))) e
-run-heard n p outs (and a b c ∷ gs) o o′ z z′ s s′ m row ho hz hs e =
-    let y : Column = says (m a) (m b) (s′ a) (s′ b) (z′ 0) (o′ 0) in
-    let x : put (says (m a) (m b) (s a) (s b) (z 0) (o 0)) p (row 0) ≡ y =
-    heard p (says (m a) (m b) (s a) (s b) (z 0) (o 0)) y (row 0) (others-say p (m a) (m b) _ _ _ _ _ _ _ _ (hs a) (hs b) (hz 0) (ho 0)) (e 0) in
-    let r : run n outs gs (next o) (next z) (asLent p (next row)) (put s c (o 0)) (put m c ((m a && m b) ⊕ xors n y))
-    ≡ run n outs gs (next o′) (next z′) asSaid (put s′ c (o′ 0)) (put m c ((m a && m b) ⊕ xors n y)) =
-    run-heard n p outs gs (next o) (next o′) (next z) (next z′) (put s c (o 0)) (put s′ c (o′ 0)) (put m c ((m a && m b) ⊕ xors n y)) (next row)
+run-delivered n p outs (and a b c ∷ gs) o o′ z z′ s s′ m row ho hz hs e =
+    let y : Column = broadcast (m a) (m b) (s′ a) (s′ b) (z′ 0) (o′ 0) in
+    let x : put (broadcast (m a) (m b) (s a) (s b) (z 0) (o 0)) p (row 0) ≡ y =
+    delivered p (broadcast (m a) (m b) (s a) (s b) (z 0) (o 0)) y (row 0) (others-broadcast p (m a) (m b) _ _ _ _ _ _ _ _ (hs a) (hs b) (hz 0) (ho 0)) (e 0) in
+    let r : run n outs gs (next o) (next z) (asShown p (next row)) (put s c (o 0)) (put m c ((m a && m b) ⊕ xors n y))
+    ≡ run n outs gs (next o′) (next z′) asSent (put s′ c (o′ 0)) (put m c ((m a && m b) ⊕ xors n y)) =
+    run-delivered n p outs gs (next o) (next o′) (next z) (next z′) (put s c (o 0)) (put s′ c (o′ 0)) (put m c ((m a && m b) ⊕ xors n y)) (next row)
     (λ k. ho (suc k)) (λ k. hz (suc k)) (others-put p s s′ c (o 0) (o′ 0) hs (ho 0)) (λ k. e (suc k)) in
-    (λ j. record { said = x j ∷ rest (x j) .said; output = rest (x j) .output }) ∙ (λ j. record { said = y ∷ r j .said; output = r j .output })
+    (λ j. record { broadcasts = x j ∷ rest (x j) .broadcasts; output = rest (x j) .output }) ∙ (λ j. record { broadcasts = y ∷ r j .broadcasts; output = r j .output })
   where
     rest : Column → Transcript
-    rest x = run n outs gs (next o) (next z) (asLent p (next row)) (put s c (o 0)) (put m c ((m a && m b) ⊕ xors n x))
-run-heard n p outs (inv a c ∷ gs) o o′ z z′ s s′ m row ho hz hs e =
-    run-heard n p outs gs o o′ z z′ _ _ _ row ho hz (others-put p s s′ c (s a) (s′ a) hs (hs a)) e
+    rest x = run n outs gs (next o) (next z) (asShown p (next row)) (put s c (o 0)) (put m c ((m a && m b) ⊕ xors n x))
+run-delivered n p outs (inv a c ∷ gs) o o′ z z′ s s′ m row ho hz hs e =
+    run-delivered n p outs gs o o′ z z′ _ _ _ row ho hz (others-put p s s′ c (s a) (s′ a) hs (hs a)) e
 
 -- the masked inputs shown are the run's
 inputs-read : (c : Circuit) (n : ℕ) (w tapes : List ℕ) → Witness c w → bitAt (maskedInputs c n w tapes) ≡ maskedInput c n w tapes
@@ -124,8 +124,8 @@ module _ (c : Circuit) (n p : ℕ) (l : p < n) (tapes w : List ℕ) (ht : Tapes 
   unfolding replayOf showing honestRun runOn runWith
   replay-same =
       (λ j. runWith c n (hidden c p tapes) (bitAt (showing c n p (length (c .gates)) w tapes .corrections)) (inputs-read c n w tapes hw j)
-      (asLent p (bitAt (showing c n p (length (c .gates)) w tapes .row))))
-      ∙ run-heard n p (c .outputs) (c .gates) (outputMasks c (hidden c p tapes)) (outputMasks c tapes) _ _ (inputMasks c (hidden c p tapes)) (inputMasks c tapes)
+      (asShown p (bitAt (showing c n p (length (c .gates)) w tapes .row))))
+      ∙ run-delivered n p (c .outputs) (c .gates) (outputMasks c (hidden c p tapes)) (outputMasks c tapes) _ _ (inputMasks c (hidden c p tapes)) (inputMasks c tapes)
       (maskedInput c n w tapes) _ masks-shown products-shown inputs-shown
       (λ k. ap (λ (x : List ℕ). bitAt x k) (ap pack (row-all c n p w tapes)) ∙ bitAt-pack (rowBits (honestRun c n w tapes) p) k)
 

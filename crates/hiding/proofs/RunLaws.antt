@@ -7,7 +7,7 @@ use Prim.Native.Nat.{ℕ}
 use lib.ListN.{length, take}
 use Rattle.bits.specs.Bits.{bitAt}
 use Rattle.circuit.specs.Circuit.{Gate, xor, and, inv, evaluate}
-use Rattle.mpc.specs.Run.{Column, next, asSaid, outputs, run}
+use Rattle.mpc.specs.Run.{Column, next, asSent, outputs, run}
 use Rattle.mpc.specs.Tapes.{inputMasks, outputMasks, productShares}
 use Rattle.mpc.specs.Showing.{correctionBits, maskedInput, runWith, runOn, honestRun}
 use Rattle.hiding.specs.Laws.{after, wiresAfter, RunEnds, MaskedValues, RunEvaluates}
@@ -15,8 +15,8 @@ use Rattle.hiding.proofs.Masked.{run-output, after-masked}
 
 -- a run ends with the outputs on the wires after all gates
 run-after : (n : ℕ) (outs : List ℕ) (gs : List Gate) (o z s : ℕ → Column) (m : ℕ → Bool)
-    → run n outs gs o z asSaid s m .output
-    ≡ outputs n outs asSaid (after n (take (length gs) gs) o z s m .share) (after n (take (length gs) gs) o z s m .masked) .output
+    → run n outs gs o z asSent s m .output
+    ≡ outputs n outs asSent (after n (take (length gs) gs) o z s m .share) (after n (take (length gs) gs) o z s m .masked) .output
 unfolding run after
 run-after n outs [] o z s m = refl
 run-after n outs (xor a b c ∷ gs) o z s m = run-after n outs gs o z _ _

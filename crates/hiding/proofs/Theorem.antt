@@ -14,7 +14,7 @@ use Rattle.bits.specs.Xor.{_⊕_, xors}
 use Rattle.bits.proofs.Numbers.{lt-or-le}
 use Rattle.bits.proofs.Xor.{ring}
 use Rattle.circuit.specs.Circuit.{Circuit, evalGates, evaluate}
-use Rattle.mpc.specs.Run.{Column, asSaid}
+use Rattle.mpc.specs.Run.{Column, asSent}
 use Rattle.mpc.specs.Tapes.{andsOf, rowBytes, tapeRow, inputMasks, outputMasks, productShares, withRow}
 use Rattle.mpc.specs.Showing.{correctionBits, maskedInput, maskedInputs, runWith, runOn, honestRun, rowBits, shownBits, firstBits, hidden, showing}
 use Rattle.hiding.specs.Hiding.{Row, Witness, Partner, Hiding}
@@ -110,7 +110,7 @@ module _ (c : Circuit) (n p : ℕ) (l : p < n) (tapes : List ℕ) (size : length
   row-same e =
       sym (row-kept n p l (c .gates) (shareFlips c n p v v′ held) _ _ _ _ _ _ v v′ (shares-last c n p v v′ held)
       (shares-before c n p v v′ held) masks-changed products-changed inputs-changed (c .outputs) (maskedInput c n w held) (λ k. refl) e)
-      ∙ (λ j. rowBits (runWith c n held′ (bit (correctionBits c n held′)) (inputs-same j) asSaid) p)
+      ∙ (λ j. rowBits (runWith c n held′ (bit (correctionBits c n held′)) (inputs-same j) asSent) p)
 
   -- the tapes shown are
   hidden-same : hidden c p held ≡ hidden c p held′

@@ -13,7 +13,7 @@ use Rattle.bits.proofs.Numbers.{lt-or-le}
 use Rattle.bits.proofs.Packing.{ext-bitAt, unused-all}
 use Rattle.bits.proofs.Tabulate.{length-tabulate}
 use Rattle.circuit.specs.Circuit.{Circuit}
-use Rattle.mpc.specs.Run.{Column, corrections, corrected, asSaid, run}
+use Rattle.mpc.specs.Run.{Column, corrections, corrected, asSent, run}
 use Rattle.mpc.specs.Tapes.{andsOf, rowBytes, tapeRow, inputMasks, outputMasks, productShares, usedBits, withRow}
 use Rattle.mpc.specs.Showing.{correctionBits, maskedInput, maskedInputs, runWith, runOn, honestRun, rowBits, Showing, showing}
 use Rattle.hiding.specs.Hiding.{Row}
@@ -110,4 +110,4 @@ module _ (c : Circuit) (n p : ℕ) (l : p < n) (tapes : List ℕ) (size : length
           (maskedInput c n w X) (λ k i m. rw (others i m)) (λ k i m. rw (others i m)) unused
           (λ h. corrections-shown h ∙ ap (corrections n (c .gates) (outputMasks c Y) (productShares c Y)) (sym inputs-fixed))
           (row-shown ∙ ap (λ (s : ℕ → Column). rowBits (run n (c .outputs) (c .gates) (outputMasks c Y)
-          (corrected n (bit (corrections n (c .gates) (outputMasks c Y) (productShares c Y) s)) (productShares c Y)) asSaid s (λ k. bitAt w k ⊕ xors n (s k))) p) (sym inputs-fixed))
+          (corrected n (bit (corrections n (c .gates) (outputMasks c Y) (productShares c Y) s)) (productShares c Y)) asSent s (λ k. bitAt w k ⊕ xors n (s k))) p) (sym inputs-fixed))

@@ -8,7 +8,7 @@ use lib.ListN.{length, getD, take}
 use Rattle.bits.specs.Bits.{bitAt}
 use Rattle.bits.specs.Xor.{_⊕_, xors}
 use Rattle.circuit.specs.Circuit.{Gate, xor, and, inv, Circuit, put, evalGates, evaluate}
-use Rattle.mpc.specs.Run.{Column, next, plus, says, asSaid, outputs, corrected}
+use Rattle.mpc.specs.Run.{Column, next, plus, broadcast, asSent, outputs, corrected}
 use Rattle.mpc.specs.Tapes.{inputMasks, outputMasks, productShares, withRow}
 use Rattle.mpc.specs.Showing.{correctionBits, maskedInput, honestRun, rowsOf, hidden, showing, replayOf}
 use Rattle.hiding.specs.Hiding.{Tapes, Row, Witness}
@@ -18,12 +18,12 @@ pub record Wires : Type 0 where
   pub share : ℕ → Column
   pub masked : ℕ → Bool
 
--- the wires after the gates, where all hear what is said
+-- the wires after the gates, where each broadcast arrives as sent
 unfoldable pub after : ℕ → List Gate → (ℕ → Column) → (ℕ → Column) → (ℕ → Column) → (ℕ → Bool) → Wires
 after n [] o z s m = record { share = s; masked = m }
 after n (xor a b c ∷ gs) o z s m = after n gs o z (put s c (plus (s a) (s b))) (put m c (m a ⊕ m b))
 after n (and a b c ∷ gs) o z s m =
-    after n gs (next o) (next z) (put s c (o 0)) (put m c ((m a && m b) ⊕ xors n (says (m a) (m b) (s a) (s b) (z 0) (o 0))))
+    after n gs (next o) (next z) (put s c (o 0)) (put m c ((m a && m b) ⊕ xors n (broadcast (m a) (m b) (s a) (s b) (z 0) (o 0))))
 after n (inv a c ∷ gs) o z s m = after n gs o z (put s c (s a)) (put m c (not (m a)))
 
 -- the wires of an honest run after its first g gates
@@ -37,7 +37,7 @@ abbrev pub RunEnds : Type 0
 RunEnds =
     (c : Circuit) (n : ℕ) (tapes w : List ℕ)
     → honestRun c n w tapes .output
-    ≡ outputs n (c .outputs) asSaid (wiresAfter c n w tapes (length (c .gates)) .share) (wiresAfter c n w tapes (length (c .gates)) .masked) .output
+    ≡ outputs n (c .outputs) asSent (wiresAfter c n w tapes (length (c .gates)) .share) (wiresAfter c n w tapes (length (c .gates)) .masked) .output
 
 -- "A wire's masked value is its value XOR its mask", of every wire and after any number of gates
 abbrev pub MaskedValues : Type 0

@@ -18,7 +18,7 @@ use Rattle.bits.proofs.Tabulate.{getD-tabulate, getD-tabulate-end}
 use Rattle.keccak.specs.declared.sponge.Sponge.{Sponge}
 use Rattle.keccak.specs.Steps.{absorbs}
 use Rattle.keccak.proofs.Absorbing.{Bytes}
-use Rattle.engine.specs.Steps.{at, saidAt, packedByte, packed, packedRows}
+use Rattle.engine.specs.Steps.{at, broadcastAt, packedByte, packed, packedRows}
 use Rattle.hashing.specs.Inputs.{onlineInput}
 use Rattle.hashing.specs.Steps.{taken, given}
 use Rattle.hashing.proofs.Hashes.{bytes-append, bytes-one}
@@ -64,15 +64,15 @@ module _ (len : ℕ) (row z : List ℕ) (l : len ≤ 608) (e : length row ≡ 60
   put-taken = sym (part-length len (z ++ drop len row) l put-length)
 
   -- the next row is taken in
-  pub online-turn : (j W i said : ℕ) (masked m : List ℕ) (s r : Sponge)
-      → s ≡ taken (onlineInput j masked (flatten (tabulate i (λ k. packed m (saidAt W 0 k) said len)))) → z ≡ packed m (48 * W + i) said (length (take len row))
-      → r ≡ absorbs 136 s (take len (z ++ drop len row)) → r ≡ taken (onlineInput j masked (flatten (tabulate (i + 1) (λ k. packed m (saidAt W 0 k) said len))))
+  pub online-turn : (j W i broadcasts : ℕ) (masked m : List ℕ) (s r : Sponge)
+      → s ≡ taken (onlineInput j masked (flatten (tabulate i (λ k. packed m (broadcastAt W 0 k) broadcasts len)))) → z ≡ packed m (48 * W + i) broadcasts (length (take len row))
+      → r ≡ absorbs 136 s (take len (z ++ drop len row)) → r ≡ taken (onlineInput j masked (flatten (tabulate (i + 1) (λ k. packed m (broadcastAt W 0 k) broadcasts len))))
   unfolding onlineInput
-  online-turn j W i said masked m s r a b c =
-      let f : ℕ → List ℕ = λ k. packed m (saidAt W 0 k) said len in
+  online-turn j W i broadcasts masked m s r a b c =
+      let f : ℕ → List ℕ = λ k. packed m (broadcastAt W 0 k) broadcasts len in
       let y : 48 * W + i ≡ 48 * W + 16 * 0 + i = omega arith in
       let d : take len (z ++ drop len row) ≡ f i
-      = take-at z (drop len row) len put-part ∙ b ∙ ap₂ (λ (u v : ℕ). packed m u said v) y (part-length len row l e) in
+      = take-at z (drop len row) len put-part ∙ b ∙ ap₂ (λ (u v : ℕ). packed m u broadcasts v) y (part-length len row l e) in
       taken-more (onlineInput j masked (flatten (tabulate i f))) (f i) s r a (c ∙ ap (absorbs 136 s) d)
       ∙ ap taken
       (append-assoc ((8 ∷ leBytes 2 j) ++ masked) (flatten (tabulate i f)) (f i)
@@ -93,13 +93,13 @@ online-bytes j masked rows p q =
     (bytes-append (8 ∷ leBytes 2 j) masked (bytes-append (8 ∷ []) (leBytes 2 j) (bytes-one 8 (omega arith)) (leBytes-lt 2 j)) p) q
 
 -- the digest, when all rows are taken in
-pub online-ends : (j W n i said len : ℕ) (masked m r : List ℕ) (s : Sponge) → Bytes masked → i ≡ n → len ≡ oct said
-    → s ≡ taken (onlineInput j masked (flatten (tabulate i (λ k. packed m (saidAt W 0 k) said len)))) → r ≡ given s
-    → r ≡ onlineDigest j masked (packedRows W m n said (oct said))
+pub online-ends : (j W n i broadcasts len : ℕ) (masked m r : List ℕ) (s : Sponge) → Bytes masked → i ≡ n → len ≡ oct broadcasts
+    → s ≡ taken (onlineInput j masked (flatten (tabulate i (λ k. packed m (broadcastAt W 0 k) broadcasts len)))) → r ≡ given s
+    → r ≡ onlineDigest j masked (packedRows W m n broadcasts (oct broadcasts))
 unfolding onlineDigest packedRows
-online-ends j W n i said len masked m r s p e l a b =
-    let rows : List ℕ = flatten (tabulate i (λ k. packed m (saidAt W 0 k) said len)) in
+online-ends j W n i broadcasts len masked m r s p e l a b =
+    let rows : List ℕ = flatten (tabulate i (λ k. packed m (broadcastAt W 0 k) broadcasts len)) in
     b ∙ ap given a
     ∙ given-taken (onlineInput j masked rows)
-    (online-bytes j masked rows p (flatten-bytes i (λ k. packed m (saidAt W 0 k) said len) (λ k. packed-bytes m (saidAt W 0 k) said len)))
-    ∙ ap₂ (λ (x y : ℕ). onlineDigest j masked (flatten (tabulate x (λ k. packed m (saidAt W 0 k) said y)))) e l
+    (online-bytes j masked rows p (flatten-bytes i (λ k. packed m (broadcastAt W 0 k) broadcasts len) (λ k. packed-bytes m (broadcastAt W 0 k) broadcasts len)))
+    ∙ ap₂ (λ (x y : ℕ). onlineDigest j masked (flatten (tabulate x (λ k. packed m (broadcastAt W 0 k) broadcasts y)))) e l

@@ -40,16 +40,16 @@ pub fn commit(inst: Instance, p: u32, theirs: &[u8], seeds: &[u8], corrections: 
 }
 
 // h'_j over the masked inputs and the broadcast rows in the memory.
-pub fn online(j: u32, masked: &[u8], memory: &[u8], wires: usize, n: usize, said: usize) -> [u8; 32]
-    requires { ⌜ Room wires n (now memory) × (said ≤ wires + maxOutputs) ⌝ }
-    ensures { λ r. ⌜ r ≡ onlineDigest j (now (masked .entry)) (packedRows wires (now (memory .entry)) n said (oct said)) ⌝ }
+pub fn online(j: u32, masked: &[u8], memory: &[u8], wires: usize, n: usize, broadcasts: usize) -> [u8; 32]
+    requires { ⌜ Room wires n (now memory) × (broadcasts ≤ wires + maxOutputs) ⌝ }
+    ensures { λ r. ⌜ r ≡ onlineDigest j (now (masked .entry)) (packedRows wires (now (memory .entry)) n broadcasts (oct broadcasts)) ⌝ }
 {
-    let len = bits::oct(said);
+    let len = bits::oct(broadcasts);
     let mut row = [0u8; 608];
     let mut s = start_online(j).absorb(SHA3_256_RATE, masked);
     let mut i = 0;
     while i < n {
-        pack(memory, 48 * wires + i, said, &mut row[..len]);
+        pack(memory, 48 * wires + i, broadcasts, &mut row[..len]);
         s = s.absorb(SHA3_256_RATE, &row[..len]);
         i += 1;
     }

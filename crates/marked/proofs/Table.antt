@@ -18,7 +18,7 @@ use Rattle.circuit.specs.Circuit.{put, ands}
 use Rattle.circuit.specs.File.{withinLimits, rightLength, goodRecord, goodRecords, walks, goodChain, chainFrom, gateAt, gatesInOrder, readsWritten, goodOutputs, goodWires, circuitOf, readCircuit}
 use Rattle.circuit.specs.Operations.{readAnswer, readOp}
 use Rattle.parties.specs.Parties.{heightOf, isPartyCount}
-use Rattle.mpc.specs.Run.{corrections, corrected, says, outputs, run}
+use Rattle.mpc.specs.Run.{corrections, corrected, broadcast, outputs, run}
 use Rattle.mpc.specs.Tapes.{inputMasks, outputMasks, productShares, usedBits, unusedRows, withRow}
 use Rattle.mpc.specs.Showing.{correctionBits, maskedInput, maskedInputs, runWith, runOn, honestRun, rowBits, rowsOf, shownBits, firstBits, showing}
 use Rattle.mpc.specs.Operations.{prepareLegal, prepareOp, ran, runLegal, runOp, holdsShowing, showLegal, showOp}
@@ -101,7 +101,7 @@ every-row (d ∷ cs) t c m =
 
 -- the marked cases pass
 table-passes : every cases ≡ true
-unfolding every holds sameAnswer sameBuffers sameOutcome sameBytes flatten odd testBit fromBits bitAt pack none unusedZero rowOf xors heightOf isPartyCount corrections corrected says outputs run inputMasks outputMasks productShares usedBits unusedRows withRow correctionBits maskedInput maskedInputs runWith runOn honestRun rowBits rowsOf shownBits firstBits showing prepareLegal prepareOp ran runLegal runOp holdsShowing showLegal showOp leAt put ands withinLimits rightLength goodRecord goodRecords walks goodChain chainFrom gateAt gatesInOrder readsWritten goodOutputs goodWires circuitOf readCircuit readAnswer readOp correctionBytes stretchBytes asked stretchStart
+unfolding every holds sameAnswer sameBuffers sameOutcome sameBytes flatten odd testBit fromBits bitAt pack none unusedZero rowOf xors heightOf isPartyCount corrections corrected broadcast outputs run inputMasks outputMasks productShares usedBits unusedRows withRow correctionBits maskedInput maskedInputs runWith runOn honestRun rowBits rowsOf shownBits firstBits showing prepareLegal prepareOp ran runLegal runOp holdsShowing showLegal showOp leAt put ands withinLimits rightLength goodRecord goodRecords walks goodChain chainFrom gateAt gatesInOrder readsWritten goodOutputs goodWires circuitOf readCircuit readAnswer readOp correctionBytes stretchBytes asked stretchStart
 table-passes = refl
 
 -- every marked case is right

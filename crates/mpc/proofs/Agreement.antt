@@ -22,15 +22,15 @@ use Rattle.circuit.specs.Records.{gateOf}
 use Rattle.circuit.specs.Steps.{gatesFrom, wired, Legal}
 use Rattle.circuit.proofs.Chain.{gates-on, gates-end, ands-on, ands-none, andOne-le, put-other}
 use Rattle.circuit.proofs.Run.{wired-reads, output-low, goodChain-walks, gates-order}
-use Rattle.mpc.specs.Run.{Column, corrections, corrected, Hearing, asSaid, asLent, run}
+use Rattle.mpc.specs.Run.{Column, corrections, corrected, Channel, asSent, asShown, run}
 use Rattle.mpc.specs.Tapes.{inputMasks, outputMasks, productShares}
 use Rattle.mpc.specs.Showing as shown
 use Rattle.mpc.specs.Showing.{correctionBits, maskedInput, runWith, runOn, honestRun, rowBits, rowsOf, firstBits}
-use Rattle.engine.specs.Steps.{valueAt, correctionAt, at, fill, unpacked, packed, packedRows, loadedTapes, maskByte, maskedInputs, walked, spoken, outputValues}
+use Rattle.engine.specs.Steps.{valueAt, correctionAt, at, fill, unpacked, packed, packedRows, loadedTapes, maskByte, maskedInputs, walked, outputsBroadcast, outputValues}
 use Rattle.engine.proofs.Fill.{fill-at}
 use Rattle.mpc.proofs.Holding.{Holds}
-use Rattle.mpc.proofs.StepBits.{Hears, mask-bit}
-use Rattle.mpc.proofs.WalkBits.{blank, used, spoken-other, Gives, walk-gives}
+use Rattle.mpc.proofs.StepBits.{Delivers, mask-bit}
+use Rattle.mpc.proofs.WalkBits.{blank, used, outputs-other, Gives, walk-gives}
 use Rattle.mpc.proofs.Correcting.{Corrects, walk-corrects}
 use Rattle.mpc.proofs.Loads.{base-holds, inputs-hold, masked-hold, corrections-hold, row-holds}
 use Rattle.mpc.proofs.Packs.{packed-all, packed-cong, given-row, given-rows, given-output}
@@ -68,9 +68,9 @@ masked-pack W n p A B mem past o z row s m k w hk holds =
 false-true : false ≡ true → ⊥
 false-true e = let z : _≡_ {A = ℕ} 0 1 = cc in omega arith
 
--- where nobody is hidden, all is heard as it is said
-hears-said : (n : ℕ) (row : ℕ → Bool) → Hears n n row asSaid
-hears-said n row u x i l = sym (put-other x n (row u) i (omega arith))
+-- where nobody is hidden, all is delivered as sent
+delivers-sent : (n : ℕ) (row : ℕ → Bool) → Delivers n n row asSent
+delivers-sent n row u x i l = sym (put-other x n (row u) i (omega arith))
 
 module _ (f : List ℕ) (I O G A h n Z : ℕ) (ok : Legal f I O G) (head : h ≡ headOf f) (count : A ≡ ands (gatesInOrder f))
     (some : 1 ≤ n) (few : n ≤ 16) (room : 64 * (I + G) + 4096 ≤ Z) (tapes : List ℕ) where
@@ -186,14 +186,14 @@ module _ (f : List ℕ) (I O G A h n Z : ℕ) (ok : Legal f I O G) (head : h ≡
       some few low near holds I w (omega arith) u shares-none (λ j. refl)
 
   -- the walk and the outputs give the run
-  all-give : (p : ℕ) (q : Bool) → (q ≡ true → p ≡ n) → (mem : List ℕ) (z : ℕ → Column) (row : ℕ → Bool) (m : ℕ → Bool) (t : Hearing) → Hears n p row t
+  all-give : (p : ℕ) (q : Bool) → (q ≡ true → p ≡ n) → (mem : List ℕ) (z : ℕ → Column) (row : ℕ → Bool) (m : ℕ → Bool) (t : Channel) → Delivers n p row t
       → Holds W n p A (A + O) 0 mem (λ v. blank) (outputMasks c tapes) z row (inputMasks c tapes) m
       → Gives W n p A O f 0 (walked W n p q f G h 0 mem) (λ v. blank)
       (run n (c .outputs) (c .gates) (outputMasks c tapes) (used q n (c .gates) (outputMasks c tapes) z (inputMasks c tapes)) t (inputMasks c tapes) m)
-  all-give p q all mem z row m t hears holds =
+  all-give p q all mem z row m t delivers holds =
       rw (circuit-outputs, circuit-gates) at
       (walk-gives W n p A O f few low near some q all wires-out fit G h 0 chain wires-read ands-all
-      mem (λ v. blank) (outputMasks c tapes) z row (inputMasks c tapes) m t hears holds)
+      mem (λ v. blank) (outputMasks c tapes) z row (inputMasks c tapes) m t delivers holds)
 
   -- the walk makes the corrections
   all-correct : (mem : List ℕ) (z : ℕ → Column) (row : ℕ → Bool) (m : ℕ → Bool)
@@ -252,11 +252,11 @@ module _ (f : List ℕ) (I O G A h n Z : ℕ) (ok : Legal f I O G) (head : h ≡
     run-gives =
         let mem : List ℕ = unpacked corr 0 A (48 * W + (n - 1)) base in
         let z : ℕ → Column = corrected n (bitAt corr) (productShares c tapes) in
-        all-give n false (λ e. refl) (maskedInputs W n I w mem) z (λ t. false) (maskedInput c n w tapes) asSaid (hears-said n (λ t. false))
+        all-give n false (λ e. refl) (maskedInputs W n I w mem) z (λ t. false) (maskedInput c n w tapes) asSent (delivers-sent n (λ t. false))
         (holds-inputs mem z w unused (holds-corrected corr))
 
     -- the broadcast rows
-    pub run-rows-agree : packedRows W (spoken W n n A f O ran) n (A + O) (oct (A + O)) ≡ rowsOf n (runOn c n w tapes (bitAt corr))
+    pub run-rows-agree : packedRows W (outputsBroadcast W n n A f O ran) n (A + O) (oct (A + O)) ≡ rowsOf n (runOn c n w tapes (bitAt corr))
     run-rows-agree = given-rows W n n A O f ran (λ v. blank) (runOn c n w tapes (bitAt corr)) run-gives
 
     -- the output
@@ -278,23 +278,23 @@ module _ (f : List ℕ) (I O G A h n Z : ℕ) (ok : Legal f I O G) (head : h ≡
     show-gives : Gives W n n A O f 0 showed (λ v. blank) (honestRun c n w tapes)
     unfolding honestRun runOn runWith correctionBits
     show-gives =
-        all-give n true (λ e. refl) (maskedInputs W n I w base) (productShares c tapes) (λ t. false) (maskedInput c n w tapes) asSaid
-        (hears-said n (λ t. false)) show-holds
+        all-give n true (λ e. refl) (maskedInputs W n I w base) (productShares c tapes) (λ t. false) (maskedInput c n w tapes) asSent
+        (delivers-sent n (λ t. false)) show-holds
 
     -- the corrections
-    pub show-corrections-agree : packed (spoken W n n A f O showed) (16 * W + 1) A (oct A) ≡ pack (correctionBits c n tapes)
+    pub show-corrections-agree : packed (outputsBroadcast W n n A f O showed) (16 * W + 1) A (oct A) ≡ pack (correctionBits c n tapes)
     show-corrections-agree =
-        packed-cong (spoken W n n A f O showed) showed (16 * W + 1) A (oct A)
-        (λ t ht. spoken-other W n n A f showed O (16 * W + 1 + 16 * t) (omega (arith, low)))
+        packed-cong (outputsBroadcast W n n A f O showed) showed (16 * W + 1) A (oct A)
+        (λ t ht. outputs-other W n n A f showed O (16 * W + 1 + 16 * t) (omega (arith, low)))
         ∙ corrections-agree (maskedInputs W n I w base) (maskedInput c n w tapes) show-holds
 
     -- the first bits of a broadcast row
     pub show-row-agrees : (p shown : ℕ) → p < n → shown ≤ A + O
-        → packed (spoken W n n A f O showed) (48 * W + p) shown (oct (A + O)) ≡ pack (firstBits shown (rowBits (honestRun c n w tapes) p))
+        → packed (outputsBroadcast W n n A f O showed) (48 * W + p) shown (oct (A + O)) ≡ pack (firstBits shown (rowBits (honestRun c n w tapes) p))
     show-row-agrees p shown hp l = given-row W n n A O f showed (λ v. blank) (honestRun c n w tapes) show-gives p shown hp l
 
     -- the broadcast rows
-    pub show-rows-agree : packedRows W (spoken W n n A f O showed) n (A + O) (oct (A + O)) ≡ rowsOf n (honestRun c n w tapes)
+    pub show-rows-agree : packedRows W (outputsBroadcast W n n A f O showed) n (A + O) (oct (A + O)) ≡ rowsOf n (honestRun c n w tapes)
     show-rows-agree = given-rows W n n A O f showed (λ v. blank) (honestRun c n w tapes) show-gives
 
     -- the output
@@ -310,25 +310,25 @@ module _ (f : List ℕ) (I O G A h n Z : ℕ) (ok : Legal f I O G) (head : h ≡
         (unpacked masked 0 I (16 * W) (unpacked row 0 (A + O) (48 * W + p) (unpacked corr 0 A (48 * W + (n - 1)) base)))
 
     -- it gives the replay
-    replay-gives : Gives W n p A O f 0 replayed (λ v. blank) (runWith c n tapes (bitAt corr) (bitAt masked) (asLent p (bitAt row)))
+    replay-gives : Gives W n p A O f 0 replayed (λ v. blank) (runWith c n tapes (bitAt corr) (bitAt masked) (asShown p (bitAt row)))
     unfolding runWith
     replay-gives =
         let z : ℕ → Column = corrected n (bitAt corr) (productShares c tapes) in
         let b : List ℕ = unpacked corr 0 A (48 * W + (n - 1)) base in
         let d : List ℕ = unpacked row 0 (A + O) (48 * W + p) b in
-        all-give p false (λ e. absurd (false-true e)) (unpacked masked 0 I (16 * W) d) z (bitAt row) (bitAt masked) (asLent p (bitAt row)) (λ u x i l. refl)
+        all-give p false (λ e. absurd (false-true e)) (unpacked masked 0 I (16 * W) d) z (bitAt row) (bitAt masked) (asShown p (bitAt row)) (λ u x i l. refl)
         (masked-hold W n p A (A + O) d (λ v. blank) (outputMasks c tapes) z (bitAt row) (inputMasks c tapes) (λ w. false) some few low near
         (row-holds W n n A (A + O) b (λ v. blank) (outputMasks c tapes) z (λ t. false) (inputMasks c tapes) (λ w. false) some few low near
         (holds-corrected corr) row p refl hp)
         I masked (omega arith) unused (λ j. refl))
 
     -- the broadcast rows
-    pub replay-rows-agree : packedRows W (spoken W n p A f O replayed) n (A + O) (oct (A + O))
-        ≡ rowsOf n (runWith c n tapes (bitAt corr) (bitAt masked) (asLent p (bitAt row)))
-    replay-rows-agree = given-rows W n p A O f replayed (λ v. blank) (runWith c n tapes (bitAt corr) (bitAt masked) (asLent p (bitAt row))) replay-gives
+    pub replay-rows-agree : packedRows W (outputsBroadcast W n p A f O replayed) n (A + O) (oct (A + O))
+        ≡ rowsOf n (runWith c n tapes (bitAt corr) (bitAt masked) (asShown p (bitAt row)))
+    replay-rows-agree = given-rows W n p A O f replayed (λ v. blank) (runWith c n tapes (bitAt corr) (bitAt masked) (asShown p (bitAt row))) replay-gives
 
     -- the output
     pub replay-output-agrees : packed (outputValues W n p A f O replayed (replicate 4096 0)) 0 O (oct O)
-        ≡ pack (runWith c n tapes (bitAt corr) (bitAt masked) (asLent p (bitAt row)) .output)
+        ≡ pack (runWith c n tapes (bitAt corr) (bitAt masked) (asShown p (bitAt row)) .output)
     replay-output-agrees =
-        given-output W n p A O f replayed (λ v. blank) (runWith c n tapes (bitAt corr) (bitAt masked) (asLent p (bitAt row))) replay-gives (ok .laid .few-outputs)
+        given-output W n p A O f replayed (λ v. blank) (runWith c n tapes (bitAt corr) (bitAt masked) (asShown p (bitAt row))) replay-gives (ok .laid .few-outputs)

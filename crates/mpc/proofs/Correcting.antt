@@ -17,8 +17,8 @@ use Rattle.circuit.specs.Steps.{placed, andOne, gatesFrom, within, wired}
 use Rattle.circuit.specs.declared.Gate.{Gate}
 use Rattle.circuit.specs.declared.Gate.the-variants.{Xor, And, Inv}
 use Rattle.circuit.proofs.Chain.{here, gates-on, gates-end, ands-on, ands-none}
-use Rattle.mpc.specs.Run.{Column, next, plus, says, asLent, corrections}
-use Rattle.engine.specs.Steps.{shareAt, valueAt, correctionAt, maskAt, saidAt, at, fill, gateStep, xorStep, invStep, andStep, correctStep, broadcastStep, takeStep, broadcastByte, maskedProduct, walked}
+use Rattle.mpc.specs.Run.{Column, next, plus, broadcast, asShown, corrections}
+use Rattle.engine.specs.Steps.{shareAt, valueAt, correctionAt, maskAt, broadcastAt, at, fill, gateStep, xorStep, invStep, andStep, correctStep, broadcastStep, takeStep, broadcastByte, maskedProduct, walked}
 use Rattle.engine.proofs.Fill.{fill-other}
 use Rattle.mpc.proofs.Holding.{Holds, wrote-other}
 use Rattle.mpc.proofs.StepBits.{first, correction, withCorrection, xor-agree, inv-agree, and-agree, correct-agree, correct-other, correct-kept}
@@ -49,9 +49,9 @@ module _ (W n p : ℕ) (few : n ≤ 16) (v : ℕ) (hv : v < W) where
   unfolding andStep takeStep broadcastStep
   and-keeps a b c t mem hc =
       let f = broadcastByte W p a b t mem in
-      wrote-other W n c (maskedProduct W n p a b t mem) (λ i. at (fill (saidAt W t) f n mem) (maskAt W t i)) (fill (saidAt W t) f n mem)
+      wrote-other W n c (maskedProduct W n p a b t mem) (λ i. at (fill (broadcastAt W t) f n mem) (maskAt W t i)) (fill (broadcastAt W t) f n mem)
       (correctionAt W v) (omega arith) (omega arith)
-      ∙ fill-other (saidAt W t) f mem n (correctionAt W v) (omega arith)
+      ∙ fill-other (broadcastAt W t) f mem n (correctionAt W v) (omega arith)
 
 -- nobody is hidden
 module _ (W n A B : ℕ) (few : n ≤ 16) (some : 1 ≤ n) (low : A ≤ W) (more : A ≤ B) (near : B ≤ W + 256) where
@@ -71,8 +71,8 @@ module _ (W n A B : ℕ) (few : n ≤ 16) (some : 1 ≤ n) (low : A ≤ W) (more
         let y : ℕ → Column = first (withCorrection n (correction n (s a) (s b) (z 0)) (z 0)) z in
         let k : List ℕ = correctStep W n a b t mem in
         let j : List ℕ = andStep W n n false a b c t k in
-        let h = asLent n row in
-        let x : Column = h 0 (says (m a) (m b) (s a) (s b) (y 0) (o 0)) in
+        let h = asShown n row in
+        let x : Column = h 0 (broadcast (m a) (m b) (s a) (s b) (y 0) (o 0)) in
         let r : Corrects W A (suc t) j (final j) (corrections n gs (next o) (next z) (put s c (o 0)))
         = rest j (put past t x) (next o) (next z) (next row) (put s c (o 0)) (put m c ((m a && m b) ⊕ xors n x))
         (and-agree W n n A B t k past o y row s m few low near

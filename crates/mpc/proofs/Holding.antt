@@ -16,7 +16,7 @@ use Rattle.bits.proofs.Numbers.{eq-or-ne}
 use Rattle.bits.proofs.Xor.{xor-assoc, xor-false}
 use Rattle.circuit.specs.Circuit.{put}
 use Rattle.mpc.specs.Run.{Column, next}
-use Rattle.engine.specs.Steps.{shareAt, valueAt, maskAt, saidAt, at, fill, xorBytes}
+use Rattle.engine.specs.Steps.{shareAt, valueAt, maskAt, broadcastAt, at, fill, xorBytes}
 use Rattle.engine.proofs.Fill.{fill-length, fill-other, fill-at}
 
 -- what stands at place k after a put at c
@@ -44,9 +44,9 @@ pub record Holds (W n p A B t : ℕ) (mem : List ℕ) (past o z : ℕ → Column
   pub shares : (w i : ℕ) → w < W → i < n → odd (at mem (shareAt w i)) ≡ s w i
   pub values : (w : ℕ) → w < W → odd (at mem (valueAt W w)) ≡ m w
   pub masks : (v u i : ℕ) → v ≡ t + u → v < A → i < n → odd (at mem (maskAt W v i)) ≡ o u i
-  pub parts : (v u i : ℕ) → v ≡ t + u → v < A → i < n → i ≢ p → odd (at mem (saidAt W v i)) ≡ z u i
-  pub lent : (v u : ℕ) → v ≡ t + u → v < B → p < n → odd (at mem (saidAt W v p)) ≡ row u
-  pub said : (v i : ℕ) → v < t → i < n → odd (at mem (saidAt W v i)) ≡ past v i
+  pub parts : (v u i : ℕ) → v ≡ t + u → v < A → i < n → i ≢ p → odd (at mem (broadcastAt W v i)) ≡ z u i
+  pub lent : (v u : ℕ) → v ≡ t + u → v < B → p < n → odd (at mem (broadcastAt W v p)) ≡ row u
+  pub broadcasts : (v i : ℕ) → v < t → i < n → odd (at mem (broadcastAt W v i)) ≡ past v i
 
 -- the memory with f 0 .. f (n - 1) as the shares of wire c, and v as its masked value
 module _ (W n c v : ℕ) (f : ℕ → ℕ) (mem : List ℕ) where
@@ -88,25 +88,25 @@ module _ (W n p A B t : ℕ) (mem : List ℕ) (past o z : ℕ → Column) (row :
             (λ q. rw q (ap odd (wrote-value W n c v f mem hc r) ∙ d))
             (λ q. ap odd (other (valueAt W w) (omega arith) (omega arith)) ∙ holds .values w hw);
         masks = λ k u i q hk hi. ap odd (other (maskAt W k i) (omega arith) (omega arith)) ∙ holds .masks k u i q hk hi;
-        parts = λ k u i q hk hi ne. ap odd (other (saidAt W k i) (omega arith) (omega arith)) ∙ holds .parts k u i q hk hi ne;
-        lent = λ k u q hk hp. ap odd (other (saidAt W k p) (omega arith) (omega arith)) ∙ holds .lent k u q hk hp;
-        said = λ k i hk hi. ap odd (other (saidAt W k i) (omega arith) (omega arith)) ∙ holds .said k i hk hi;
+        parts = λ k u i q hk hi ne. ap odd (other (broadcastAt W k i) (omega arith) (omega arith)) ∙ holds .parts k u i q hk hi ne;
+        lent = λ k u q hk hp. ap odd (other (broadcastAt W k p) (omega arith) (omega arith)) ∙ holds .lent k u q hk hp;
+        broadcasts = λ k i hk hi. ap odd (other (broadcastAt W k i) (omega arith) (omega arith)) ∙ holds .broadcasts k i hk hi;
       }
 
   -- a column is broadcast
-  pub said-step : (f : ℕ → ℕ) (x : Column) → t < B → ((i : ℕ) → i < n → odd (f i) ≡ x i)
-      → Holds W n p A B (suc t) (fill (saidAt W t) f n mem) (put past t x) (next o) (next z) (next row) s m
-  said-step f x ht e =
+  pub sent-step : (f : ℕ → ℕ) (x : Column) → t < B → ((i : ℕ) → i < n → odd (f i) ≡ x i)
+      → Holds W n p A B (suc t) (fill (broadcastAt W t) f n mem) (put past t x) (next o) (next z) (next row) s m
+  sent-step f x ht e =
       let r : 64 * W + 4096 ≤ length mem = holds .room in
-      let other = fill-other (saidAt W t) f mem n in
+      let other = fill-other (broadcastAt W t) f mem n in
       record {
-        room = omega (arith, fill-length (saidAt W t) f mem n);
+        room = omega (arith, fill-length (broadcastAt W t) f mem n);
         shares = λ w i hw hi. ap odd (other (shareAt w i) (omega arith)) ∙ holds .shares w i hw hi;
         values = λ w hw. ap odd (other (valueAt W w) (omega arith)) ∙ holds .values w hw;
         masks = λ k u i q hk hi. ap odd (other (maskAt W k i) (omega arith)) ∙ holds .masks k (suc u) i (omega arith) hk hi;
-        parts = λ k u i q hk hi ne. ap odd (other (saidAt W k i) (omega arith)) ∙ holds .parts k (suc u) i (omega arith) hk hi ne;
-        lent = λ k u q hk hp. ap odd (other (saidAt W k p) (omega arith)) ∙ holds .lent k (suc u) (omega arith) hk hp;
-        said = λ k i hk hi. put-column past t k i x _
-            (λ q. rw q (ap odd (fill-at (saidAt W t) f mem n i hi (omega arith) (omega arith)) ∙ e i hi))
-            (λ q. ap odd (other (saidAt W k i) (omega arith)) ∙ holds .said k i (omega arith) hi);
+        parts = λ k u i q hk hi ne. ap odd (other (broadcastAt W k i) (omega arith)) ∙ holds .parts k (suc u) i (omega arith) hk hi ne;
+        lent = λ k u q hk hp. ap odd (other (broadcastAt W k p) (omega arith)) ∙ holds .lent k (suc u) (omega arith) hk hp;
+        broadcasts = λ k i hk hi. put-column past t k i x _
+            (λ q. rw q (ap odd (fill-at (broadcastAt W t) f mem n i hi (omega arith) (omega arith)) ∙ e i hi))
+            (λ q. ap odd (other (broadcastAt W k i) (omega arith)) ∙ holds .broadcasts k i (omega arith) hi);
       }

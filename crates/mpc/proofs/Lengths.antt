@@ -11,7 +11,7 @@ use lib.Dec.{ltb}
 use lib.ListN.{length, getD}
 use Rattle.bits.proofs.Tabulate.{tabulate-cong, tabulate-getD}
 use Rattle.circuit.specs.Circuit.{Gate, xor, and, inv, Circuit, ands}
-use Rattle.mpc.specs.Run.{Column, next, corrections, Hearing, outputs, run}
+use Rattle.mpc.specs.Run.{Column, next, corrections, Channel, outputs, run}
 use Rattle.mpc.specs.Tapes.{andsOf}
 use Rattle.mpc.specs.Showing.{runWith, runOn, honestRun, rowBits, firstBits}
 
@@ -24,13 +24,13 @@ length-corrections n (and a b c ∷ gs) o z s = ap suc (length-corrections n gs 
 length-corrections n (inv a c ∷ gs) o z s = length-corrections n gs o z _
 
 -- a bit for each output
-length-outputs : (n : ℕ) (ws : List ℕ) (h : Hearing) (s : ℕ → Column) (m : ℕ → Bool) (i : ℕ) → length (rowBits (outputs n ws h s m) i) ≡ length ws
+length-outputs : (n : ℕ) (ws : List ℕ) (h : Channel) (s : ℕ → Column) (m : ℕ → Bool) (i : ℕ) → length (rowBits (outputs n ws h s m) i) ≡ length ws
 unfolding outputs rowBits
 length-outputs n [] h s m i = refl
 length-outputs n (w ∷ ws) h s m i = ap suc (length-outputs n ws (next h) s m i)
 
 -- "A broadcast row holds A + O bits"
-pub length-row : (n : ℕ) (outs : List ℕ) (gs : List Gate) (o z : ℕ → Column) (h : Hearing) (s : ℕ → Column) (m : ℕ → Bool) (i : ℕ)
+pub length-row : (n : ℕ) (outs : List ℕ) (gs : List Gate) (o z : ℕ → Column) (h : Channel) (s : ℕ → Column) (m : ℕ → Bool) (i : ℕ)
     → length (rowBits (run n outs gs o z h s m) i) ≡ ands gs + length outs
 unfolding run rowBits ands
 length-row n outs [] o z h s m i = length-outputs n outs h s m i ∙ sym (zero-add (length outs))

@@ -20,7 +20,7 @@ use Rattle.bits.proofs.Packing.{unused-all}
 use Rattle.bits.proofs.Xor.{xors-cong, xors-false}
 use Rattle.circuit.proofs.Chain.{zeros-at}
 use Rattle.mpc.specs.Run.{Column, corrected}
-use Rattle.engine.specs.Steps.{shareAt, valueAt, maskAt, saidAt, at, fill, unpacked, loadedRow, loadedTapes, maskByte, maskedInputs}
+use Rattle.engine.specs.Steps.{shareAt, valueAt, maskAt, broadcastAt, at, fill, unpacked, loadedRow, loadedTapes, maskByte, maskedInputs}
 use Rattle.engine.proofs.Fill.{fill-length, fill-other, fill-at}
 use Rattle.mpc.proofs.Holding.{Holds}
 use Rattle.mpc.proofs.StepBits.{mask-bit}
@@ -53,16 +53,16 @@ module _ (W I A : ℕ) (inputs : I ≤ W) (low : A ≤ W) where
     row-length : length (loadedRow W I A i row mem) ≡ length mem
     unfolding loadedRow
     row-length =
-        unpacked-length row (I + A) A (saidAt W 0 i) (unpacked row I A (maskAt W 0 i) (unpacked row 0 I (shareAt 0 i) mem))
+        unpacked-length row (I + A) A (broadcastAt W 0 i) (unpacked row I A (maskAt W 0 i) (unpacked row 0 I (shareAt 0 i) mem))
         ∙ unpacked-length row I A (maskAt W 0 i) (unpacked row 0 I (shareAt 0 i) mem)
         ∙ unpacked-length row 0 I (shareAt 0 i) mem
 
     -- places that are not of the row keep their bytes
-    row-other : (q : ℕ) → ((t : ℕ) → t < I → q ≢ shareAt t i) → ((t : ℕ) → t < A → q ≢ maskAt W t i) → ((t : ℕ) → t < A → q ≢ saidAt W t i)
+    row-other : (q : ℕ) → ((t : ℕ) → t < I → q ≢ shareAt t i) → ((t : ℕ) → t < A → q ≢ maskAt W t i) → ((t : ℕ) → t < A → q ≢ broadcastAt W t i)
         → at (loadedRow W I A i row mem) q ≡ at mem q
     unfolding loadedRow
     row-other q h j k =
-        unpacked-other row (I + A) A (saidAt W 0 i) (unpacked row I A (maskAt W 0 i) (unpacked row 0 I (shareAt 0 i) mem)) q (λ t l e. k t l (omega arith))
+        unpacked-other row (I + A) A (broadcastAt W 0 i) (unpacked row I A (maskAt W 0 i) (unpacked row 0 I (shareAt 0 i) mem)) q (λ t l e. k t l (omega arith))
         ∙ unpacked-other row I A (maskAt W 0 i) (unpacked row 0 I (shareAt 0 i) mem) q (λ t l e. j t l (omega arith))
         ∙ unpacked-other row 0 I (shareAt 0 i) mem q (λ t l e. h t l (omega arith))
 
@@ -72,7 +72,7 @@ module _ (W I A : ℕ) (inputs : I ≤ W) (low : A ≤ W) where
       unfolding loadedRow
       row-share w l =
           ap odd
-          (unpacked-other row (I + A) A (saidAt W 0 i) (unpacked row I A (maskAt W 0 i) (unpacked row 0 I (shareAt 0 i) mem)) (shareAt w i) (omega arith)
+          (unpacked-other row (I + A) A (broadcastAt W 0 i) (unpacked row I A (maskAt W 0 i) (unpacked row 0 I (shareAt 0 i) mem)) (shareAt w i) (omega arith)
           ∙ unpacked-other row I A (maskAt W 0 i) (unpacked row 0 I (shareAt 0 i) mem) (shareAt w i) (omega arith))
           ∙ unpacked-at row 0 I (shareAt 0 i) mem (shareAt w i) w (omega arith) l (omega arith)
           ∙ ap (bitAt row) (zero-add w)
@@ -82,15 +82,15 @@ module _ (W I A : ℕ) (inputs : I ≤ W) (low : A ≤ W) where
       unfolding loadedRow
       row-mask t l =
           ap odd
-          (unpacked-other row (I + A) A (saidAt W 0 i) (unpacked row I A (maskAt W 0 i) (unpacked row 0 I (shareAt 0 i) mem)) (maskAt W t i) (omega arith))
+          (unpacked-other row (I + A) A (broadcastAt W 0 i) (unpacked row I A (maskAt W 0 i) (unpacked row 0 I (shareAt 0 i) mem)) (maskAt W t i) (omega arith))
           ∙ unpacked-at row I A (maskAt W 0 i) (unpacked row 0 I (shareAt 0 i) mem) (maskAt W t i) t (omega arith) l
           (omega (arith, unpacked-length row 0 I (shareAt 0 i) mem))
 
       -- a product share of the row
-      row-part : (t : ℕ) → t < A → odd (at (loadedRow W I A i row mem) (saidAt W t i)) ≡ bitAt row (I + A + t)
+      row-part : (t : ℕ) → t < A → odd (at (loadedRow W I A i row mem) (broadcastAt W t i)) ≡ bitAt row (I + A + t)
       unfolding loadedRow
       row-part t l =
-          unpacked-at row (I + A) A (saidAt W 0 i) (unpacked row I A (maskAt W 0 i) (unpacked row 0 I (shareAt 0 i) mem)) (saidAt W t i) t (omega arith) l
+          unpacked-at row (I + A) A (broadcastAt W 0 i) (unpacked row I A (maskAt W 0 i) (unpacked row 0 I (shareAt 0 i) mem)) (broadcastAt W t i) t (omega arith) l
           (omega
           (arith, unpacked-length row I A (maskAt W 0 i) (unpacked row 0 I (shareAt 0 i) mem), unpacked-length row 0 I (shareAt 0 i) mem))
 
@@ -170,11 +170,11 @@ module _ (W I A : ℕ) (inputs : I ≤ W) (low : A ≤ W) where
         ∙ row-mask i (rowOf tapes len i) j (omega arith) (omega arith) t ht
 
     -- the product shares
-    base-part : (t i : ℕ) → t < A → i < n → odd (at base (saidAt W t i)) ≡ tapeBit i (I + A + t)
+    base-part : (t i : ℕ) → t < A → i < n → odd (at base (broadcastAt W t i)) ≡ tapeBit i (I + A + t)
     base-part t i ht hi =
         let j : List ℕ = loadedTapes W I A len tapes i (replicate Z 0) in
         let l : length j ≡ Z = base-length i (omega arith) in
-        ap odd (tapes-party len tapes (replicate Z 0) n i (saidAt W t i) few hi (omega arith))
+        ap odd (tapes-party len tapes (replicate Z 0) n i (broadcastAt W t i) few hi (omega arith))
         ∙ row-part i (rowOf tapes len i) j (omega arith) (omega arith) t ht
 
     -- no masked value is set
@@ -191,7 +191,7 @@ module _ (W I A : ℕ) (inputs : I ≤ W) (low : A ≤ W) where
       masks = λ v u i e hv hi. let q : v ≡ u = omega arith in rw q (base-mask u i (omega arith) hi);
       parts = λ v u i e hv hi ne. let q : v ≡ u = omega arith in rw q (base-part u i (omega arith) hi);
       lent = λ v u e hv hp. absurd (omega arith);
-      said = λ v i hv hi. absurd (omega arith);
+      broadcasts = λ v i hv hi. absurd (omega arith);
     }
 
 -- what stands in memory before the walk, beside the tapes
@@ -212,9 +212,9 @@ module _ (W n p A B : ℕ) (mem : List ℕ) (past o z : ℕ → Column) (row : �
             (λ l. ap odd (other (valueAt W w) (omega arith)) ∙ holds .values w hw ∙ d w l hw)
             (lt-or-le w k);
         masks = λ v u i q hv hi. ap odd (other (maskAt W v i) (omega arith)) ∙ holds .masks v u i q hv hi;
-        parts = λ v u i q hv hi ne. ap odd (other (saidAt W v i) (omega arith)) ∙ holds .parts v u i q hv hi ne;
-        lent = λ v u q hv hp. ap odd (other (saidAt W v p) (omega arith)) ∙ holds .lent v u q hv hp;
-        said = λ v i hv hi. absurd (omega arith);
+        parts = λ v u i q hv hi ne. ap odd (other (broadcastAt W v i) (omega arith)) ∙ holds .parts v u i q hv hi ne;
+        lent = λ v u q hv hp. ap odd (other (broadcastAt W v p) (omega arith)) ∙ holds .lent v u q hv hp;
+        broadcasts = λ v i hv hi. absurd (omega arith);
       }
 
   -- the masked inputs of a witness, where no other wire has shares or a masked value
@@ -250,11 +250,11 @@ module _ (W n p A B : ℕ) (mem : List ℕ) (past o z : ℕ → Column) (row : �
         parts = λ v u i q hv hi ne.
             ⊎-elim
             (λ e. rw (eq-eqb (suc i) n e)
-            (unpacked-at w 0 A (48 * W + (n - 1)) mem (saidAt W v i) u (omega arith) (omega arith) (omega arith) ∙ ap (bitAt w) (zero-add u)))
-            (λ e. rw (ne-eqb (suc i) n e) (ap odd (other (saidAt W v i) (omega arith)) ∙ holds .parts v u i q hv hi ne))
+            (unpacked-at w 0 A (48 * W + (n - 1)) mem (broadcastAt W v i) u (omega arith) (omega arith) (omega arith) ∙ ap (bitAt w) (zero-add u)))
+            (λ e. rw (ne-eqb (suc i) n e) (ap odd (other (broadcastAt W v i) (omega arith)) ∙ holds .parts v u i q hv hi ne))
             (eq-or-ne (suc i) n);
         lent = λ v u q hv hp. absurd (omega arith);
-        said = λ v i hv hi. absurd (omega arith);
+        broadcasts = λ v i hv hi. absurd (omega arith);
       }
 
   -- the row of party j, who is hidden from then on
@@ -267,8 +267,8 @@ module _ (W n p A B : ℕ) (mem : List ℕ) (past o z : ℕ → Column) (row : �
         shares = λ k i hk hi. ap odd (other (shareAt k i) (omega arith)) ∙ holds .shares k i hk hi;
         values = λ k hk. ap odd (other (valueAt W k) (omega arith)) ∙ holds .values k hk;
         masks = λ v u i q hv hi. ap odd (other (maskAt W v i) (omega arith)) ∙ holds .masks v u i q hv hi;
-        parts = λ v u i q hv hi ne. ap odd (other (saidAt W v i) (omega arith)) ∙ holds .parts v u i q hv hi (omega arith);
+        parts = λ v u i q hv hi ne. ap odd (other (broadcastAt W v i) (omega arith)) ∙ holds .parts v u i q hv hi (omega arith);
         lent = λ v u q hv hp.
-            unpacked-at w 0 B (48 * W + j) mem (saidAt W v j) u (omega arith) (omega arith) (omega arith) ∙ ap (bitAt w) (zero-add u);
-        said = λ v i hv hi. absurd (omega arith);
+            unpacked-at w 0 B (48 * W + j) mem (broadcastAt W v j) u (omega arith) (omega arith) (omega arith) ∙ ap (bitAt w) (zero-add u);
+        broadcasts = λ v i hv hi. absurd (omega arith);
       }

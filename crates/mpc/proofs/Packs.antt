@@ -15,7 +15,7 @@ use Rattle.bits.proofs.Tabulate.{length-tabulate, getD-tabulate, tabulate-cong}
 use Rattle.circuit.specs.File.{outputWire}
 use Rattle.mpc.specs.Run.{Column, Transcript}
 use Rattle.mpc.specs.Showing.{rowBits, rowsOf, firstBits}
-use Rattle.engine.specs.Steps.{saidAt, at, fill, packedByte, packed, packedRows, unmasked, spoken, outputValues}
+use Rattle.engine.specs.Steps.{broadcastAt, at, fill, packedByte, packed, packedRows, unmasked, outputsBroadcast, outputValues}
 use Rattle.engine.proofs.Fill.{fill-at}
 use Rattle.mpc.proofs.WalkBits.{blank, Gives}
 
@@ -55,41 +55,41 @@ module _ (W n p A O : ℕ) (f mem : List ℕ) (past : ℕ → Column) (r : Trans
   -- party i's row has a bit for each broadcast
   row-size : (i : ℕ) → length (rowBits r i) ≡ A + O
   unfolding rowBits
-  row-size i = length-map (r .said) (λ (x : Column). x i) ∙ omega (arith, gives .columns)
+  row-size i = length-map (r .broadcasts) (λ (x : Column). x i) ∙ omega (arith, gives .columns)
 
   -- and these stand in memory
-  row-bit : (i t : ℕ) → i < n → t < A + O → odd (at (spoken W n p A f O mem) (48 * W + i + 16 * t)) ≡ getD (rowBits r i) t false
+  row-bit : (i t : ℕ) → i < n → t < A + O → odd (at (outputsBroadcast W n p A f O mem) (48 * W + i + 16 * t)) ≡ getD (rowBits r i) t false
   unfolding rowBits
   row-bit i t hi ht =
-      let e : 48 * W + i + 16 * t ≡ saidAt W t i = omega arith in
-      rw e (gives .said t t i (omega arith) ht hi ∙ sym (List·getD-map (λ (x : Column). x i) (r .said) t blank))
+      let e : 48 * W + i + 16 * t ≡ broadcastAt W t i = omega arith in
+      rw e (gives .broadcasts t t i (omega arith) ht hi ∙ sym (List·getD-map (λ (x : Column). x i) (r .broadcasts) t blank))
 
   -- the first bits of a row
   pub given-row : (i shown : ℕ) → i < n → shown ≤ A + O
-      → packed (spoken W n p A f O mem) (48 * W + i) shown (oct (A + O)) ≡ pack (firstBits shown (rowBits r i))
+      → packed (outputsBroadcast W n p A f O mem) (48 * W + i) shown (oct (A + O)) ≡ pack (firstBits shown (rowBits r i))
   unfolding firstBits
   given-row i shown hi h =
-      packed-pack (spoken W n p A f O mem) (48 * W + i) shown (A + O) (tabulate (length (rowBits r i)) (λ t. ltb t shown && getD (rowBits r i) t false))
+      packed-pack (outputsBroadcast W n p A f O mem) (48 * W + i) shown (A + O) (tabulate (length (rowBits r i)) (λ t. ltb t shown && getD (rowBits r i) t false))
       (length-tabulate (length (rowBits r i)) (λ t. ltb t shown && getD (rowBits r i) t false) ∙ row-size i)
       h
       (λ t ht. ap (λ (b : Bool). ltb t shown && b) (row-bit i t hi ht)
       ∙ sym (getD-tabulate (length (rowBits r i)) (λ t. ltb t shown && getD (rowBits r i) t false) t false (omega (arith, row-size i))))
 
   -- all rows
-  pub given-rows : packedRows W (spoken W n p A f O mem) n (A + O) (oct (A + O)) ≡ rowsOf n r
+  pub given-rows : packedRows W (outputsBroadcast W n p A f O mem) n (A + O) (oct (A + O)) ≡ rowsOf n r
   unfolding packedRows rowsOf
   given-rows =
       ap flatten
-      (tabulate-cong n (λ i. packed (spoken W n p A f O mem) (saidAt W 0 i) (A + O) (oct (A + O))) (λ i. pack (rowBits r i))
+      (tabulate-cong n (λ i. packed (outputsBroadcast W n p A f O mem) (broadcastAt W 0 i) (A + O) (oct (A + O))) (λ i. pack (rowBits r i))
       (λ i hi.
-      let e : saidAt W 0 i ≡ 48 * W + i = omega arith in
-      rw e (packed-all (spoken W n p A f O mem) (48 * W + i) (A + O) (rowBits r i) (row-size i) (λ t ht. row-bit i t hi ht))))
+      let e : broadcastAt W 0 i ≡ 48 * W + i = omega arith in
+      rw e (packed-all (outputsBroadcast W n p A f O mem) (48 * W + i) (A + O) (rowBits r i) (row-size i) (λ t ht. row-bit i t hi ht))))
 
   -- the outputs
   pub given-output : O ≤ 256 → packed (outputValues W n p A f O mem (replicate 4096 0)) 0 O (oct O) ≡ pack (r .output)
   unfolding outputValues
   given-output small =
-      let v : ℕ → ℕ = λ j. unmasked W n p (outputWire f j) (A + j) (spoken W n p A f j mem) in
+      let v : ℕ → ℕ = λ j. unmasked W n p (outputWire f j) (A + j) (outputsBroadcast W n p A f j mem) in
       let y : List ℕ = replicate 4096 0 in
       let l : length y ≡ 4096 = length-replicate {A = ℕ} 4096 0 in
       packed-all (fill (λ j. 16 * j) v O (replicate 4096 0)) 0 O (r .output) (gives .bits)

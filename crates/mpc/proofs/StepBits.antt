@@ -16,14 +16,14 @@ use Rattle.bits.specs.Xor.{_⊕_, xors}
 use Rattle.bits.proofs.Bitwise.{odd-xor, odd-and}
 use Rattle.bits.proofs.Numbers.{eq-or-ne, odd-bitVal}
 use Rattle.circuit.specs.Circuit.{put}
-use Rattle.mpc.specs.Run.{Column, next, plus, says, Hearing}
-use Rattle.engine.specs.Steps.{shareAt, valueAt, correctionAt, maskAt, saidAt, at, fill, xorBytes, maskByte, xorStep, invStep, correctionByte, correctStep, broadcastByte, broadcastStep, maskedProduct, takeStep, andStep}
+use Rattle.mpc.specs.Run.{Column, next, plus, broadcast, Channel}
+use Rattle.engine.specs.Steps.{shareAt, valueAt, correctionAt, maskAt, broadcastAt, at, fill, xorBytes, maskByte, xorStep, invStep, correctionByte, correctStep, broadcastByte, broadcastStep, maskedProduct, takeStep, andStep}
 use Rattle.engine.proofs.Fill.{fill-other}
-use Rattle.mpc.proofs.Holding.{put-at, odd-xorBytes, Holds, wire-step, said-step}
+use Rattle.mpc.proofs.Holding.{put-at, odd-xorBytes, Holds, wire-step, sent-step}
 
--- what is heard of the parties below n: of p the bit of its row, of the others what they say
-abbrev pub Hears : ℕ → ℕ → (ℕ → Bool) → Hearing → Type 0
-Hears n p row h = (u : ℕ) (x : Column) (i : ℕ) → i < n → h u x i ≡ put x p (row u) i
+-- what is delivered of the parties below n: of p the bit of its row, of the others what they broadcast
+abbrev pub Delivers : ℕ → ℕ → (ℕ → Bool) → Channel → Type 0
+Delivers n p row h = (u : ℕ) (x : Column) (i : ℕ) → i < n → h u x i ≡ put x p (row u) i
 
 -- the column x at first, and then those of z after its first
 abbrev pub first : Column → (ℕ → Column) → ℕ → Column
@@ -76,17 +76,17 @@ module _ (W n p A B t : ℕ) (mem : List ℕ) (past o z : ℕ → Column) (row :
       (λ i hi. holds .shares a i ha hi)
       (odd-xor 1 (at mem (valueAt W a)) ∙ ap₂ _⊕_ (odd-bitVal true) (holds .values a ha))
 
-  module _ (h : Hearing) (hears : Hears n p row h) (a b c : ℕ) (ha : a < W) (hb : b < W) (hc : c < W) (ht : t < A) (more : A ≤ B) where
-    -- what is heard of an AND gate
-    abbrev pub heard : Column
-    heard = h 0 (says (m a) (m b) (s a) (s b) (z 0) (o 0))
+  module _ (h : Channel) (delivers : Delivers n p row h) (a b c : ℕ) (ha : a < W) (hb : b < W) (hc : c < W) (ht : t < A) (more : A ≤ B) where
+    -- what is delivered of an AND gate
+    abbrev pub delivered : Column
+    delivered = h 0 (broadcast (m a) (m b) (s a) (s b) (z 0) (o 0))
 
-    -- party i's broadcast byte holds the bit that is heard
-    broadcast-bit : (i : ℕ) → i < n → odd (broadcastByte W p a b t mem i) ≡ heard i
-    unfolding broadcastByte says
+    -- party i's broadcast byte holds the bit that is delivered
+    broadcast-bit : (i : ℕ) → i < n → odd (broadcastByte W p a b t mem i) ≡ delivered i
+    unfolding broadcastByte broadcast
     broadcast-bit i hi =
-        put-at (says (m a) (m b) (s a) (s b) (z 0) (o 0)) p i (row 0) _
-        (λ e. rw (eq-eqb i p e) (ap (λ (j : ℕ). odd (at mem (saidAt W t j))) e ∙ holds .lent t 0 (omega arith) (omega arith) (omega arith)))
+        put-at (broadcast (m a) (m b) (s a) (s b) (z 0) (o 0)) p i (row 0) _
+        (λ e. rw (eq-eqb i p e) (ap (λ (j : ℕ). odd (at mem (broadcastAt W t j))) e ∙ holds .lent t 0 (omega arith) (omega arith) (omega arith)))
         (λ e. rw (ne-eqb i p e)
         (odd-xor _ _
         ∙ ap₂ _⊕_
@@ -97,21 +97,21 @@ module _ (W n p A B t : ℕ) (mem : List ℕ) (past o z : ℕ → Column) (row :
         (odd-and _ _ ∙ ap₂ _&&_ (holds .values b hb) (holds .shares a i ha hi)))
         (holds .parts t 0 i (omega arith) ht hi e))
         (holds .masks t 0 i (omega arith) ht hi)))
-        ∙ sym (hears 0 (says (m a) (m b) (s a) (s b) (z 0) (o 0)) i hi)
+        ∙ sym (delivers 0 (broadcast (m a) (m b) (s a) (s b) (z 0) (o 0)) i hi)
 
     -- an AND gate whose product shares stand in memory
-    pub and-agree : Holds W n p A B (suc t) (andStep W n p false a b c t mem) (put past t heard) (next o) (next z) (next row)
-        (put s c (o 0)) (put m c ((m a && m b) ⊕ xors n heard))
+    pub and-agree : Holds W n p A B (suc t) (andStep W n p false a b c t mem) (put past t delivered) (next o) (next z) (next row)
+        (put s c (o 0)) (put m c ((m a && m b) ⊕ xors n delivered))
     unfolding andStep takeStep broadcastStep maskedProduct
     and-agree =
         let f = broadcastByte W p a b t mem in
-        wire-step W n p A B (suc t) (fill (saidAt W t) f n mem) (put past t heard) (next o) (next z) (next row) s m few low near
-        (said-step W n p A B t mem past o z row s m few low near holds f heard (omega arith) broadcast-bit)
-        c (λ i. at (fill (saidAt W t) f n mem) (maskAt W t i)) (xorBytes f (bitAnd (at mem (valueAt W a)) (at mem (valueAt W b))) n)
-        (o 0) ((m a && m b) ⊕ xors n heard) hc
-        (λ i hi. ap odd (fill-other (saidAt W t) f mem n (maskAt W t i) (omega arith)) ∙ holds .masks t 0 i (omega arith) ht hi)
-        (odd-xorBytes f heard (bitAnd (at mem (valueAt W a)) (at mem (valueAt W b))) n broadcast-bit
-        ∙ ap (λ (x : Bool). x ⊕ xors n heard) (odd-and (at mem (valueAt W a)) (at mem (valueAt W b)) ∙ ap₂ _&&_ (holds .values a ha) (holds .values b hb)))
+        wire-step W n p A B (suc t) (fill (broadcastAt W t) f n mem) (put past t delivered) (next o) (next z) (next row) s m few low near
+        (sent-step W n p A B t mem past o z row s m few low near holds f delivered (omega arith) broadcast-bit)
+        c (λ i. at (fill (broadcastAt W t) f n mem) (maskAt W t i)) (xorBytes f (bitAnd (at mem (valueAt W a)) (at mem (valueAt W b))) n)
+        (o 0) ((m a && m b) ⊕ xors n delivered) hc
+        (λ i hi. ap odd (fill-other (broadcastAt W t) f mem n (maskAt W t i) (omega arith)) ∙ holds .masks t 0 i (omega arith) ht hi)
+        (odd-xorBytes f delivered (bitAnd (at mem (valueAt W a)) (at mem (valueAt W b))) n broadcast-bit
+        ∙ ap (λ (x : Bool). x ⊕ xors n delivered) (odd-and (at mem (valueAt W a)) (at mem (valueAt W b)) ∙ ap₂ _&&_ (holds .values a ha) (holds .values b hb)))
 
   -- nobody is hidden
   module _ (all : p ≡ n) (some : 1 ≤ n) (a b : ℕ) (ha : a < W) (hb : b < W) (ht : t < A) where
@@ -119,18 +119,18 @@ module _ (W n p A B t : ℕ) (mem : List ℕ) (past o z : ℕ → Column) (row :
     correction-bit : odd (correctionByte W n a b t mem) ≡ correction n (s a) (s b) (z 0)
     unfolding correctionByte
     correction-bit =
-        odd-xorBytes (λ i. at mem (saidAt W t i)) (z 0) (bitAnd (maskByte n mem a) (maskByte n mem b)) (n - 1)
+        odd-xorBytes (λ i. at mem (broadcastAt W t i)) (z 0) (bitAnd (maskByte n mem a) (maskByte n mem b)) (n - 1)
         (λ i l. holds .parts t 0 i (omega arith) ht (omega arith) (omega arith))
         ∙ ap (λ (x : Bool). x ⊕ xors (n - 1) (z 0))
         (odd-and (maskByte n mem a) (maskByte n mem b)
         ∙ ap₂ _&&_ (mask-bit n mem a (s a) (λ i hi. holds .shares a i ha hi)) (mask-bit n mem b (s b) (λ i hi. holds .shares b i hb hi)))
 
     -- places other than the two that the correction takes keep their bytes
-    pub correct-other : (j : ℕ) → j ≢ correctionAt W t → j ≢ saidAt W t (n - 1) → at (correctStep W n a b t mem) j ≡ at mem j
+    pub correct-other : (j : ℕ) → j ≢ correctionAt W t → j ≢ broadcastAt W t (n - 1) → at (correctStep W n a b t mem) j ≡ at mem j
     unfolding correctStep
     correct-other j d e =
         let y = correctionByte W n a b t mem in
-        getD-set-other (set mem (correctionAt W t) y) (saidAt W t (n - 1)) j y 0 e ∙ getD-set-other mem (correctionAt W t) j y 0 d
+        getD-set-other (set mem (correctionAt W t) y) (broadcastAt W t (n - 1)) j y 0 e ∙ getD-set-other mem (correctionAt W t) j y 0 d
 
     -- it is as long as before
     correct-length : length (correctStep W n a b t mem) ≡ length mem
@@ -143,18 +143,18 @@ module _ (W n p A B t : ℕ) (mem : List ℕ) (past o z : ℕ → Column) (row :
     correct-kept =
         let y = correctionByte W n a b t mem in
         ap odd
-        (getD-set-other (set mem (correctionAt W t) y) (saidAt W t (n - 1)) (correctionAt W t) y 0 (omega arith)
+        (getD-set-other (set mem (correctionAt W t) y) (broadcastAt W t (n - 1)) (correctionAt W t) y 0 (omega arith)
         ∙ getD-set-same mem (correctionAt W t) y 0 (omega (arith, holds .room)))
         ∙ correction-bit
 
     -- and it is party n − 1's product share
-    correct-last : (i : ℕ) → suc i ≡ n → odd (at (correctStep W n a b t mem) (saidAt W t i)) ≡ correction n (s a) (s b) (z 0)
+    correct-last : (i : ℕ) → suc i ≡ n → odd (at (correctStep W n a b t mem) (broadcastAt W t i)) ≡ correction n (s a) (s b) (z 0)
     unfolding correctStep
     correct-last i e =
         let y = correctionByte W n a b t mem in
         let q : i ≡ n - 1 = omega arith in
         rw q
-        (ap odd (getD-set-same (set mem (correctionAt W t) y) (saidAt W t (n - 1)) y 0 (simp length-set (omega (arith, holds .room)))) ∙ correction-bit)
+        (ap odd (getD-set-same (set mem (correctionAt W t) y) (broadcastAt W t (n - 1)) y 0 (simp length-set (omega (arith, holds .room)))) ∙ correction-bit)
 
     -- the memory with the correction holds the columns with it
     pub correct-agree : Holds W n p A B t (correctStep W n a b t mem) past o (first (withCorrection n (correction n (s a) (s b) (z 0)) (z 0)) z) row s m
@@ -171,8 +171,8 @@ module _ (W n p A B t : ℕ) (mem : List ℕ) (past o z : ℕ → Column) (row :
               rw r
               (with-at n (correction n (s a) (s b) (z 0)) (z 0) i _
               (λ l. correct-last i l)
-              (λ l. ap odd (other (saidAt W t i) (omega arith) (omega arith)) ∙ holds .parts t 0 i (omega arith) ht hi ne)))
-              (λ e. ap odd (other (saidAt W k i) (omega arith) (omega arith)) ∙ holds .parts k u i q hk hi ne);
+              (λ l. ap odd (other (broadcastAt W t i) (omega arith) (omega arith)) ∙ holds .parts t 0 i (omega arith) ht hi ne)))
+              (λ e. ap odd (other (broadcastAt W k i) (omega arith) (omega arith)) ∙ holds .parts k u i q hk hi ne);
           lent = λ k u q hk hp. absurd (omega arith);
-          said = λ k i hk hi. ap odd (other (saidAt W k i) (omega arith) (omega arith)) ∙ holds .said k i hk hi;
+          broadcasts = λ k i hk hi. ap odd (other (broadcastAt W k i) (omega arith) (omega arith)) ∙ holds .broadcasts k i hk hi;
         }

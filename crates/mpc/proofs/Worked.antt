@@ -8,7 +8,7 @@ use lib.ListN.{length, replicate}
 use Rattle.bits.specs.Bits.{oct, pack, bitAt, unusedZero}
 use Rattle.circuit.specs.File.{headOf, circuitOf}
 use Rattle.circuit.specs.declared.Sizes.{Sizes}
-use Rattle.engine.specs.Steps.{wireCount, unpacked, packed, packedRows, loadedTapes, maskedInputs, walked, spoken, outputValues}
+use Rattle.engine.specs.Steps.{wireCount, unpacked, packed, packedRows, loadedTapes, maskedInputs, walked, outputsBroadcast, outputValues}
 use Rattle.mpc.specs.Showing as shown
 use Rattle.mpc.specs.Showing.{correctionBits, runOn, honestRun, rowBits, rowsOf, firstBits, Showing, replayOf}
 use Rattle.mpc.specs.Operations.{ran}
@@ -30,9 +30,9 @@ runs s z n p h correcting m x l e = e ∙ ap (λ (j : ℕ). walked (wireCount z)
 
 -- then the outputs, with their values in y
 module _ (s : List ℕ) (z : Sizes) (n p : ℕ) (correcting : Bool) (m m1 : List ℕ) (e : m1 ≡ gatesRun s z n p correcting m) where
-  pub outputs-run : (x : List ℕ) → x ≡ spoken (wireCount z) n p (z .ands) s (z .outputs) m1 → x ≡ outputsRun s z n p correcting m
+  pub outputs-run : (x : List ℕ) → x ≡ outputsBroadcast (wireCount z) n p (z .ands) s (z .outputs) m1 → x ≡ outputsRun s z n p correcting m
   unfolding outputsRun
-  outputs-run x f = f ∙ ap (spoken (wireCount z) n p (z .ands) s (z .outputs)) e
+  outputs-run x f = f ∙ ap (outputsBroadcast (wireCount z) n p (z .ands) s (z .outputs)) e
 
   pub values-run : (y x : List ℕ) → x ≡ outputValues (wireCount z) n p (z .ands) s (z .outputs) m1 y → x ≡ valuesRun s z n p correcting m y
   unfolding valuesRun
@@ -176,7 +176,7 @@ module _ (s : List ℕ) (i o g a n : ℕ) (tapes m : List ℕ) (k : Known s (siz
         let h2 : q ≡ rowsOf n (runOn (circuitOf s) n w tapes (bitAt corr))
         = q2
         ∙ ap₂ (λ (x : List ℕ) (l : ℕ). packedRows (i + g) x n (a + o) l)
-        (e4 ∙ ap (λ (x : List ℕ). spoken (i + g) n n a s o (walked (i + g) n n false s g (headOf s) 0 (m4 x))) begins) t2
+        (e4 ∙ ap (λ (x : List ℕ). outputsBroadcast (i + g) n n a s o (walked (i + g) n n false s g (headOf s) 0 (m4 x))) begins) t2
         ∙ run-rows-agree s i o g a (headOf s) n (length m) (k .legal) refl (k .ands) (b .parties .some) (b .parties .few) (b .room) tapes w corr unused in
         let h3 : r ≡ pack (runOn (circuitOf s) n w tapes (bitAt corr) .output)
         = q3

@@ -36,39 +36,39 @@ corrected n cs z t i = cond (eqb (suc i) n) (cs t) (z t i)
 
 -- "For AND of a and b into c, a party broadcasts the XOR of four bits: masked a times its share of b's mask, masked b times its
 -- share of a's mask, its product share, its share of c's mask."
-unfoldable pub says : Bool → Bool → Column → Column → Column → Column → Column
-says ma mb sa sb z o i = (ma && sb i) ⊕ (mb && sa i) ⊕ z i ⊕ o i
+unfoldable pub broadcast : Bool → Bool → Column → Column → Column → Column → Column
+broadcast ma mb sa sb z o i = (ma && sb i) ⊕ (mb && sa i) ⊕ z i ⊕ o i
 
--- what is heard of each broadcast: all that the parties say, or of party p the bit of its row as lent
-abbrev pub Hearing : Type 0
-Hearing = ℕ → Column → Column
+-- the broadcast channel, which delivers the t-th broadcast: as sent, or with party p's bit as in its row (msgs_p)
+abbrev pub Channel : Type 0
+Channel = ℕ → Column → Column
 
-abbrev pub asSaid : Hearing
-asSaid t x = x
+abbrev pub asSent : Channel
+asSent t x = x
 
-abbrev pub asLent : ℕ → (ℕ → Bool) → Hearing
-asLent p row t x = put x p (row t)
+abbrev pub asShown : ℕ → (ℕ → Bool) → Channel
+asShown p row t x = put x p (row t)
 
 -- all that is broadcast, a column each, and the output bits
 pub record Transcript : Type 0 where
-  pub said : List Column
+  pub broadcasts : List Column
   pub output : List Bool
 
 -- "After the last gate each party broadcasts its mask shares of the O outputs": with masked values m; an output is its masked
 -- value XOR these
-unfoldable pub outputs : ℕ → List ℕ → Hearing → (ℕ → Column) → (ℕ → Bool) → Transcript
-outputs n [] h s m = record { said = []; output = [] }
+unfoldable pub outputs : ℕ → List ℕ → Channel → (ℕ → Column) → (ℕ → Bool) → Transcript
+outputs n [] h s m = record { broadcasts = []; output = [] }
 outputs n (w ∷ ws) h s m =
     let rest : Transcript = outputs n ws (next h) s m in
-    record { said = h 0 (s w) ∷ rest .said; output = (m w ⊕ xors n (h 0 (s w))) ∷ rest .output }
+    record { broadcasts = h 0 (s w) ∷ rest .broadcasts; output = (m w ⊕ xors n (h 0 (s w))) ∷ rest .output }
 
 -- the run of the gates and then of the outputs outs. "XOR and INV act on masked values as on values .. Masked c is masked a times
 -- masked b, XOR all broadcasts."
-unfoldable pub run : ℕ → List ℕ → List Gate → (ℕ → Column) → (ℕ → Column) → Hearing → (ℕ → Column) → (ℕ → Bool) → Transcript
+unfoldable pub run : ℕ → List ℕ → List Gate → (ℕ → Column) → (ℕ → Column) → Channel → (ℕ → Column) → (ℕ → Bool) → Transcript
 run n outs [] o z h s m = outputs n outs h s m
 run n outs (xor a b c ∷ gs) o z h s m = run n outs gs o z h (put s c (plus (s a) (s b))) (put m c (m a ⊕ m b))
 run n outs (and a b c ∷ gs) o z h s m =
-    let x : Column = h 0 (says (m a) (m b) (s a) (s b) (z 0) (o 0)) in
+    let x : Column = h 0 (broadcast (m a) (m b) (s a) (s b) (z 0) (o 0)) in
     let rest : Transcript = run n outs gs (next o) (next z) (next h) (put s c (o 0)) (put m c ((m a && m b) ⊕ xors n x)) in
-    record { said = x ∷ rest .said; output = rest .output }
+    record { broadcasts = x ∷ rest .broadcasts; output = rest .output }
 run n outs (inv a c ∷ gs) o z h s m = run n outs gs o z h (put s c (s a)) (put m c (not (m a)))

@@ -8,7 +8,7 @@ use lib.ListN.{length, getD, take, replicate}
 use Rattle.bits.specs.Bits.{tabulate, oct, pack, bitAt}
 use Rattle.bits.specs.Xor.{_⊕_, xors}
 use Rattle.circuit.specs.Circuit.{Circuit, ands}
-use Rattle.mpc.specs.Run.{Column, corrections, corrected, Hearing, asSaid, asLent, Transcript, run}
+use Rattle.mpc.specs.Run.{Column, corrections, corrected, Channel, asSent, asShown, Transcript, run}
 use Rattle.mpc.specs.Tapes.{andsOf, rowBytes, inputMasks, outputMasks, productShares, withRow}
 
 -- the correction bits of the AND gates in chain order
@@ -23,13 +23,13 @@ unfoldable pub maskedInputs : Circuit → ℕ → List ℕ → List ℕ → List
 maskedInputs c n witness tapes = pack (tabulate (c .inputs) (maskedInput c n witness tapes))
 
 -- the run with given corrections and masked inputs
-unfoldable pub runWith : Circuit → ℕ → List ℕ → (ℕ → Bool) → (ℕ → Bool) → Hearing → Transcript
-runWith c n tapes corrections masked heard =
-    run n (c .outputs) (c .gates) (outputMasks c tapes) (corrected n corrections (productShares c tapes)) heard (inputMasks c tapes) masked
+unfoldable pub runWith : Circuit → ℕ → List ℕ → (ℕ → Bool) → (ℕ → Bool) → Channel → Transcript
+runWith c n tapes corrections masked channel =
+    run n (c .outputs) (c .gates) (outputMasks c tapes) (corrected n corrections (productShares c tapes)) channel (inputMasks c tapes) masked
 
--- the run on a witness: all hear what is said
+-- the run on a witness: each broadcast is delivered as sent
 unfoldable pub runOn : Circuit → ℕ → List ℕ → List ℕ → (ℕ → Bool) → Transcript
-runOn c n witness tapes corrections = runWith c n tapes corrections (maskedInput c n witness tapes) asSaid
+runOn c n witness tapes corrections = runWith c n tapes corrections (maskedInput c n witness tapes) asSent
 
 -- the run whose corrections are the right ones
 unfoldable pub honestRun : Circuit → ℕ → List ℕ → List ℕ → Transcript
@@ -37,7 +37,7 @@ honestRun c n witness tapes = runOn c n witness tapes (λ t. getD (correctionBit
 
 -- "A broadcast row holds A + O bits": party i's
 unfoldable pub rowBits : Transcript → ℕ → List Bool
-rowBits r i = map (λ (x : Column). x i) (r .said)
+rowBits r i = map (λ (x : Column). x i) (r .broadcasts)
 
 -- the n broadcast rows, one after the other
 unfoldable pub rowsOf : ℕ → Transcript → List ℕ
@@ -75,4 +75,4 @@ showing c n p g witness tapes = record {
 
 -- the replay of a showing: party p's broadcasts are those of its row
 unfoldable pub replayOf : Circuit → ℕ → ℕ → Showing → Transcript
-replayOf c n p x = runWith c n (x .tapes) (bitAt (x .corrections)) (bitAt (x .maskedInputs)) (asLent p (bitAt (x .row)))
+replayOf c n p x = runWith c n (x .tapes) (bitAt (x .corrections)) (bitAt (x .maskedInputs)) (asShown p (bitAt (x .row)))

@@ -10,7 +10,7 @@ use Rattle.circuit.specs.Circuit.{ands}
 use Rattle.circuit.specs.File.{headOf, gatesInOrder}
 use Rattle.circuit.specs.Steps.{Legal}
 use Rattle.circuit.specs.declared.Sizes.{Sizes}
-use Rattle.engine.specs.Steps.{wireCount, walked, spoken, outputValues, unpacked, loadedTapes, maskedInputs}
+use Rattle.engine.specs.Steps.{wireCount, walked, outputsBroadcast, outputValues, unpacked, loadedTapes, maskedInputs}
 use Rattle.mpc.specs.Showing.{Showing}
 
 -- a legal file with its I, O, G and A
@@ -63,7 +63,7 @@ gatesRun s z n p correcting m = walked (wireCount z) n p correcting s (z .gates)
 
 -- then its output wires
 unfoldable pub outputsRun : List ℕ → Sizes → ℕ → ℕ → Bool → List ℕ → List ℕ
-outputsRun s z n p correcting m = spoken (wireCount z) n p (z .ands) s (z .outputs) (gatesRun s z n p correcting m)
+outputsRun s z n p correcting m = outputsBroadcast (wireCount z) n p (z .ands) s (z .outputs) (gatesRun s z n p correcting m)
 
 -- their values, in y
 unfoldable pub valuesRun : List ℕ → Sizes → ℕ → ℕ → Bool → List ℕ → List ℕ → List ℕ

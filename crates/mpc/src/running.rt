@@ -42,12 +42,12 @@ fn run_in(
     ensures { λ _. ⌜ now (masked .exit) ∷ now (rows .exit) ∷ now (y .exit) ∷ [] ≡ ran (circuitOf (now (s .entry))) n (now (witness .entry)) (now (tapes .entry)) (now (corrections .entry)) ⌝ }
 {
     let wires = z.inputs + z.gates;
-    let said = z.ands + z.outputs;
+    let broadcasts = z.ands + z.outputs;
     let mut values = [0u8; 4096];
     load(s, z, n, tapes, memory);
     unpack(corrections, 0, z.ands, memory, 48 * wires + (n - 1));
     run_masked(s, z, n, witness, false, masked, memory, &mut values);
-    pack_rows(memory, wires, n, said, bits::oct(said), rows);
+    pack_rows(memory, wires, n, broadcasts, bits::oct(broadcasts), rows);
     pack(&values, 0, z.outputs, y);
 }
 

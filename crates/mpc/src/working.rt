@@ -8,7 +8,7 @@ ghost use Rattle.engine.specs.Steps.{wireCount, packed, maskedInputs};
 ghost use Rattle.mpc.specs.Showing.{maskedInputs as «masked-inputs»};
 ghost use Rattle.mpc.specs.Steps.{Known, Parties, Begun, TapesFit, WitnessFits, ShowingFits, loaded, gatesRun, outputsRun, valuesRun, worked, replayed, replayedValues};
 use circuit::Sizes;
-use engine::chain::speak;
+use engine::chain::broadcast_outputs;
 use engine::chain::walk;
 use engine::memory::load_tapes;
 use engine::memory::mask_inputs;
@@ -49,7 +49,7 @@ pub fn run_outputs(
     ensures { λ _. ⌜ now (values .exit) ≡ valuesRun (now (s .entry)) z n p correcting (now (memory .entry)) (now (values .entry)) ⌝ }
 {
     run_gates(s, z, n, p, correcting, memory);
-    speak(s, z, n, p, memory, values);
+    broadcast_outputs(s, z, n, p, memory, values);
 }
 
 // Masks the inputs of a witness, packs them, and runs the circuit on them.

@@ -73,13 +73,13 @@ pub values-room : 4096 ≤ length (replicate {A = ℕ} 4096 0)
 values-room = omega (arith, length-replicate {A = ℕ} 4096 0)
 
 -- the rows packed where good
-module _ (good : Bool) (w : ℕ) (m : List ℕ) (n said : ℕ) (rows : List ℕ) where
-  pub packed-good : good ≡ true → (len : ℕ) (x : List ℕ) → len ≡ oct said → x ≡ packedRows w m n said len
-      → x ≡ cond good (packedRows w m n said (oct said)) rows
-  packed-good t len x e z = z ∙ ap (packedRows w m n said) e ∙ sym (ap (λ (j : Bool). cond j (packedRows w m n said (oct said)) rows) t)
+module _ (good : Bool) (w : ℕ) (m : List ℕ) (n broadcasts : ℕ) (rows : List ℕ) where
+  pub packed-good : good ≡ true → (len : ℕ) (x : List ℕ) → len ≡ oct broadcasts → x ≡ packedRows w m n broadcasts len
+      → x ≡ cond good (packedRows w m n broadcasts (oct broadcasts)) rows
+  packed-good t len x e z = z ∙ ap (packedRows w m n broadcasts) e ∙ sym (ap (λ (j : Bool). cond j (packedRows w m n broadcasts (oct broadcasts)) rows) t)
 
-  pub packed-not : good ≡ false → rows ≡ cond good (packedRows w m n said (oct said)) rows
-  packed-not t = sym (ap (λ (j : Bool). cond j (packedRows w m n said (oct said)) rows) t)
+  pub packed-not : good ≡ false → rows ≡ cond good (packedRows w m n broadcasts (oct broadcasts)) rows
+  packed-not t = sym (ap (λ (j : Bool). cond j (packedRows w m n broadcasts (oct broadcasts)) rows) t)
 
 -- the answer, and the rows x that are left, as a work memory m that was clear gives them
 pub replayed-right : (s : List ℕ) (i o g a n p : ℕ) (tapes corr masked row m : List ℕ) → Known s (sized i o g a) → Begun (sized i o g a) n m → p < n

@@ -39,12 +39,12 @@ pub fn outputs_are(values: &[u8], outputs: usize, y: &[u8]) -> bool
 }
 
 // Packs the broadcast rows of n parties where good; else leaves them as they were.
-fn pack_if(good: bool, memory: &[u8], wires: usize, n: usize, said: usize, rows: &mut [u8])
-    requires { ⌜ Room wires n (now memory) × ((said ≤ wires + maxOutputs) × (length (now rows) ≡ n * oct said)) ⌝ }
-    ensures { λ _. ⌜ now (rows .exit) ≡ cond good (packedRows wires (now (memory .entry)) n said (oct said)) (now (rows .entry)) ⌝ }
+fn pack_if(good: bool, memory: &[u8], wires: usize, n: usize, broadcasts: usize, rows: &mut [u8])
+    requires { ⌜ Room wires n (now memory) × ((broadcasts ≤ wires + maxOutputs) × (length (now rows) ≡ n * oct broadcasts)) ⌝ }
+    ensures { λ _. ⌜ now (rows .exit) ≡ cond good (packedRows wires (now (memory .entry)) n broadcasts (oct broadcasts)) (now (rows .entry)) ⌝ }
 {
     if good {
-        pack_rows(memory, wires, n, said, bits::oct(said), rows);
+        pack_rows(memory, wires, n, broadcasts, bits::oct(broadcasts), rows);
     }
 }
 
@@ -66,7 +66,7 @@ fn replay_in(
     ensures { λ r. ⌜ (r ≡ sameBytes (pack (replayOf (circuitOf (now (s .entry))) n p (record { tapes = now (tapes .entry); corrections = now (corrections .entry); maskedInputs = now (masked .entry); row = now (row .entry) }) .output)) (now (y .entry))) × (now (rows .exit) ≡ cond r (rowsOf n (replayOf (circuitOf (now (s .entry))) n p (record { tapes = now (tapes .entry); corrections = now (corrections .entry); maskedInputs = now (masked .entry); row = now (row .entry) }))) (now (rows .entry))) ⌝ }
 {
     let wires = z.inputs + z.gates;
-    let said = z.ands + z.outputs;
+    let broadcasts = z.ands + z.outputs;
     let mut values = [0u8; 4096];
     run_opened(
         s,
@@ -81,7 +81,7 @@ fn replay_in(
         memory,
     );
     let good = outputs_are(&values, z.outputs, y);
-    pack_if(good, memory, wires, n, said, rows);
+    pack_if(good, memory, wires, n, broadcasts, rows);
     good
 }
 

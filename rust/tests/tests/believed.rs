@@ -114,18 +114,23 @@ fn stated(specs: &Specs) -> BTreeSet<Item> {
     found
 }
 
-#[test]
-fn no_step_is_believed() {
-    let specs = Specs::read();
-    let (promised, operations) = promised(&specs);
-    let stated = stated(&specs);
+/// What the promises of all operations and the statements of all theorems stand
+/// on.
+fn believed(specs: &Specs) -> BTreeSet<Item> {
+    let (promised, operations) = promised(specs);
+    let stated = stated(specs);
     assert!(
         operations >= 30 && stated.len() >= 10,
         "{operations} {}",
         stated.len()
     );
-    let from: BTreeSet<Item> = promised.union(&stated).cloned().collect();
-    let believed = specs.closure(from);
+    specs.closure(promised.union(&stated).cloned().collect())
+}
+
+#[test]
+fn no_step_is_believed() {
+    let specs = Specs::read();
+    let believed = believed(&specs);
     let mut lines: BTreeMap<String, usize> = BTreeMap::new();
     for item in &believed {
         let file = format!("{}/specs/{}", item.krate, item.file);
@@ -145,6 +150,17 @@ fn no_step_is_believed() {
         .filter(|item| item.file == "Steps")
         .collect();
     assert!(steps.is_empty(), "steps are believed: {steps:#?}");
+}
+
+/// What nothing believed stands on is in `Steps`, so that the other files hold
+/// what must be read and no more.
+#[test]
+fn what_is_not_believed_is_a_step() {
+    let specs = Specs::read();
+    let believed = believed(&specs);
+    let other = |item: &Item| item.file != "Steps" && !believed.contains(item);
+    let idle: Vec<Item> = specs.all().into_iter().filter(other).collect();
+    assert!(idle.is_empty(), "not believed: {idle:#?}");
 }
 
 /// A name is followed from an operation through several files.

@@ -11,8 +11,8 @@ use Rattle.replaying.proofs.replay_in.Tie as tie
 add-wires : tie.Need-add-wires
 add-wires c = omega (arith, c .before .before .before .before .before .before .before .before .before .pre .0 .legal .laid .few-inputs, c .before .before .before .before .before .before .before .before .before .pre .0 .legal .laid .few-gates)
 
-add-said : tie.Need-add-said
-add-said c = broadcasts-small _ _ _ _ _ (c .before .before .before .before .before .before .before .before .before .before .pre .0)
+add-broadcasts : tie.Need-add-broadcasts
+add-broadcasts c = broadcasts-small _ _ _ _ _ (c .before .before .before .before .before .before .before .before .before .before .pre .0)
 
 slice-aggregate-run-opened : tie.Need-slice-aggregate-run-opened
 slice-aggregate-run-opened c = refl
@@ -53,7 +53,7 @@ replay-in-spec =
     tie.close
     (tie.spec
     add-wires
-    add-said
+    add-broadcasts
     slice-aggregate-run-opened
     run-opened-requires
     slice-aggregate-outputs-are

@@ -5,7 +5,7 @@ use mathlib.Core.Path.{_≡_, refl, _∙_}
 use Prim.Native.Nat.{_-_, _≤_}
 use lib.ListN.{length, length-set}
 use lib.Bits.{bitAnd}
-use Rattle.engine.specs.Steps.{valueAt, saidAt, at, fill, xorBytes, broadcastByte, broadcastStep, maskedProduct}
+use Rattle.engine.specs.Steps.{valueAt, broadcastAt, at, fill, xorBytes, broadcastByte, broadcastStep, maskedProduct}
 use Rattle.engine.proofs.Fill.{fill-none, fill-turn, xorBytes-none, xorBytes-turn}
 use Rattle.engine.proofs.Turns.{broadcast-turn}
 use Rattle.engine.proofs.gates.broadcast.Statement.{statement}
@@ -15,7 +15,7 @@ abbrev Inv-loop : tie.InvT-loop
 Inv-loop memory₀ wires n p a b t last sum₀ x y i₀ memory sum i =
     (i ≤ n)
     × ((length memory ≡ length memory₀)
-    × ((memory ≡ fill (saidAt wires t) (broadcastByte wires p a b t memory₀) i memory₀)
+    × ((memory ≡ fill (broadcastAt wires t) (broadcastByte wires p a b t memory₀) i memory₀)
     × (sum ≡ xorBytes (broadcastByte wires p a b t memory₀) (bitAnd (at memory₀ (valueAt wires a)) (at memory₀ (valueAt wires b))) i)))
 
 abbrev μ-loop : tie.MeasureT-loop
@@ -66,7 +66,7 @@ loop-holds c =
       (
         refl,
         (
-          fill-none (saidAt (x .wires) (x .t)) f (x .memory .now),
+          fill-none (broadcastAt (x .wires) (x .t)) f (x .memory .now),
           c .before .before .before .before .product .ensures ∙ xorBytes-none f _,
         ),
       ),
@@ -165,7 +165,7 @@ loop-again c =
       (
         simp length-set (omega arith),
         (
-          fill-turn (saidAt (x .wires) (x .t)) f m (l .memory) (l .i) _ (c .unless-hidden .result) (l .inv .1 .1 .0) refl v,
+          fill-turn (broadcastAt (x .wires) (x .t)) f m (l .memory) (l .i) _ (c .unless-hidden .result) (l .inv .1 .1 .0) refl v,
           xorBytes-turn f _ (l .sum) (l .i) (c .unless-hidden .result) (l .inv .1 .1 .1) v,
         ),
       ),

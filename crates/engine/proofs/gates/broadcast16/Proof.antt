@@ -41,35 +41,35 @@ add-m c = search needs
 read-u64-requires : tie.Need-read-u64-requires
 read-u64-requires c κs = search needs
 
-mul-said8 : tie.Need-mul-said8
-mul-said8 c = search needs
+mul-terms8 : tie.Need-mul-terms8
+mul-terms8 c = search needs
 
-mul-said8-2 : tie.Need-mul-said8-2
-mul-said8-2 c = search needs
+mul-terms8-2 : tie.Need-mul-terms8-2
+mul-terms8-2 c = search needs
 
-said8-requires : tie.Need-said8-requires
-said8-requires c κs = search needs
+terms8-requires : tie.Need-terms8-requires
+terms8-requires c κs = search needs
 
 unless-hidden8-requires : tie.Need-unless-hidden8-requires
 unless-hidden8-requires c κs = search needs
 
-mul-said8-3 : tie.Need-mul-said8-3
-mul-said8-3 c = search needs
+mul-terms8-3 : tie.Need-mul-terms8-3
+mul-terms8-3 c = search needs
 
-add-said8 : tie.Need-add-said8
-add-said8 c = search needs
+add-terms8 : tie.Need-add-terms8
+add-terms8 c = search needs
 
-mul-said8-4 : tie.Need-mul-said8-4
-mul-said8-4 c = search needs
+mul-terms8-4 : tie.Need-mul-terms8-4
+mul-terms8-4 c = search needs
 
-add-said8-2 : tie.Need-add-said8-2
-add-said8-2 c = search needs
+add-terms8-2 : tie.Need-add-terms8-2
+add-terms8-2 c = search needs
 
-add-said8-3 : tie.Need-add-said8-3
-add-said8-3 c = search needs
+add-terms8-3 : tie.Need-add-terms8-3
+add-terms8-3 c = search needs
 
-said8-requires-2 : tie.Need-said8-requires-2
-said8-requires-2 c κs = search needs
+terms8-requires-2 : tie.Need-terms8-requires-2
+terms8-requires-2 c κs = search needs
 
 unless-hidden8-requires-2 : tie.Need-unless-hidden8-requires-2
 unless-hidden8-requires-2 c κs = search needs
@@ -88,10 +88,10 @@ unfolding broadcastStep maskedProduct
 returns c =
     let put = c .before .before .before in
     let hidden2 = put .before .before in
-    let said2 = hidden2 .before in
-    let hidden1 = said2 .before .before in
-    let said1 = hidden1 .before in
-    let read = said1 .before .before in
+    let terms2 = hidden2 .before in
+    let hidden1 = terms2 .before .before in
+    let terms1 = hidden1 .before in
+    let read = terms1 .before .before in
     let taken2 = read .before .before in
     let taken1 = taken2 .before .before in
     let product = taken1 .before .before in
@@ -106,7 +106,7 @@ returns c =
     let hi = hidden2 .unless-hidden82 .result in
     let s = 48 * x .wires + 16 * x .t in
     let k = 32 * x .wires + 16 * x .t in
-    let low = broadcast-word m small (x .wires) 16 (x .p) (x .a) (x .b) (x .t) 0 (16 * x .a) (16 * x .b) s k u v (read .read-u64 .result) (said1 .said8 .result) lo
+    let low = broadcast-word m small (x .wires) 16 (x .p) (x .a) (x .b) (x .t) 0 (16 * x .a) (16 * x .b) s k u v (read .read-u64 .result) (terms1 .terms8 .result) lo
     (omega arith)
     (omega arith)
     (omega arith)
@@ -116,9 +116,9 @@ returns c =
     (taken1 .taken .ensures)
     (taken2 .taken2 .ensures)
     (read .read-u64 .ensures)
-    (said1 .said8 .ensures)
+    (terms1 .terms8 .ensures)
     (hidden1 .unless-hidden8 .ensures) in
-    let high = broadcast-word m small (x .wires) 16 (x .p) (x .a) (x .b) (x .t) 8 (16 * x .a + 8) (16 * x .b + 8) (s + 8) (k + 8) u v (x .last) (said2 .said82 .result) hi
+    let high = broadcast-word m small (x .wires) 16 (x .p) (x .a) (x .b) (x .t) 8 (16 * x .a + 8) (16 * x .b + 8) (s + 8) (k + 8) u v (x .last) (terms2 .terms82 .result) hi
     (omega arith)
     (omega arith)
     (omega arith)
@@ -128,7 +128,7 @@ returns c =
     (taken1 .taken .ensures)
     (taken2 .taken2 .ensures)
     (known .before .pre .1)
-    (said2 .said82 .ensures)
+    (terms2 .terms82 .ensures)
     (hidden2 .unless-hidden82 .ensures) in (
       put .put .ensures ∙ row-stored f lo hi s m low high,
       ap (λ (k : ℕ). bitXor k (c .fold .result)) (product .product .ensures)
@@ -149,16 +149,16 @@ broadcast16-spec =
     mul-m-2
     add-m
     read-u64-requires
-    mul-said8
-    mul-said8-2
-    said8-requires
+    mul-terms8
+    mul-terms8-2
+    terms8-requires
     unless-hidden8-requires
-    mul-said8-3
-    add-said8
-    mul-said8-4
-    add-said8-2
-    add-said8-3
-    said8-requires-2
+    mul-terms8-3
+    add-terms8
+    mul-terms8-4
+    add-terms8-2
+    add-terms8-3
+    terms8-requires-2
     unless-hidden8-requires-2
     put-requires
     fold-requires

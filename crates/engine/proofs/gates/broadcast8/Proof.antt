@@ -29,14 +29,14 @@ mul-m-2 c = search needs
 add-m : tie.Need-add-m
 add-m c = search needs
 
-mul-said8 : tie.Need-mul-said8
-mul-said8 c = search needs
+mul-terms8 : tie.Need-mul-terms8
+mul-terms8 c = search needs
 
-mul-said8-2 : tie.Need-mul-said8-2
-mul-said8-2 c = search needs
+mul-terms8-2 : tie.Need-mul-terms8-2
+mul-terms8-2 c = search needs
 
-said8-requires : tie.Need-said8-requires
-said8-requires c κs = search needs
+terms8-requires : tie.Need-terms8-requires
+terms8-requires c κs = search needs
 
 unless-hidden8-requires : tie.Need-unless-hidden8-requires
 unless-hidden8-requires c κs = search needs
@@ -64,8 +64,8 @@ unfolding broadcastStep maskedProduct
 returns c =
     let write = c .before .before .before in
     let hidden = write .before .before in
-    let said = hidden .before in
-    let taken2 = said .before .before in
+    let terms = hidden .before in
+    let taken2 = terms .before .before in
     let taken1 = taken2 .before .before in
     let product = taken1 .before .before in
     let known = product .before .before in
@@ -78,7 +78,7 @@ returns c =
     let new = hidden .unless-hidden8 .result in
     let s = 48 * x .wires + 16 * x .t in
     let k = 32 * x .wires + 16 * x .t in
-    let holds = broadcast-word m small (x .wires) 8 (x .p) (x .a) (x .b) (x .t) 0 (16 * x .a) (16 * x .b) s k u v (x .last) (said .said8 .result) new
+    let holds = broadcast-word m small (x .wires) 8 (x .p) (x .a) (x .b) (x .t) 0 (16 * x .a) (16 * x .b) s k u v (x .last) (terms .terms8 .result) new
     (omega arith)
     (omega arith)
     (omega arith)
@@ -88,7 +88,7 @@ returns c =
     (taken1 .taken .ensures)
     (taken2 .taken2 .ensures)
     (known .before .pre .1)
-    (said .said8 .ensures)
+    (terms .terms8 .ensures)
     (hidden .unless-hidden8 .ensures) in (
       write .write-u64 .ensures ∙ word-stored f new s m holds,
       ap (λ (k : ℕ). bitXor k (c .fold .result)) (product .product .ensures)
@@ -105,9 +105,9 @@ broadcast8-spec =
     mul-m
     mul-m-2
     add-m
-    mul-said8
-    mul-said8-2
-    said8-requires
+    mul-terms8
+    mul-terms8-2
+    terms8-requires
     unless-hidden8-requires
     mul-write-u64
     mul-write-u64-2

@@ -4,7 +4,7 @@ use native.Mathlib.Omega.{arith}
 use mathlib.Core.Path.{_≡_, refl, _∙_, ap₂}
 use Prim.Native.Nat.{_-_, _≤_}
 use lib.Bits.{bitAnd}
-use Rattle.engine.specs.Steps.{at, saidAt, xorBytes, maskByte, correctionByte}
+use Rattle.engine.specs.Steps.{at, broadcastAt, xorBytes, maskByte, correctionByte}
 use Rattle.engine.proofs.Fill.{xorBytes-none, xorBytes-turn}
 use Rattle.engine.proofs.Words.{sum-but-last}
 use Rattle.engine.proofs.gates.correction.Statement.{statement}
@@ -12,7 +12,7 @@ use Rattle.engine.proofs.gates.correction.Tie as tie
 
 abbrev Inv-loop : tie.InvT-loop
 Inv-loop memory wires n a b t sum₀ k j₀ sum j =
-    (j ≤ n - 1) × (sum ≡ xorBytes (λ i. at memory (saidAt wires t i)) (bitAnd (maskByte n memory a) (maskByte n memory b)) j)
+    (j ≤ n - 1) × (sum ≡ xorBytes (λ i. at memory (broadcastAt wires t i)) (bitAnd (maskByte n memory a) (maskByte n memory b)) j)
 
 abbrev μ-loop : tie.MeasureT-loop
 μ-loop memory wires n a b t sum₀ k j₀ sum j = n - j
@@ -48,7 +48,7 @@ returns c =
     let x = masks .before .before .before .args in
     let m = x .memory .now in
     let e : x .n ≡ 16 = omega arith in
-    sum-but-last (λ i. at m (saidAt (x .wires) (x .t) i)) 15 (bitAnd (masks .before .mask .result) (masks .mask2 .result)) (bitAnd (maskByte (x .n) m (x .a)) (maskByte (x .n) m (x .b))) (c .before .sum16 .result) (x .n)
+    sum-but-last (λ i. at m (broadcastAt (x .wires) (x .t) i)) 15 (bitAnd (masks .before .mask .result) (masks .mask2 .result)) (bitAnd (maskByte (x .n) m (x .a)) (maskByte (x .n) m (x .b))) (c .before .sum16 .result) (x .n)
     e
     (ap₂ bitAnd (masks .before .mask .ensures) (masks .mask2 .ensures))
     (c .before .sum16 .ensures)
@@ -69,7 +69,7 @@ returns-2 c =
     let x = masks .before .before .before .args in
     let m = x .memory .now in
     let e : x .n ≡ 8 = omega arith in
-    sum-but-last (λ i. at m (saidAt (x .wires) (x .t) i)) 7 (bitAnd (masks .before .mask .result) (masks .mask2 .result)) (bitAnd (maskByte (x .n) m (x .a)) (maskByte (x .n) m (x .b))) (c .before .sum8 .result) (x .n)
+    sum-but-last (λ i. at m (broadcastAt (x .wires) (x .t) i)) 7 (bitAnd (masks .before .mask .result) (masks .mask2 .result)) (bitAnd (maskByte (x .n) m (x .a)) (maskByte (x .n) m (x .b))) (c .before .sum8 .result) (x .n)
     e
     (ap₂ bitAnd (masks .before .mask .ensures) (masks .mask2 .ensures))
     (c .before .sum8 .ensures)

@@ -4,7 +4,7 @@ use native.Mathlib.Omega.{arith}
 use mathlib.Core.Path.{_≡_, refl}
 use Prim.Native.Nat.{_-_, _≤_}
 use lib.ListN.{length, length-set}
-use Rattle.engine.specs.Steps.{saidAt, fill, xorBytes, outputByte, outputStep, unmasked}
+use Rattle.engine.specs.Steps.{broadcastAt, fill, xorBytes, outputByte, outputStep, unmasked}
 use Rattle.engine.proofs.Fill.{fill-none, fill-turn, xorBytes-none, xorBytes-turn}
 use Rattle.engine.proofs.Turns.{output-turn}
 use Rattle.engine.proofs.gates.output.Statement.{statement}
@@ -14,7 +14,7 @@ abbrev Inv-loop : tie.InvT-loop
 Inv-loop memory₀ wires n p w t sum₀ i₀ memory sum i =
     (i ≤ n)
     × ((length memory ≡ length memory₀)
-    × ((memory ≡ fill (saidAt wires t) (outputByte wires p w t memory₀) i memory₀)
+    × ((memory ≡ fill (broadcastAt wires t) (outputByte wires p w t memory₀) i memory₀)
     × (sum ≡ xorBytes (outputByte wires p w t memory₀) sum₀ i)))
 
 abbrev μ-loop : tie.MeasureT-loop
@@ -62,7 +62,7 @@ loop-holds : tie.Need-loop-holds Inv-loop μ-loop
 loop-holds c =
     let x = c .before .before .before .before .args in
     let f = outputByte (x .wires) (x .p) (x .w) (x .t) (x .memory .now) in
-    (omega arith, (refl, (fill-none (saidAt (x .wires) (x .t)) f (x .memory .now), xorBytes-none f _)))
+    (omega arith, (refl, (fill-none (broadcastAt (x .wires) (x .t)) f (x .memory .now), xorBytes-none f _)))
 
 mul-unless-hidden : tie.Need-mul-unless-hidden Inv-loop μ-loop
 mul-unless-hidden c = omega arith
@@ -124,7 +124,7 @@ loop-again c =
       (
         simp length-set (omega arith),
         (
-          fill-turn (saidAt (x .wires) (x .t)) f m (l .memory) (l .i) _ (c .unless-hidden .result) (l .inv .1 .1 .0) refl v,
+          fill-turn (broadcastAt (x .wires) (x .t)) f m (l .memory) (l .i) _ (c .unless-hidden .result) (l .inv .1 .1 .0) refl v,
           xorBytes-turn f _ (l .sum) (l .i) (c .unless-hidden .result) (l .inv .1 .1 .1) v,
         ),
       ),

@@ -8,14 +8,14 @@ use borrow.Rule.Slice.PartMut.{same-len-mid}
 use lib.ListN.{length, take}
 use Rattle.bits.specs.Bits.{tabulate}
 use Rattle.bits.proofs.Rows.{row-fits}
-use Rattle.engine.specs.Steps.{saidAt, packed}
+use Rattle.engine.specs.Steps.{broadcastAt, packed}
 use Rattle.engine.proofs.Loading.{length-packed, part-length, rows-none, rows-turn, row-packed, rows-end}
 use Rattle.engine.proofs.memory.pack_rows.Statement.{statement}
 use Rattle.engine.proofs.memory.pack_rows.Tie as tie
 
 abbrev Inv-loop : tie.InvT-loop
 Inv-loop memory wires n shown len rows₀ i₀ rows i =
-    (i ≤ n) × ((length rows ≡ length rows₀) × (take (i * len) rows ≡ flatten (tabulate i (λ k. packed memory (saidAt wires 0 k) shown len))))
+    (i ≤ n) × ((length rows ≡ length rows₀) × (take (i * len) rows ≡ flatten (tabulate i (λ k. packed memory (broadcastAt wires 0 k) shown len))))
 
 abbrev μ-loop : tie.MeasureT-loop
 μ-loop memory wires n shown len rows₀ i₀ rows i = n - i
@@ -68,7 +68,7 @@ loop-again c =
       omega arith,
       (
         same-len-mid (l .i * x .len) (l .i * x .len + x .len - l .i * x .len) (l .rows) z (p .kept .1 .1 .1 .0) ∙ l .inv .1 .0,
-        rows-turn (x .len) (l .i) (λ k. packed (x .memory .now) (saidAt (x .wires) 0 k) (x .shown) (x .len)) (l .rows) z (inside w) (ap length q ∙ length-packed _ _ _ _) (l .inv .1 .1) q,
+        rows-turn (x .len) (l .i) (λ k. packed (x .memory .now) (broadcastAt (x .wires) 0 k) (x .shown) (x .len)) (l .rows) z (inside w) (ap length q ∙ length-packed _ _ _ _) (l .inv .1 .1) q,
       ),
     )
 

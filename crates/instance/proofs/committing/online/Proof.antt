@@ -6,7 +6,7 @@ use native.Mathlib.Omega.{arith}
 use Prim.Native.Nat.{ℕ, _-_, _≤_}
 use lib.ListN.{length, length-replicate}
 use Rattle.bits.specs.Bits.{tabulate}
-use Rattle.engine.specs.Steps.{saidAt, packed}
+use Rattle.engine.specs.Steps.{broadcastAt, packed}
 use Rattle.hashing.specs.Inputs.{onlineInput}
 use Rattle.hashing.specs.Steps.{taken}
 use Rattle.hashing.proofs.Digests.{taken-room}
@@ -15,11 +15,11 @@ use Rattle.instance.proofs.committing.online.Statement.{statement}
 use Rattle.instance.proofs.committing.online.Tie as tie
 
 abbrev Inv-loop : tie.InvT-loop
-Inv-loop j masked memory wires n said len row₀ s₀ i₀ row s i =
-    (i ≤ n) × ((length row ≡ 608) × (s ≡ taken (onlineInput j masked (flatten (tabulate i (λ k. packed memory (saidAt wires 0 k) said len))))))
+Inv-loop j masked memory wires n broadcasts len row₀ s₀ i₀ row s i =
+    (i ≤ n) × ((length row ≡ 608) × (s ≡ taken (onlineInput j masked (flatten (tabulate i (λ k. packed memory (broadcastAt wires 0 k) broadcasts len))))))
 
 abbrev μ-loop : tie.MeasureT-loop
-μ-loop j masked memory wires n said len row₀ s₀ i₀ row s i = n - i
+μ-loop j masked memory wires n broadcasts len row₀ s₀ i₀ row s i = n - i
 
 oct-requires : tie.Need-oct-requires Inv-loop μ-loop
 oct-requires c κs = tt
@@ -76,7 +76,7 @@ loop-again c =
       omega (arith, c .before .before .before .before .before .loop-test .taken),
       (
         put-length (c .before .before .before .before .before .before .before .before .before .oct .result) (l .row) z f (l .inv .1 .0) (c .before .before .before .pack .kept .1 .1 .1 .0),
-        online-turn (c .before .before .before .before .before .before .before .before .before .oct .result) (l .row) z f (l .inv .1 .0) (c .before .before .before .pack .kept .1 .1 .1 .0) (x .j) (x .wires) (l .i) (x .said) (x .masked .now) (x .memory .now) (l .s) _ (l .inv .1 .1) (c .before .before .before .pack .ensures) (c .absorb2 .ensures),
+        online-turn (c .before .before .before .before .before .before .before .before .before .oct .result) (l .row) z f (l .inv .1 .0) (c .before .before .before .pack .kept .1 .1 .1 .0) (x .j) (x .wires) (l .i) (x .broadcasts) (x .masked .now) (x .memory .now) (l .s) _ (l .inv .1 .1) (c .before .before .before .pack .ensures) (c .absorb2 .ensures),
       ),
     )
 
@@ -87,7 +87,7 @@ returns : tie.Need-returns Inv-loop μ-loop
 returns c =
     let x = c .before .before .before .before .before .before .before .before .args in
     let l = c .before .before .loop in
-    online-ends (x .j) (x .wires) (x .n) (l .i) (x .said) (c .before .before .before .before .before .oct .result) (x .masked .now) (x .memory .now) _ (l .s) (λ i. c .before .before .before .before .before .before .before .shared-slice-known .given i .fits) (omega (arith, c .before .loop-test .left, l .inv .0)) (c .before .before .before .before .before .oct .ensures) (l .inv .1 .1) (c .finish .ensures)
+    online-ends (x .j) (x .wires) (x .n) (l .i) (x .broadcasts) (c .before .before .before .before .before .oct .result) (x .masked .now) (x .memory .now) _ (l .s) (λ i. c .before .before .before .before .before .before .before .shared-slice-known .given i .fits) (omega (arith, c .before .loop-test .left, l .inv .0)) (c .before .before .before .before .before .oct .ensures) (l .inv .1 .1) (c .finish .ensures)
 
 pub online-spec : {M : Type 1} → statement M
 online-spec =

@@ -12,8 +12,8 @@ use Rattle.mpc.proofs.running.run_in.Tie as tie
 add-wires : tie.Need-add-wires
 add-wires c = omega (arith, c .before .before .before .before .before .before .before .before .before .pre .0 .legal .laid .few-inputs, c .before .before .before .before .before .before .before .before .before .pre .0 .legal .laid .few-gates)
 
-add-said : tie.Need-add-said
-add-said c = broadcasts-small _ _ _ _ _ (c .before .before .before .before .before .before .before .before .before .before .pre .0)
+add-broadcasts : tie.Need-add-broadcasts
+add-broadcasts c = broadcasts-small _ _ _ _ _ (c .before .before .before .before .before .before .before .before .before .before .pre .0)
 
 load-requires : tie.Need-load-requires
 load-requires c κs =
@@ -82,7 +82,7 @@ run-in-spec =
     tie.close
     (tie.spec
     add-wires
-    add-said
+    add-broadcasts
     load-requires
     mul-unpack
     sub-unpack

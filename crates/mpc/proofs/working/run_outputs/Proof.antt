@@ -12,23 +12,23 @@ run-gates-requires c κs =
     let p = c .before .before .before .before .pre in
     (p .0, (p .1 .0, p .1 .1 .0))
 
-speak-requires : tie.Need-speak-requires
-speak-requires c κs =
+broadcast-outputs-requires : tie.Need-broadcast-outputs-requires
+broadcast-outputs-requires c κs =
     let p = c .before .before .before .before .before .before .before .before .before .pre in
     ended _ _ _ _ _ (p .0) _ _ (p .1 .0) (kept-room _ _ _ (c .before .before .before .before .run-gates .kept .1 .1 .1 .1 .1 .0) (p .1 .1 .0)) _ (p .1 .1 .1)
 
 same-length : tie.Need-same-length
-same-length c = c .before .before .before .before .speak .kept .1 .1 .1 .1 .0 ∙ c .before .before .before .before .before .before .before .before .before .run-gates .kept .1 .1 .1 .1 .1 .0
+same-length c = c .before .before .before .before .broadcast-outputs .kept .1 .1 .1 .1 .0 ∙ c .before .before .before .before .before .before .before .before .before .run-gates .kept .1 .1 .1 .1 .1 .0
 
 same-length-2 : tie.Need-same-length-2
-same-length-2 c = c .before .before .before .before .speak .kept .1 .1 .1 .1 .1 .0
+same-length-2 c = c .before .before .before .before .broadcast-outputs .kept .1 .1 .1 .1 .1 .0
 
 returns : tie.Need-returns
 returns c =
     let x = c .before .before .before .before .before .before .before .before .before .before .before .before .before .before .args in
     let e = c .before .before .before .before .before .before .before .before .before .run-gates .ensures in (
-      outputs-run (x .s .now) (x .z) (x .n) (x .p) (x .correcting) (x .memory .now) _ e _ (c .before .before .before .before .speak .ensures .0),
-      values-run (x .s .now) (x .z) (x .n) (x .p) (x .correcting) (x .memory .now) _ e (x .values .now) _ (c .before .before .before .before .speak .ensures .1),
+      outputs-run (x .s .now) (x .z) (x .n) (x .p) (x .correcting) (x .memory .now) _ e _ (c .before .before .before .before .broadcast-outputs .ensures .0),
+      values-run (x .s .now) (x .z) (x .n) (x .p) (x .correcting) (x .memory .now) _ e (x .values .now) _ (c .before .before .before .before .broadcast-outputs .ensures .1),
     )
 
 pub run-outputs-spec : {M : Type 1} → statement M
@@ -36,7 +36,7 @@ run-outputs-spec =
     tie.close
     (tie.spec
     run-gates-requires
-    speak-requires
+    broadcast-outputs-requires
     same-length
     same-length-2
     returns)

@@ -1,11 +1,11 @@
--- `engine::gates::said8` meets its contract.
+-- `engine::gates::terms8` meets its contract.
 -- Assumes nothing.
 use mathlib.Core.Path.{ap, ap₂}
 use Prim.Native.Nat.{ℕ}
 use lib.Bits.{bitXor, bitAnd}
 use borrow.Author.Needs.{needs}
-use Rattle.engine.proofs.gates.said8.Statement.{statement}
-use Rattle.engine.proofs.gates.said8.Tie as tie
+use Rattle.engine.proofs.gates.terms8.Statement.{statement}
+use Rattle.engine.proofs.gates.terms8.Tie as tie
 
 spread-requires : tie.Need-spread-requires
 spread-requires c κs = search needs
@@ -32,8 +32,8 @@ returns c =
     (ap₂ bitXor (ap₂ bitAnd (first .before .spread .ensures) (first .read-u64 .ensures)) (ap₂ bitAnd (second .before .spread2 .ensures) (second .read-u642 .ensures))))
     (c .read-u643 .ensures)
 
-pub said8-spec : {M : Type 1} → statement M
-said8-spec =
+pub terms8-spec : {M : Type 1} → statement M
+terms8-spec =
     tie.close
     (tie.spec
     spread-requires

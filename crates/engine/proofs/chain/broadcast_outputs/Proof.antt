@@ -1,21 +1,21 @@
--- `engine::chain::speak` meets its contract. The loop's invariant: the first j output wires are broadcast, and their values kept.
+-- `engine::chain::broadcast_outputs` meets its contract. The loop's invariant: the first j output wires are broadcast, and their values kept.
 -- Assumes nothing.
 use native.Mathlib.Omega.{arith}
 use mathlib.Core.Path.{_≡_, refl, _∙_}
 use Prim.Native.Nat.{_+_, _-_, _≤_}
 use lib.ListN.{length, length-set}
-use Rattle.engine.proofs.chain.speak.Statement.{statement}
-use Rattle.engine.proofs.chain.speak.Tie as tie
+use Rattle.engine.proofs.chain.broadcast_outputs.Statement.{statement}
+use Rattle.engine.proofs.chain.broadcast_outputs.Tie as tie
 use Rattle.circuit.proofs.Run.{output-low}
-use Rattle.engine.specs.Steps.{wireCount, spoken, outputValues}
-use Rattle.engine.proofs.Turns.{room-kept, spoken-none, spoken-turn, values-none, values-turn}
+use Rattle.engine.specs.Steps.{wireCount, outputsBroadcast, outputValues}
+use Rattle.engine.proofs.Turns.{room-kept, outputs-none, outputs-turn, values-none, values-turn}
 
 abbrev Inv-loop : tie.InvT-loop
 Inv-loop s n p memory₀ values₀ outputs ands wires j₀ memory values j =
     (j ≤ outputs)
     × ((length memory ≡ length memory₀)
     × ((length values ≡ length values₀)
-    × ((memory ≡ spoken wires n p ands s j memory₀) × (values ≡ outputValues wires n p ands s j memory₀ values₀))))
+    × ((memory ≡ outputsBroadcast wires n p ands s j memory₀) × (values ≡ outputValues wires n p ands s j memory₀ values₀))))
 
 abbrev μ-loop : tie.MeasureT-loop
 μ-loop s n p memory₀ values₀ outputs ands wires j₀ memory values j = outputs - j
@@ -33,7 +33,7 @@ loop-holds c =
         (
           refl,
           (
-            spoken-none W (x .n) (x .p) (x .z .ands) (x .s .now) (x .memory .now),
+            outputs-none W (x .n) (x .p) (x .z .ands) (x .s .now) (x .memory .now),
             values-none W (x .n) (x .p) (x .z .ands) (x .s .now) (x .memory .now) (x .values .now),
           ),
         ),
@@ -87,7 +87,7 @@ loop-again c =
         (
           simp length-set (l .inv .1 .1 .0),
           (
-            spoken-turn W (x .n) (x .p) (x .z .ands) (x .s .now) (l .j) _ (l .memory) _ (x .memory .now) (l .inv .1 .1 .1 .0) r (o .ensures .0),
+            outputs-turn W (x .n) (x .p) (x .z .ands) (x .s .now) (l .j) _ (l .memory) _ (x .memory .now) (l .inv .1 .1 .1 .0) r (o .ensures .0),
             values-turn W (x .n) (x .p) (x .z .ands) (x .s .now) (l .j) _ (o .result) (l .memory) (x .memory .now) (l .values) (x .values .now)
                 (l .inv .1 .1 .1 .0)
                 (l .inv .1 .1 .1 .1)
@@ -110,8 +110,8 @@ returns c =
     let e : l .j ≡ c .before .before .before .before .before .before .args .z .outputs = omega arith in
     rw (← e) (l .inv .1 .1 .1)
 
-pub speak-spec : {M : Type 1} → statement M
-speak-spec =
+pub broadcast-outputs-spec : {M : Type 1} → statement M
+broadcast-outputs-spec =
     tie.close
     (tie.spec
     Inv-loop
