@@ -2,11 +2,12 @@
 -- Assumes nothing.
 use native.Mathlib.Omega.{arith}
 use native.Mathlib.Numerals.{add-one}
-use mathlib.Core.Path.{_≡_, sym, _∙_}
-use mathlib.Core.List.{List, _++_, append-nil}
-use Prim.Native.Nat.{ℕ, _+_, _≤_, _<_}
-use lib.ListN.{length, getD, set, take, drop, replicate}
-use lib.Seq.{take-suc, take-suc-set, take-all, drop-length}
+use mathlib.Core.Path.{_≡_, sym, ap, ap₂, _∙_}
+use mathlib.Core.List.{List, _++_, append-nil, append-assoc}
+use Prim.Native.Nat.{ℕ, _+_, _-_, _≤_, _<_}
+use borrow.Rule.Slice.PartMut.{midOf, postOf, putMid, mid-len, post-is}
+use lib.ListN.{length, getD, set, take, drop, replicate, length-replicate}
+use lib.Seq.{take-suc, take-suc-set, take-all, drop-length, length-take-le}
 
 -- one more byte is copied
 pub copy-more : (s d : List ℕ) (i : ℕ) → i < length d → length d ≡ length s → take i d ≡ take i s
@@ -24,3 +25,15 @@ pub fill-end : (d : List ℕ) (i : ℕ) → i ≤ length d → length d ≤ i �
 fill-end d i a b =
     let e : i ≡ length d = omega arith in
     rw (e, drop-length d) (append-nil _)
+
+-- the first k of n zeros
+pub prefix-length : (k n : ℕ) → k ≤ n → length (take k (replicate {A = ℕ} n 0)) ≡ k
+prefix-length k n h = length-take-le k (replicate {A = ℕ} n 0) (omega (arith, length-replicate {A = ℕ} n 0))
+
+-- a part is cleared
+pub part-cleared : (s d z : List ℕ) (a len : ℕ) → a + len ≤ length d → d ≡ s → z ≡ replicate (length (midOf a (a + len - a) d)) 0
+    → putMid a (a + len - a) d z ≡ take a s ++ replicate len 0 ++ drop (a + len) s
+part-cleared s d z a len h e q =
+    let l : length (midOf a (a + len - a) d) ≡ len = mid-len a (a + len) d h ∙ omega arith in
+    sym (append-assoc (take a d) z (postOf a (a + len - a) d))
+    ∙ ap₂ _++_ (ap₂ _++_ (ap (take a) e) (q ∙ ap (λ (n : ℕ). replicate n 0) l)) (post-is a (a + len) d (omega arith) ∙ ap (drop (a + len)) e)

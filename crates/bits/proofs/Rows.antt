@@ -1,14 +1,16 @@
 -- The rows of a flat buffer: where row i is inside, what it holds, and that rows one after the other are found again.
 -- Assumes nothing.
 use mathlib.Core.Path.{_≡_, sym, ap, ap₂, _∙_}
-use mathlib.Core.List.{List, [], _∷_, _++_, flatten}
+use mathlib.Core.List.{List, [], _∷_, _++_, flatten, append-nil, append-assoc}
 use mathlib.Core.Logic.{⊎-elim}
-use Prim.Native.Nat.{ℕ, zero, suc, _+_, _*_, _/_, _%_, _≤_, _<_}
+use Prim.Native.Nat.{ℕ, zero, suc, _+_, _-_, _*_, _/_, _%_, _≤_, _<_}
 use native.Mathlib.Nat.{le-div-iff-mul-le, lt-div-mul-add, mul-le-mul-right, suc-mul, zero-mul}
+use native.Mathlib.Numerals.{add-one}
 use native.Mathlib.Omega.{arith}
 use borrow.Author.Tests.{le-leb, lt-leb}
+use borrow.Rule.Slice.PartMut.{midOf, postOf, putMid, mid-len}
 use lib.ListN.{length, getD, take, drop, length-append, length-take, length-drop, List·getD-eq-default}
-use lib.Seq.{getD-drop, getD-take, take-at, drop-append-add}
+use lib.Seq.{getD-drop, getD-take, take-at, drop-append-add, length-take-le}
 use Rattle.bits.specs.Bits.{tabulate, testBit, bitAt}
 use Rattle.bits.specs.Bytes.{rowOf}
 use Rattle.bits.proofs.Numbers.{lt-or-le}
@@ -97,3 +99,31 @@ row-tabulate len n f h i l =
     row-flatten len (tabulate n f) (λ k m. let q : k < n = omega (arith, length-tabulate n f) in ap length (getD-tabulate n f k [] q) ∙ h k q) i
     (omega (arith, length-tabulate n f))
     ∙ getD-tabulate n f i [] l
+
+-- rows one after the other, with one more at the end
+pub flatten-more : (i : ℕ) (f : ℕ → List ℕ) → flatten (tabulate i f) ++ f i ≡ flatten (tabulate (suc i) f)
+unfolding flatten
+flatten-more zero f = sym (append-nil (f 0))
+flatten-more (suc i) f =
+    append-assoc (f 0) (flatten (tabulate i (λ k. f (suc k)))) (f (suc i)) ∙ ap (λ (t : List ℕ). f 0 ++ t) (flatten-more i (λ k. f (suc k)))
+
+-- a buffer that is filled row by row: no row is made yet
+pub rows-none : (len : ℕ) (rows : List ℕ) → take (0 * len) rows ≡ flatten []
+unfolding flatten
+rows-none len rows = ap (λ (k : ℕ). take k rows) (zero-mul len)
+
+-- row i is from byte a to byte e
+module _ (len i a e : ℕ) (from : a ≡ i * len) (to : e ≡ a + len) (rows : List ℕ) (within : e ≤ length rows) where
+  -- it is len bytes
+  pub part-length : length (midOf a (e - a) rows) ≡ len
+  part-length = mid-len a e rows within ∙ omega (arith, to)
+
+  -- one row more: z is put in the place of row i
+  pub rows-turn : (g : ℕ → List ℕ) (z : List ℕ) → length z ≡ len → take (i * len) rows ≡ flatten (tabulate i g) → z ≡ g i
+      → take ((i + 1) * len) (putMid a (e - a) rows z) ≡ flatten (tabulate (i + 1) g)
+  rows-turn g z l p q =
+      let post : List ℕ = postOf a (e - a) rows in
+      let n : length (take a rows ++ z) ≡ (i + 1) * len
+      = omega (arith, from, to, within, l, length-append (take a rows) z, length-take-le a rows (omega (arith, to, within)), ap (λ (k : ℕ). k * len) (add-one i), suc-mul i len) in
+      ap (take ((i + 1) * len)) (sym (append-assoc (take a rows) z post)) ∙ take-at (take a rows ++ z) post ((i + 1) * len) n
+      ∙ ap₂ _++_ (ap (λ (k : ℕ). take k rows) from ∙ p) q ∙ flatten-more i g ∙ ap (λ (k : ℕ). flatten (tabulate k g)) (sym (add-one i))

@@ -9,6 +9,7 @@ use native.Mathlib.Omega.{arith}
 use lib.ListN.{length, take, drop, length-drop}
 use lib.Seq.{length-take-le, take-all}
 use Rattle.bits.specs.Bits.{tabulate}
+use Rattle.bits.proofs.Rows.{flatten-more}
 use Rattle.keccak.specs.declared.sponge.Sponge.{Sponge}
 use Rattle.keccak.specs.Steps.{absorbs, padded}
 use Rattle.keccak.specs.Sponge.{sha3-256}
@@ -23,7 +24,6 @@ use Rattle.hashing.proofs.Hashes.{bytes-append, bytes-one}
 use Rattle.instance.specs.Instance.{Asked, hiding, masterCommitments}
 use Rattle.instance.specs.Stretch.{stretchBytes}
 use Rattle.instance.specs.Opened.{stretchCommitments, stretchOnline, stretchUnused, stretchOutput}
-use Rattle.instance.proofs.Seeded.{flatten-more}
 use Rattle.proof.specs.Steps.{askOf}
 use Rattle.proof.specs.Protocol.{hstarOf}
 use Rattle.proof.specs.File.{stretchStart, proofBytes, stretchAt}

@@ -2,21 +2,21 @@
 -- Assumes nothing.
 use mathlib.Core.Path.{_≡_, refl, sym, ap, ap₂, _∙_}
 use mathlib.Core.Bool.{Bool, _&&_}
-use mathlib.Core.List.{List, [], _++_, flatten, append-nil, append-assoc}
+use mathlib.Core.List.{List, flatten}
 use Prim.Native.Nat.{ℕ, zero, suc, _+_, _-_, _*_, _%_, _^_, _≤_, _<_}
 use native.Mathlib.Omega.{arith}
-use native.Mathlib.Nat.{suc-mul, zero-mul}
 use native.Mathlib.Numerals.{add-one}
 use borrow.Author.Tests.{lt-ltb, le-ltb}
-use borrow.Rule.Slice.PartMut.{midOf, postOf, putMid, mid-len}
+use borrow.Rule.Slice.PartMut.{midOf}
 use lib.Dec.{ltb}
-use lib.ListN.{length, getD, drop, take, replicate, length-append}
-use lib.Seq.{drop-length, ext-getD, length-take-le, take-all, take-at}
+use lib.ListN.{length, getD, take}
+use lib.Seq.{ext-getD, take-all}
 use lib.Bits.{bitXor}
 use Rattle.bits.specs.Bits.{tabulate, odd, bitVal, bitAt, fromBits}
 use Rattle.bits.specs.Bytes.{rowOf}
 use Rattle.bits.proofs.Numbers.{mod-two}
 use Rattle.bits.proofs.Tabulate.{length-tabulate, getD-tabulate}
+use Rattle.bits.proofs.Rows.{part-length}
 use Rattle.circuit.proofs.Run.{byte-turn}
 use Rattle.engine.specs.Steps.{at, shareAt, valueAt, broadcastAt, fill, xorBytes, unpacked, loadedRow, loadedTapes, maskByte, packedByte, packed, packedRows}
 use Rattle.engine.proofs.Fill.{fill-read}
@@ -80,39 +80,12 @@ pub length-packed : (m : List ℕ) (from shown len : ℕ) → length (packed m f
 unfolding packed
 length-packed m from shown len = length-tabulate len (packedByte m from shown)
 
--- rows one after the other, with one more at the end
-flatten-more : (i : ℕ) (g : ℕ → List ℕ) → flatten (tabulate i g) ++ g i ≡ flatten (tabulate (suc i) g)
-unfolding flatten
-flatten-more zero g = sym (append-nil (g 0))
-flatten-more (suc i) g =
-    append-assoc (g 0) (flatten (tabulate i (λ k. g (suc k)))) (g (suc i)) ∙ ap (λ (t : List ℕ). g 0 ++ t) (flatten-more i (λ k. g (suc k)))
-
--- the part of row i is len bytes
-pub part-length : (len i : ℕ) (rows : List ℕ) → i * len + len ≤ length rows → length (midOf (i * len) (i * len + len - i * len) rows) ≡ len
-part-length len i rows h = mid-len (i * len) (i * len + len) rows h ∙ omega arith
-
--- no row is packed yet
-pub rows-none : (len : ℕ) (rows : List ℕ) → take (0 * len) rows ≡ flatten []
-unfolding flatten
-rows-none len rows = ap (λ (k : ℕ). take k rows) (zero-mul len)
-
--- one row more: z is put in the place of row i
-pub rows-turn : (len i : ℕ) (g : ℕ → List ℕ) (rows z : List ℕ) → i * len + len ≤ length rows → length z ≡ len
-    → take (i * len) rows ≡ flatten (tabulate i g) → z ≡ g i
-    → take ((i + 1) * len) (putMid (i * len) (i * len + len - i * len) rows z) ≡ flatten (tabulate (i + 1) g)
-rows-turn len i g rows z h l p q =
-    let a = i * len in
-    let post : List ℕ = postOf a (a + len - a) rows in
-    let n : length (take a rows ++ z) ≡ (i + 1) * len = omega (arith, length-append (take a rows) z, length-take-le a rows (omega arith), ap (λ (k : ℕ). k * len) (add-one i), suc-mul i len) in
-    ap (take ((i + 1) * len)) (sym (append-assoc (take a rows) z post)) ∙ take-at (take a rows ++ z) post ((i + 1) * len) n
-    ∙ ap₂ _++_ p q ∙ flatten-more i g ∙ ap (λ (k : ℕ). flatten (tabulate k g)) (sym (add-one i))
-
 -- the part of row i, packed
 pub row-packed : (W i shown len : ℕ) (m rows z : List ℕ) → i * len + len ≤ length rows
     → z ≡ packed m (48 * W + i) shown (length (midOf (i * len) (i * len + len - i * len) rows)) → z ≡ packed m (broadcastAt W 0 i) shown len
 row-packed W i shown len m rows z h e =
     let y : 48 * W + i ≡ 48 * W + 16 * 0 + i = omega arith in
-    e ∙ ap₂ (λ (a b : ℕ). packed m a shown b) y (part-length len i rows h)
+    e ∙ ap₂ (λ (a b : ℕ). packed m a shown b) y (part-length len i (i * len) (i * len + len) refl refl rows h)
 
 -- all rows
 pub rows-end : (W n shown len : ℕ) (m rows : List ℕ) → length rows ≡ n * len

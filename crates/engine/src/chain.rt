@@ -70,7 +70,14 @@ pub fn walk(
 }
 
 // Broadcasts the output masks, after the broadcasts of the AND gates, and gives the outputs' values at every 16th byte.
-pub fn broadcast_outputs(s: &[u8], z: Sizes, n: usize, p: usize, memory: &mut [u8], values: &mut [u8])
+pub fn broadcast_outputs(
+    s: &[u8],
+    z: Sizes,
+    n: usize,
+    p: usize,
+    memory: &mut [u8],
+    values: &mut [u8],
+)
     requires { ⌜ Ended (now s) z n (now memory) (now values) ⌝ }
     ensures { λ _. ⌜ now (memory .exit) ≡ outputsBroadcast (wireCount z) n p (z .ands) (now (s .entry)) (z .outputs) (now (memory .entry)) ⌝ }
     ensures { λ _. ⌜ now (values .exit) ≡ outputValues (wireCount z) n p (z .ands) (now (s .entry)) (z .outputs) (now (memory .entry)) (now (values .entry)) ⌝ }

@@ -9,13 +9,13 @@ use lib.Seq.{take-all, take-add, drop-drop, getD-drop}
 use Rattle.bits.specs.Bits.{tabulate, oct}
 use Rattle.bits.specs.Bytes.{leAt, leBytes}
 use Rattle.bits.proofs.Little.{leBytes-leAt}
+use Rattle.bits.proofs.Rows.{flatten-more}
 use Rattle.parties.specs.Parties.{heightOf}
 use Rattle.circuit.specs.Circuit.{Circuit}
 use Rattle.mpc.specs.Tapes.{andsOf}
 use Rattle.instance.specs.Instance.{Asked, opened, hiding}
 use Rattle.honest.specs.Response.{encodeHeader, encodeSent, encode, decodeHeader, challengeIn, auxBytes, decodeSent, bytesFrom, decode, sentBytes, allBytes, impliedLength}
 use Rattle.honest.specs.Theorems.{AllBytes, GoodHeader, AcceptedEncoding}
-use Rattle.honest.proofs.Places.{flatten-more}
 use Rattle.honest.proofs.Decoded.{bytes-from}
 use Rattle.honest.proofs.Published.{check-is-published, same-circuit}
 
@@ -81,7 +81,7 @@ module _ (c : Circuit) (n : ℕ) where
   unfolding flatten allBytes
   all-encoded ask s zero = refl
   all-encoded ask s (suc m) =
-      flatten-more m (λ j. encodeSent (decodeSent c n (ask j) (bytesFrom c n ask s j) .0))
+      sym (flatten-more m (λ j. encodeSent (decodeSent c n (ask j) (bytesFrom c n ask s j) .0)))
       ∙ (ap₂ (λ (x y : List ℕ). x ++ y) (all-encoded ask s m) (sent-encoded (ask m) (bytesFrom c n ask s m))
       ∙ joined (allBytes c n ask m) (sentBytes c n (ask m)) s (bytesFrom c n ask s m) (bytes-from c n ask s m))
 

@@ -11,13 +11,7 @@ use lib.Seq.{take-at, drop-at, take-all, take-append-le, drop-append-le, ext-get
 use Rattle.bits.specs.Bits.{tabulate}
 use Rattle.bits.specs.Bytes.{rowOf}
 use Rattle.bits.proofs.Numbers.{lt-or-le}
-use Rattle.bits.proofs.Rows.{row-fits, row-getD}
-
--- one part more stands at the end
-pub flatten-more : (m : ℕ) (f : ℕ → List ℕ) → flatten (tabulate (suc m) f) ≡ flatten (tabulate m f) ++ f m
-unfolding flatten
-flatten-more zero f = append-nil (f 0)
-flatten-more (suc m) f = ap (λ (t : List ℕ). f 0 ++ t) (flatten-more m (λ i. f (suc i))) ∙ sym (append-assoc (f 0) _ _)
+use Rattle.bits.proofs.Rows.{row-fits, row-getD, flatten-more}
 
 -- the second of three parts
 pub middle : (x y z : List ℕ) (m k : ℕ) → length x ≡ m → length y ≡ k → take k (drop m (x ++ (y ++ z))) ≡ y
@@ -40,7 +34,7 @@ module _ (header : List ℕ) (f : ℕ → List ℕ) (start : ℕ → ℕ) (first
 
   -- one part more
   front-more : (m : ℕ) → front (suc m) ≡ front m ++ f m
-  front-more m = ap (λ (t : List ℕ). header ++ t) (flatten-more m f) ∙ sym (append-assoc header _ _)
+  front-more m = ap (λ (t : List ℕ). header ++ t) (sym (flatten-more m f)) ∙ sym (append-assoc header _ _)
 
   -- part m begins where they end
   pub length-parts : (m : ℕ) → length (front m) ≡ start m

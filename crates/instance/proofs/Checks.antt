@@ -2,18 +2,19 @@
 -- Assumes nothing.
 use mathlib.Core.Path.{_≡_, refl, sym, ap, ap₂, _∙_}
 use mathlib.Core.Bool.{Bool, true, false, cond, _&&_}
-use mathlib.Core.List.{List, _++_, append-assoc}
+use mathlib.Core.List.{List, _++_}
 use Prim.Native.Nat.{ℕ, suc, _+_, _-_, _*_, _≤_, _<_}
 use native.Mathlib.Omega.{arith}
 use native.Mathlib.Numerals.{add-one}
 use borrow.Author.Tests.{eq-eqb, ne-eqb}
-use borrow.Rule.Slice.PartMut.{midOf, postOf, putMid, mid-len, post-is}
+use borrow.Rule.Slice.PartMut.{midOf, putMid, mid-len}
 use lib.Dec.{eqb}
 use lib.ListN.{length, take, drop, replicate, length-drop}
 use lib.Seq.{take-all}
 use Rattle.bits.specs.Bits.{oct, unusedZero}
 use Rattle.bits.proofs.Rows.{row-fits}
 use Rattle.bits.proofs.Tests.{and-true-left, and-true-right}
+use Rattle.bits.proofs.Copies.{part-cleared}
 use Rattle.parties.specs.Parties.{heightOf}
 use Rattle.circuit.specs.File.{circuitOf}
 use Rattle.mpc.specs.Tapes.{andsOf, withRow}
@@ -142,14 +143,6 @@ part-length a u m t s h e f = f ∙ sym (mid-len a (a + u) s h ∙ omega (arith,
 -- of the part to the end
 pub rest-length : (a m : ℕ) (s : List ℕ) → length s ≡ a + m → length (take (length s - a) (drop a s)) ≡ m
 rest-length a m s e = mid-len a (length s) s (omega arith) ∙ omega (arith, e)
-
--- a part is cleared
-part-cleared : (s d z : List ℕ) (a len : ℕ) → a + len ≤ length d → d ≡ s → z ≡ replicate (length (midOf a (a + len - a) d)) 0
-    → putMid a (a + len - a) d z ≡ take a s ++ replicate len 0 ++ drop (a + len) s
-part-cleared s d z a len h e q =
-    let l : length (midOf a (a + len - a) d) ≡ len = mid-len a (a + len) d h ∙ omega arith in
-    sym (append-assoc (take a d) z (postOf a (a + len - a) d))
-    ∙ ap₂ _++_ (ap₂ _++_ (ap (take a) e) (q ∙ ap (λ (n : ℕ). replicate n 0) l)) (post-is a (a + len) d (omega arith) ∙ ap (drop (a + len)) e)
 
 -- what stands for the last party
 last-is : (p n : ℕ) (y x z : List ℕ) → p + 1 ≡ n → y ≡ x → y ≡ cond (eqb (suc p) n) x z

@@ -14,7 +14,7 @@ use lib.Seq.{getD-drop}
 use Rattle.bits.specs.Bits.{tabulate}
 use Rattle.bits.specs.Bytes.{leBytes, rowOf}
 use Rattle.bits.proofs.Little.{leBytes-lt}
-use Rattle.bits.proofs.Rows.{row-lt}
+use Rattle.bits.proofs.Rows.{row-lt, flatten-more}
 use Rattle.keccak.specs.declared.sponge.Sponge.{Sponge}
 use Rattle.keccak.specs.Steps.{turned, byteAt, absorbs, padded, squeezeByte, squeezes}
 use Rattle.keccak.specs.Sponge.{sha3-256}
@@ -26,7 +26,6 @@ use Rattle.hashing.specs.Steps.{taken, given}
 use Rattle.hashing.proofs.Hashes.{bytes-append, bytes-one}
 use Rattle.hashing.proofs.Digests.{taken-more, taken-room, given-taken}
 use Rattle.instance.specs.Instance.{commitmentsDigest}
-use Rattle.instance.proofs.Seeded.{flatten-more}
 
 -- a part of bytes is bytes
 bytes-take : (k : ℕ) (M : List ℕ) → Bytes M → Bytes (take k M)

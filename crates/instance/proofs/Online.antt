@@ -15,6 +15,7 @@ use Rattle.bits.specs.Bytes.{leBytes}
 use Rattle.bits.proofs.Little.{leBytes-lt}
 use Rattle.bits.proofs.Numbers.{lt-or-le, fromBits-lt}
 use Rattle.bits.proofs.Tabulate.{getD-tabulate, getD-tabulate-end}
+use Rattle.bits.proofs.Rows.{flatten-more}
 use Rattle.keccak.specs.declared.sponge.Sponge.{Sponge}
 use Rattle.keccak.specs.Steps.{absorbs}
 use Rattle.keccak.proofs.Absorbing.{Bytes}
@@ -37,13 +38,6 @@ flatten-bytes : (n : ℕ) (f : ℕ → List ℕ) → ((i : ℕ) → Bytes (f i))
 unfolding flatten
 flatten-bytes zero f h i = omega arith
 flatten-bytes (suc n) f h i = bytes-append (f 0) (flatten (tabulate n (λ k. f (suc k)))) (h 0) (flatten-bytes n (λ k. f (suc k)) (λ k. h (suc k))) i
-
--- rows one after the other, with one more at the end
-flatten-more : (i : ℕ) (f : ℕ → List ℕ) → flatten (tabulate i f) ++ f i ≡ flatten (tabulate (suc i) f)
-unfolding flatten
-flatten-more zero f = sym (append-nil (f 0))
-flatten-more (suc i) f =
-    append-assoc (f 0) (flatten (tabulate i (λ k. f (suc k)))) (f (suc i)) ∙ ap (λ (t : List ℕ). f 0 ++ t) (flatten-more i (λ k. f (suc k)))
 
 -- the first len bytes of an array of 608 bytes
 pub part-length : (len : ℕ) (row : List ℕ) → len ≤ 608 → length row ≡ 608 → length (take len row) ≡ len

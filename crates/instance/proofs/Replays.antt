@@ -7,11 +7,12 @@ use Prim.Native.Nat.{ℕ, suc, _+_, _-_, _*_, _≤_, _<_}
 use native.Mathlib.Omega.{arith}
 use borrow.Author.Tests.{ne-eqb}
 use lib.Dec.{eqb}
-use lib.ListN.{length, take, drop, replicate, length-append, length-replicate}
+use lib.ListN.{length, take, drop, replicate, length-append}
 use lib.Seq.{take-at, length-take-le}
 use Rattle.bits.specs.Bits.{tabulate, oct, pack, unusedZero}
 use Rattle.bits.specs.Bytes.{sameBytes}
 use Rattle.bits.proofs.Tabulate.{tabulate-cong}
+use Rattle.bits.proofs.Copies.{prefix-length}
 use Rattle.parties.specs.Parties.{heightOf}
 use Rattle.circuit.specs.File.{circuitOf}
 use Rattle.engine.specs.Steps.{packed, packedRows}
@@ -26,10 +27,6 @@ use Rattle.instance.specs.Opened.{openedSeeds, openedCommitments, opened
 use Rattle.instance.specs.Steps.{Tree}
 use Rattle.instance.proofs.Checks.{sent-bytes, commitment-is, masked-are, row-is}
 use Rattle.mpc.proofs.Opened.{sized}
-
--- the first k of n bytes
-pub prefix-length : (k n : ℕ) → k ≤ n → length (take k (replicate {A = ℕ} n 0)) ≡ k
-prefix-length k n h = length-take-le k (replicate {A = ℕ} n 0) (omega (arith, length-replicate {A = ℕ} n 0))
 
 -- such a part when it is back
 pub kept-prefix : (k n : ℕ) (z : List ℕ) → k ≤ n → length z ≡ length (take k (replicate {A = ℕ} n 0)) → length z ≡ k

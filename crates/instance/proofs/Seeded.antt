@@ -2,12 +2,9 @@
 -- Assumes nothing.
 use mathlib.Core.Path.{_≡_, sym, ap, ap₂, _∙_}
 use mathlib.Core.Bool.{true, false, cond}
-use mathlib.Core.List.{List, [], _++_, flatten, append-assoc, append-nil}
-use Prim.Native.Nat.{ℕ, zero, suc, _+_, _-_, _*_, _^_, _≤_, _<_}
-use native.Mathlib.Nat.{suc-mul, zero-mul}
-use native.Mathlib.Numerals.{add-one}
+use mathlib.Core.List.{List, _++_, flatten}
+use Prim.Native.Nat.{ℕ, suc, _+_, _-_, _*_, _^_, _≤_, _<_}
 use native.Mathlib.Omega.{arith}
-use borrow.Rule.Slice.PartMut.{midOf, postOf, putMid, mid-len}
 use lib.Dec.{eqb}
 use lib.ListN.{length, take, replicate, length-append, length-replicate}
 use lib.Seq.{length-take-le, take-all, take-at}
@@ -25,34 +22,6 @@ use Rattle.party.specs.Derive.{seedRow}
 use Rattle.party.specs.Derive as derive
 use Rattle.instance.specs.Instance.{leavesOf, seedsOf, masterSeeds, seedOf, tapesOf}
 use Rattle.instance.specs.Steps.{Tree}
-
--- rows one after the other, with one more at the end
-pub flatten-more : (i : ℕ) (g : ℕ → List ℕ) → flatten (tabulate i g) ++ g i ≡ flatten (tabulate (suc i) g)
-unfolding flatten
-flatten-more zero g = sym (append-nil (g 0))
-flatten-more (suc i) g =
-    append-assoc (g 0) (flatten (tabulate i (λ k. g (suc k)))) (g (suc i)) ∙ ap (λ (t : List ℕ). g 0 ++ t) (flatten-more i (λ k. g (suc k)))
-
--- no row is made yet
-pub rows-none : (len : ℕ) (rows : List ℕ) → take (0 * len) rows ≡ flatten []
-unfolding flatten
-rows-none len rows = ap (λ (k : ℕ). take k rows) (zero-mul len)
-
--- row i is from byte a to byte e
-module _ (len i a e : ℕ) (from : a ≡ i * len) (to : e ≡ a + len) (rows : List ℕ) (inside : e ≤ length rows) where
-  -- it is len bytes
-  pub part-length : length (midOf a (e - a) rows) ≡ len
-  part-length = mid-len a e rows inside ∙ omega (arith, to)
-
-  -- one row more: z is put in the place of row i
-  pub rows-turn : (g : ℕ → List ℕ) (z : List ℕ) → length z ≡ len → take (i * len) rows ≡ flatten (tabulate i g) → z ≡ g i
-      → take ((i + 1) * len) (putMid a (e - a) rows z) ≡ flatten (tabulate (i + 1) g)
-  rows-turn g z l p q =
-      let post : List ℕ = postOf a (e - a) rows in
-      let n : length (take a rows ++ z) ≡ (i + 1) * len
-      = omega (arith, from, to, inside, l, length-append (take a rows) z, length-take-le a rows (omega (arith, to, inside)), ap (λ (k : ℕ). k * len) (add-one i), suc-mul i len) in
-      ap (take ((i + 1) * len)) (sym (append-assoc (take a rows) z post)) ∙ take-at (take a rows ++ z) post ((i + 1) * len) n
-      ∙ ap₂ _++_ (ap (λ (k : ℕ). take k rows) from ∙ p) q ∙ flatten-more i g ∙ ap (λ (k : ℕ). flatten (tabulate k g)) (sym (add-one i))
 
 -- all rows
 rows-end : (n i len : ℕ) (g : ℕ → List ℕ) (rows : List ℕ) → i ≡ n → length rows ≡ n * len → take (i * len) rows ≡ flatten (tabulate i g)

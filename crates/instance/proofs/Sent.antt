@@ -11,6 +11,7 @@ use lib.ListN.{length, take, drop, replicate, length-replicate}
 use lib.Seq.{length-take-le, take-at, length-front}
 use Rattle.bits.specs.Bits.{tabulate, oct, pack, unusedZero}
 use Rattle.bits.proofs.Tabulate.{tabulate-cong}
+use Rattle.bits.proofs.Copies.{prefix-length}
 use Rattle.circuit.specs.File.{circuitOf}
 use Rattle.engine.specs.Steps.{Room, packed, packedRows}
 use Rattle.mpc.specs.Showing as shown
@@ -91,17 +92,13 @@ few-corrections s i o g a r k e = omega (arith, e, ands-few s i o g a k)
 pub few-masked : (s : List ℕ) (i o g a r : ℕ) → Known s (sized i o g a) → r ≡ oct i → r ≤ 64
 few-masked s i o g a r k e = omega (arith, e, k .legal .laid .few-inputs)
 
--- the front of an array of N zero bytes
-pub front-length : (N k : ℕ) → k ≤ N → length (take k (replicate {A = ℕ} N 0)) ≡ k
-front-length N k l = length-take-le k (replicate {A = ℕ} N 0) (omega (arith, length-replicate {A = ℕ} N 0))
-
 -- z in its place
 module _ (N k : ℕ) (z : List ℕ) (l : k ≤ N) (e : length z ≡ length (take k (replicate {A = ℕ} N 0))) where
   pub front-inside : k ≤ length (z ++ drop k (replicate {A = ℕ} N 0))
   front-inside = omega (arith, length-front (replicate {A = ℕ} N 0) z k e, length-replicate {A = ℕ} N 0)
 
   pub front-back : take k (z ++ drop k (replicate {A = ℕ} N 0)) ≡ z
-  front-back = take-at z (drop k (replicate {A = ℕ} N 0)) k (e ∙ front-length N k l)
+  front-back = take-at z (drop k (replicate {A = ℕ} N 0)) k (e ∙ prefix-length k N l)
 
   pub front-taken : k ≡ length (take k (z ++ drop k (replicate {A = ℕ} N 0)))
   front-taken = sym (length-take-le k (z ++ drop k (replicate {A = ℕ} N 0)) front-inside)

@@ -40,7 +40,14 @@ pub fn commit(inst: Instance, p: u32, theirs: &[u8], seeds: &[u8], corrections: 
 }
 
 // h'_j over the masked inputs and the broadcast rows in the memory.
-pub fn online(j: u32, masked: &[u8], memory: &[u8], wires: usize, n: usize, broadcasts: usize) -> [u8; 32]
+pub fn online(
+    j: u32,
+    masked: &[u8],
+    memory: &[u8],
+    wires: usize,
+    n: usize,
+    broadcasts: usize,
+) -> [u8; 32]
     requires { ⌜ Room wires n (now memory) × (broadcasts ≤ wires + maxOutputs) ⌝ }
     ensures { λ r. ⌜ r ≡ onlineDigest j (now (masked .entry)) (packedRows wires (now (memory .entry)) n broadcasts (oct broadcasts)) ⌝ }
 {

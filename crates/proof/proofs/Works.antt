@@ -9,12 +9,12 @@ use mir.Syntax.{w64}
 use mir.Val.{Fits}
 use lib.ListN.{take, replicate}
 use Rattle.bits.specs.Bits.{oct}
+use Rattle.bits.proofs.Copies.{prefix-length}
 use Rattle.mpc.specs.Steps.{Known}
 use Rattle.mpc.proofs.Opened.{sized, ands-low}
 use Rattle.mpc.proofs.Asks.{small}
 use Rattle.instance.specs.Steps.{Tree, Lent}
 use Rattle.instance.proofs.Trees.{tree-sizes}
-use Rattle.instance.proofs.Sent.{front-length}
 
 -- a legal file
 module _ (s : List ℕ) (i o g a : ℕ) (k : Known s (sized i o g a)) where
@@ -62,6 +62,6 @@ module _ (s : List ℕ) (i o g a : ℕ) (k : Known s (sized i o g a)) where
         record {
           known = k;
           tree = tree;
-          tapes-fit = front-length 17408 (n * r) tapes-few ∙ ap (λ (x : ℕ). n * x) e;
-          room = omega (arith, front-length 299008 (64 * (i + g) + 4096) work-few);
+          tapes-fit = prefix-length (n * r) 17408 tapes-few ∙ ap (λ (x : ℕ). n * x) e;
+          room = omega (arith, prefix-length (64 * (i + g) + 4096) 299008 work-few);
         }

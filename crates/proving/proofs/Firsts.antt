@@ -8,6 +8,7 @@ use native.Mathlib.Omega.{arith}
 use lib.ListN.{length, take}
 use lib.Seq.{take-all}
 use Rattle.bits.specs.Bits.{tabulate}
+use Rattle.bits.proofs.Rows.{flatten-more}
 use Rattle.keccak.specs.declared.sponge.Sponge.{Sponge}
 use Rattle.keccak.specs.Steps.{absorbs, padded}
 use Rattle.keccak.specs.Sponge.{sha3-256}
@@ -24,7 +25,6 @@ use Rattle.hashing.proofs.Hashes.{bytes-append, bytes-one}
 use Rattle.hashing.proofs.Digests.{taken-more, taken-room, given-taken, all-online-more}
 use Rattle.instance.specs.Instance.{commitmentsDigest, onlineDigest, commitmentsOf, masterSeeds, masterCorrections, masterCommitments, masterRun, masterMasked, masterOnline}
 use Rattle.instance.specs.Steps.{Lent}
-use Rattle.instance.proofs.Seeded.{flatten-more}
 use Rattle.proof.specs.Protocol.{mastersOf, hstarOf, firstMessage}
 use Rattle.proof.proofs.Digests.{sha3-bytes}
 use Rattle.mpc.proofs.Opened.{sized}

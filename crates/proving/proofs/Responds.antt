@@ -9,7 +9,7 @@ use borrow.Rule.Slice.PartMut.{midOf, putMid, postOf, post-is, mid-len}
 use lib.ListN.{length, take, drop, length-append, length-drop}
 use lib.Seq.{length-take-le, drop-length, take-all, take-length, take-at, drop-at, take-take, take-add}
 use Rattle.bits.specs.Bits.{tabulate}
-use Rattle.bits.proofs.Rows.{row-inside, row-tabulate}
+use Rattle.bits.proofs.Rows.{row-inside, row-tabulate, flatten-more}
 use Rattle.bits.proofs.Numbers.{lt-or-le}
 use Rattle.parties.specs.Parties.{heightOf}
 use Rattle.circuit.specs.Circuit.{Circuit}
@@ -22,7 +22,6 @@ use Rattle.proof.specs.File.{stretchStart, proofBytes}
 use Rattle.proof.specs.Steps.{askOf, partyIn, asksIn, Asking}
 use Rattle.proof.proofs.Sizes.{ask-opened, ask-hiding}
 use Rattle.honest.proofs.Parts.{length-stretch}
-use Rattle.honest.proofs.Places.{flatten-more}
 use Rattle.honest.proofs.Derived.{length-rows}
 use Rattle.honest.proofs.Proved.{has-height}
 use Rattle.honest.proofs.Written.{length-master}
@@ -36,10 +35,10 @@ parts-split j zero f =
     ap (λ (i : ℕ). flatten (tabulate i f)) e ∙ sym (append-nil (flatten (tabulate j f)))
 parts-split j (suc k) f =
     let e : j + suc k ≡ suc (j + k) = omega arith in
-    ap (λ (i : ℕ). flatten (tabulate i f)) e ∙ flatten-more (j + k) f
+    ap (λ (i : ℕ). flatten (tabulate i f)) e ∙ sym (flatten-more (j + k) f)
     ∙ (ap (λ (t : List ℕ). t ++ f (j + k)) (parts-split j k f)
     ∙ (append-assoc (flatten (tabulate j f)) (flatten (tabulate k (λ i. f (j + i)))) (f (j + k))
-    ∙ ap (λ (t : List ℕ). flatten (tabulate j f) ++ t) (sym (flatten-more k (λ i. f (j + i))))))
+    ∙ ap (λ (t : List ℕ). flatten (tabulate j f) ++ t) (flatten-more k (λ i. f (j + i)))))
 
 -- two lists with the same front of e bytes have the same parts there
 part-same : (a len e : ℕ) (l r : List ℕ) → e ≤ length l → e ≤ length r → a + len ≤ e → take e l ≡ take e r → take len (drop a l) ≡ take len (drop a r)
@@ -125,7 +124,7 @@ module _ (c : Circuit) (n : ℕ) (witness root : List ℕ) (ask : ℕ → Asked)
   -- of one instance more
   sent-more : (j : ℕ) → sent (suc j) ≡ sent j ++ stretchAt j
   unfolding responseOf
-  sent-more j = flatten-more j stretchAt
+  sent-more j = sym (flatten-more j stretchAt)
 
   -- and of all others
   sent-split : (j k : ℕ) → sent (j + k) ≡ sent j ++ flatten (tabulate k (λ i. stretchAt (j + i)))

@@ -9,7 +9,7 @@ use native.Mathlib.Numerals.{add-one}
 use borrow.Author.Tests.{lt-ltb, le-ltb, eqb-true}
 use lib.Dec.{eqb}
 use lib.ListN.{length, take, replicate, length-append, length-replicate}
-use lib.Seq.{take-at, length-take-le}
+use lib.Seq.{take-at}
 use Rattle.bits.specs.Bits.{oct, pack, unusedZero}
 use Rattle.bits.specs.Bytes.{sameBytes, rowOf}
 use Rattle.bits.proofs.Tests.{and-true-left, and-true-right}
@@ -50,10 +50,6 @@ six-true a b c d e f h =
     let h2 = and-true-left (a && b) c h3 in
     (and-true-left a b h2, (and-true-right a b h2, (and-true-right (a && b) c h3, (and-true-right (a && b && c) d h4, (and-true-right (a && b && c && d) e h5, and-true-right (a && b && c && d && e) f h)))))
 
--- the first k of n bytes
-pub prefix-length : (k n : ℕ) → k ≤ n → length (take k (replicate {A = ℕ} n 0)) ≡ k
-prefix-length k n h = length-take-le k (replicate {A = ℕ} n 0) (omega (arith, length-replicate {A = ℕ} n 0))
-
 -- such a part z, with what lies after it
 module _ (k : ℕ) (z w : List ℕ) (l : length z ≡ k) where
   pub prefix-inside : k ≤ length (z ++ w)
@@ -68,9 +64,6 @@ module _ (k : ℕ) (z w : List ℕ) (l : length z ≡ k) where
 -- the values' array
 pub values-length : (z : List ℕ) → length z ≡ length (replicate {A = ℕ} 4096 0) → length z ≡ 4096
 values-length z e = e ∙ length-replicate {A = ℕ} 4096 0
-
-pub values-room : 4096 ≤ length (replicate {A = ℕ} 4096 0)
-values-room = omega (arith, length-replicate {A = ℕ} 4096 0)
 
 -- the rows packed where good
 module _ (good : Bool) (w : ℕ) (m : List ℕ) (n broadcasts : ℕ) (rows : List ℕ) where

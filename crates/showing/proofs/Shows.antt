@@ -2,15 +2,13 @@
 -- Assumes nothing.
 use mathlib.Core.Path.{_≡_, refl, sym, ap, ap₂, _∙_}
 use mathlib.Core.Bool.{Bool, true, false, not, cond, _&&_}
-use mathlib.Core.List.{List, [], _∷_, _++_, append-assoc}
+use mathlib.Core.List.{List, [], _∷_, _++_}
 use Prim.Native.Nat.{ℕ, zero, suc, _+_, _-_, _*_, _≤_, _<_}
 use native.Mathlib.Omega.{arith}
 use native.Mathlib.Numerals.{add-one}
 use borrow.Author.Tests.{lt-ltb, le-ltb, ltb-true, leb-true, eqb-true, eq-eqb, ne-eqb}
-use borrow.Rule.Slice.PartMut.{midOf, postOf, putMid, mid-len, post-is}
 use lib.Dec.{eqb, leb, ltb}
-use lib.ListN.{length, getD, set, take, drop, replicate, length-replicate}
-use lib.Seq.{take-suc, take-suc-set, take-all}
+use lib.ListN.{length, take, drop, replicate}
 use Rattle.circuit.specs.Steps.{gatesFrom, Chained}
 use Rattle.bits.specs.Bits.{tabulate, oct, pack, unusedZero}
 use Rattle.bits.proofs.Tabulate.{length-tabulate}
@@ -59,10 +57,6 @@ ands-take (suc k) (inv a c ∷ gs) = ands-take k gs
 pub chained : (s : List ℕ) (i o g a : ℕ) → Known s (sized i o g a) → (h : ℕ) → h ≡ headOf s → Chained s i o g h
 chained s i o g a k h p = record { laid = k .legal .laid; chain = ap₂ (walks s) (k .legal .laid .gates) p ∙ goodChain-walks s (k .legal .chain) }
 
--- z zeros are z bytes
-pub length-room : (z : ℕ) → z ≤ length (replicate {A = ℕ} z 0)
-length-room z = omega (arith, length-replicate {A = ℕ} z 0)
-
 -- a legal file, with a cut
 module _ (s : List ℕ) (i o g a : ℕ) (f : Known s (sized i o g a)) (k : ℕ) where
   -- below G, the AND gates passed
@@ -89,25 +83,6 @@ module _ (s : List ℕ) (i o g a : ℕ) (f : Known s (sized i o g a)) (k : ℕ) 
       pick : (b : Bool) → cond b (ands (take k (gatesInOrder s))) (ands (gatesInOrder s) + length (tabulate (outputsOf s) (outputWire s))) ≤ a + o
       pick true = omega (arith, ands-take k (gatesInOrder s), f .ands)
       pick false = omega (arith, length-tabulate (outputsOf s) (outputWire s), f .ands, f .legal .laid .outputs)
-
--- one more byte is copied
-pub copy-more : (s d : List ℕ) (k : ℕ) → k < length d → length d ≡ length s → take k d ≡ take k s
-    → take (k + 1) (set d k (getD s k 0)) ≡ take (k + 1) s
-copy-more s d k h l e =
-    let w : k < length s = omega arith in
-    rw (add-one k) (take-suc-set d k (getD s k 0) h ∙ rw e (sym (take-suc s k 0 w)))
-
--- all bytes are copied
-pub copy-end : (s d : List ℕ) (k : ℕ) → length d ≤ k → length d ≡ length s → take k d ≡ take k s → d ≡ s
-copy-end s d k h l e = sym (take-all k d h) ∙ (e ∙ take-all k s (omega arith))
-
--- the copy with a part that is cleared
-pub part-cleared : (s d z : List ℕ) (a len : ℕ) → a + len ≤ length d → d ≡ s → z ≡ replicate (length (midOf a (a + len - a) d)) 0
-    → putMid a (a + len - a) d z ≡ take a s ++ replicate len 0 ++ drop (a + len) s
-part-cleared s d z a len h e q =
-    let l : length (midOf a (a + len - a) d) ≡ len = mid-len a (a + len) d h ∙ omega arith in
-    sym (append-assoc (take a d) z (postOf a (a + len - a) d))
-    ∙ ap₂ _++_ (ap₂ _++_ (ap (take a) e) (q ∙ ap (λ (n : ℕ). replicate n 0) l)) (post-is a (a + len) d (omega arith) ∙ ap (drop (a + len)) e)
 
 -- the corrections, where they are the hidden party's
 pub corrections-hidden : (p n : ℕ) (y x z : List ℕ) → p + 1 ≡ n → y ≡ x → y ≡ cond (eqb (suc p) n) x z

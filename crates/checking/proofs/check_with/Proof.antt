@@ -3,7 +3,7 @@
 use mathlib.Core.Path.{sym}
 use native.Mathlib.Omega.{arith}
 use Prim.Native.Nat.{_+_, _*_}
-use Rattle.instance.proofs.Sent.{front-length}
+use Rattle.bits.proofs.Copies.{prefix-length}
 use Rattle.proof.proofs.Works.{double-fits, bits-fit, wires-fit, planes-fit, work-fits, work-few, tapes-few, tapes-fit, fronts-lent}
 use Rattle.checking.proofs.Headers.{headed-choices}
 use Rattle.checking.proofs.check_with.Statement.{statement}
@@ -42,7 +42,7 @@ slice-aggregate-check-in : tie.Need-slice-aggregate-check-in
 slice-aggregate-check-in c =
     let x = c .before .before .before .before .before .before .args in
     let p = c .before .before .before .before .before .before .pre in
-    sym (front-length 1533 (3 * x .tau) (headed-choices _ _ _ _ _ (p .1 .1)))
+    sym (prefix-length (3 * x .tau) 1533 (headed-choices _ _ _ _ _ (p .1 .1)))
 
 array-borrow-prefix-tapes : tie.Need-array-borrow-prefix-tapes
 array-borrow-prefix-tapes c =
@@ -53,7 +53,7 @@ slice-aggregate-check-in-2 : tie.Need-slice-aggregate-check-in-2
 slice-aggregate-check-in-2 c =
     let x = c .before .before .before .before .before .before .before .args in
     let p = c .before .before .before .before .before .before .before .pre in
-    sym (front-length 17408 (x .n * c .before .before .oct .result) (tapes-few _ _ _ _ _ (p .0) _ _ _ (p .1 .0) (c .before .before .oct .ensures)))
+    sym (prefix-length (x .n * c .before .before .oct .result) 17408 (tapes-few _ _ _ _ _ (p .0) _ _ _ (p .1 .0) (c .before .before .oct .ensures)))
 
 array-borrow-prefix-memory : tie.Need-array-borrow-prefix-memory
 array-borrow-prefix-memory c = work-few _ _ _ _ _ (c .before .before .before .before .before .before .before .pre .0)
@@ -61,13 +61,13 @@ array-borrow-prefix-memory c = work-few _ _ _ _ _ (c .before .before .before .be
 slice-aggregate-check-in-3 : tie.Need-slice-aggregate-check-in-3
 slice-aggregate-check-in-3 c =
     let x = c .before .before .before .before .before .before .before .before .args in
-    sym (front-length 299008 (64 * (x .z .inputs + x .z .gates) + 4096) (work-few _ _ _ _ _ (c .before .before .before .before .before .before .before .before .pre .0)))
+    sym (prefix-length (64 * (x .z .inputs + x .z .gates) + 4096) 299008 (work-few _ _ _ _ _ (c .before .before .before .before .before .before .before .before .pre .0)))
 
 check-in-requires : tie.Need-check-in-requires
 check-in-requires c κs =
     let x = c .before .before .before .before .before .before .before .before .args in
     let p = c .before .before .before .before .before .before .before .before .pre in
-    (fronts-lent _ _ _ _ _ (p .0) _ _ (c .before .before .before .oct .result) (p .1 .0) (c .before .before .before .oct .ensures), (p .1 .1, front-length 1533 (3 * x .tau) (headed-choices _ _ _ _ _ (p .1 .1))))
+    (fronts-lent _ _ _ _ _ (p .0) _ _ (c .before .before .before .oct .result) (p .1 .0) (c .before .before .before .oct .ensures), (p .1 .1, prefix-length (3 * x .tau) 1533 (headed-choices _ _ _ _ _ (p .1 .1))))
 
 returns : tie.Need-returns
 returns c = c .before .before .before .check-in .ensures

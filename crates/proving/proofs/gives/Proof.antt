@@ -2,7 +2,8 @@
 -- Assumes nothing.
 use mathlib.Core.Path.{sym, _∙_}
 use borrow.Author.Needs.{needs}
-use Rattle.instance.proofs.Sent.{front-length, front-inside, front-taken}
+use Rattle.bits.proofs.Copies.{prefix-length}
+use Rattle.instance.proofs.Sent.{front-inside, front-taken}
 use Rattle.proving.proofs.Given.{few-output, gives-made}
 use Rattle.proving.proofs.gives.Statement.{statement}
 use Rattle.proving.proofs.gives.Tie as tie
@@ -14,7 +15,7 @@ array-borrow-prefix-out : tie.Need-array-borrow-prefix-out
 array-borrow-prefix-out c = few-output _ _ _ _ _ _ (c .before .before .before .before .pre .1 .0) (c .oct .ensures)
 
 slice-aggregate-evaluate : tie.Need-slice-aggregate-evaluate
-slice-aggregate-evaluate c = sym (front-length 32 (c .before .oct .result) (few-output _ _ _ _ _ _ (c .before .before .before .before .before .pre .1 .0) (c .before .oct .ensures)))
+slice-aggregate-evaluate c = sym (prefix-length (c .before .oct .result) 32 (few-output _ _ _ _ _ _ (c .before .before .before .before .before .pre .1 .0) (c .before .oct .ensures)))
 
 evaluate-requires : tie.Need-evaluate-requires
 evaluate-requires c κs = search needs
@@ -30,7 +31,7 @@ same-requires c κs = search needs
 
 returns : tie.Need-returns
 returns c =
-    let l = front-length 32 (c .before .before .before .before .before .oct .result) (few-output _ _ _ _ _ _ (c .before .before .before .before .before .before .before .before .before .pre .1 .0) (c .before .before .before .before .before .oct .ensures)) in
+    let l = prefix-length (c .before .before .before .before .before .oct .result) 32 (few-output _ _ _ _ _ _ (c .before .before .before .before .before .before .before .before .before .pre .1 .0) (c .before .before .before .before .before .oct .ensures)) in
     gives-made _ _ _ _ _ _ _ (c .before .before .before .before .before .before .before .before .before .pre .0) (c .before .before .before .before .before .before .before .before .before .pre .1 .0) (c .before .before .before .before .before .before .before .before .before .pre .1 .1) (l ∙ c .before .before .before .before .before .oct .ensures) _ _ _ _ (c .before .before .before .evaluate .result) _ (c .before .before .before .evaluate .ensures) (c .before .before .before .evaluate .kept .1 .1 .0 ∙ l) (c .same .ensures)
 
 pub gives-spec : {M : Type 1} → statement M

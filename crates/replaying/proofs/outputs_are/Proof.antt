@@ -3,8 +3,9 @@
 use mathlib.Core.Path.{sym, ap, _∙_}
 use native.Mathlib.Omega.{arith}
 use lib.ListN.{drop, replicate}
+use Rattle.bits.proofs.Copies.{prefix-length}
 use Rattle.engine.specs.Steps.{packed}
-use Rattle.replaying.proofs.Replayed.{prefix-length, prefix-inside, prefix-taken, prefix-same}
+use Rattle.replaying.proofs.Replayed.{prefix-inside, prefix-taken, prefix-same}
 use Rattle.replaying.proofs.outputs_are.Statement.{statement}
 use Rattle.replaying.proofs.outputs_are.Tie as tie
 

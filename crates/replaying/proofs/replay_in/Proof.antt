@@ -3,8 +3,8 @@
 use mathlib.Core.Path.{refl, sym}
 use native.Mathlib.Omega.{arith}
 use Rattle.mpc.proofs.Opened.{ands-low, room}
-use Rattle.mpc.proofs.Asks.{kept-room, broadcasts-small}
-use Rattle.replaying.proofs.Replayed.{values-length, values-room, replayed-right}
+use Rattle.mpc.proofs.Asks.{clear-room, kept-room, broadcasts-small}
+use Rattle.replaying.proofs.Replayed.{values-length, replayed-right}
 use Rattle.replaying.proofs.replay_in.Statement.{statement}
 use Rattle.replaying.proofs.replay_in.Tie as tie
 
@@ -20,7 +20,7 @@ slice-aggregate-run-opened c = refl
 run-opened-requires : tie.Need-run-opened-requires
 run-opened-requires c κs =
     let p = c .before .before .before .before .before .before .before .before .before .before .before .before .pre in
-    (p .0, (p .1 .0 .parties, (p .1 .0 .room, (values-room, (p .1 .1 .0, p .1 .1 .1 .1 .0)))))
+    (p .0, (p .1 .0 .parties, (p .1 .0 .room, (clear-room 4096, (p .1 .1 .0, p .1 .1 .1 .1 .0)))))
 
 slice-aggregate-outputs-are : tie.Need-slice-aggregate-outputs-are
 slice-aggregate-outputs-are c = sym (values-length (c .before .before .before .before .run-opened .last .1 .1 .1 .1 .1 .1 .1 .1 .0) (c .before .before .before .before .run-opened .kept .1 .1 .1 .1 .1 .1 .1 .1 .0))

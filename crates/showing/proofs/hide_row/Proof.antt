@@ -5,7 +5,7 @@ use Prim.Native.Nat.{_+_, _-_, _*_, _≤_}
 use native.Mathlib.Omega.{arith}
 use borrow.Rule.Slice.PartMut.{same-len-mid}
 use lib.ListN.{length, take, length-set}
-use Rattle.showing.proofs.Shows.{copy-more, copy-end, part-cleared}
+use Rattle.bits.proofs.Copies.{copy-more, copy-end, part-cleared}
 use Rattle.showing.proofs.hide_row.Statement.{statement}
 use Rattle.showing.proofs.hide_row.Tie as tie
 

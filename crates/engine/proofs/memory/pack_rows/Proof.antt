@@ -9,7 +9,8 @@ use lib.ListN.{length, take}
 use Rattle.bits.specs.Bits.{tabulate}
 use Rattle.bits.proofs.Rows.{row-fits}
 use Rattle.engine.specs.Steps.{broadcastAt, packed}
-use Rattle.engine.proofs.Loading.{length-packed, part-length, rows-none, rows-turn, row-packed, rows-end}
+use Rattle.bits.proofs.Rows.{part-length, rows-none, rows-turn}
+use Rattle.engine.proofs.Loading.{length-packed, row-packed, rows-end}
 use Rattle.engine.proofs.memory.pack_rows.Statement.{statement}
 use Rattle.engine.proofs.memory.pack_rows.Tie as tie
 
@@ -49,7 +50,7 @@ part-pack-end : tie.Need-part-pack-end Inv-loop μ-loop
 part-pack-end c = omega (arith, inside c)
 
 pack-requires : tie.Need-pack-requires Inv-loop μ-loop
-pack-requires c κs = (omega (arith, part-length (c .before .before .before .before .before .args .len) (c .before .before .loop .i) (c .before .before .loop .rows) (inside (c .before))), (omega arith, omega arith))
+pack-requires c κs = (omega (arith, part-length (c .before .before .before .before .before .args .len) (c .before .before .loop .i) _ _ refl refl (c .before .before .loop .rows) (inside (c .before))), (omega arith, omega arith))
 
 add-i : tie.Need-add-i Inv-loop μ-loop
 add-i c = omega arith
@@ -68,7 +69,7 @@ loop-again c =
       omega arith,
       (
         same-len-mid (l .i * x .len) (l .i * x .len + x .len - l .i * x .len) (l .rows) z (p .kept .1 .1 .1 .0) ∙ l .inv .1 .0,
-        rows-turn (x .len) (l .i) (λ k. packed (x .memory .now) (broadcastAt (x .wires) 0 k) (x .shown) (x .len)) (l .rows) z (inside w) (ap length q ∙ length-packed _ _ _ _) (l .inv .1 .1) q,
+        rows-turn (x .len) (l .i) _ _ refl refl (l .rows) (inside w) (λ k. packed (x .memory .now) (broadcastAt (x .wires) 0 k) (x .shown) (x .len)) z (ap length q ∙ length-packed _ _ _ _) (l .inv .1 .1) q,
       ),
     )
 

@@ -4,10 +4,11 @@ use mathlib.Core.Path.{refl, sym, ap₂, _∙_}
 use Prim.Native.Nat.{_*_}
 use native.Mathlib.Omega.{arith}
 use lib.ListN.{length, take, drop, replicate}
+use Rattle.bits.proofs.Copies.{prefix-length}
 use Rattle.mpc.specs.Steps.{prepared}
 use Rattle.mpc.proofs.Opened.{ands-low, begun}
 use Rattle.instance.proofs.Trees.{tree-parties}
-use Rattle.instance.proofs.Replays.{prefix-length, kept-prefix, prefix-inside, prefix-taken, master-tapes, master-made}
+use Rattle.instance.proofs.Replays.{kept-prefix, prefix-inside, prefix-taken, master-tapes, master-made}
 use Rattle.instance.proofs.checking.reopen.Statement.{statement}
 use Rattle.instance.proofs.checking.reopen.Tie as tie
 

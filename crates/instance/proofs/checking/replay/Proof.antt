@@ -5,12 +5,13 @@ use Prim.Native.Nat.{_+_, _*_}
 use native.Mathlib.Omega.{arith}
 use lib.ListN.{length, drop, replicate}
 use Rattle.bits.specs.Bits.{oct}
+use Rattle.bits.proofs.Copies.{prefix-length}
 use Rattle.mpc.specs.Showing.{Showing}
 use Rattle.mpc.specs.Steps.{replayed}
 use Rattle.mpc.proofs.Opened.{ands-low}
 use Rattle.instance.proofs.Trees.{tree-parties, tree-low}
 use Rattle.instance.proofs.Checks.{stretch-size, sent-small, masked-unused, part-length, rest-length}
-use Rattle.instance.proofs.Replays.{prefix-length, kept-prefix, prefix-inside, prefix-taken, commitments-made, lent-shown, output-made, rows-made}
+use Rattle.instance.proofs.Replays.{kept-prefix, prefix-inside, prefix-taken, commitments-made, lent-shown, output-made, rows-made}
 use Rattle.instance.proofs.checking.replay.Statement.{statement}
 use Rattle.instance.proofs.checking.replay.Tie as tie
 

@@ -6,10 +6,11 @@ use native.Mathlib.Omega.{arith}
 use Prim.Native.Nat.{_+_, _-_, _*_, _≤_}
 use borrow.Rule.Slice.PartMut.{same-len-mid}
 use lib.ListN.{length, take}
+use Rattle.bits.proofs.Rows.{part-length, rows-none, rows-turn}
 use Rattle.bits.specs.Bits.{tabulate}
 use Rattle.bits.specs.Bytes.{rowOf}
 use Rattle.party.specs.Derive.{seedRow}
-use Rattle.instance.proofs.Seeded.{part-length, rows-none, rows-turn, seeds-end}
+use Rattle.instance.proofs.Seeded.{seeds-end}
 use Rattle.instance.proofs.seeding.seed_rows.Statement.{statement}
 use Rattle.instance.proofs.seeding.seed_rows.Tie as tie
 

@@ -7,13 +7,13 @@ use Prim.Native.Nat.{ℕ, _+_, _-_, _*_, _≤_}
 use borrow.Rule.Slice.PartMut.{same-len-mid}
 use lib.ListN.{length, take}
 use Rattle.bits.specs.Bits.{tabulate}
-use Rattle.bits.proofs.Rows.{row-fits}
+use Rattle.bits.proofs.Rows.{row-fits, part-length, rows-none, rows-turn}
 use Rattle.circuit.specs.File.{circuitOf}
 use Rattle.mpc.specs.Tapes.{rowBytes, usedBits}
 use Rattle.mpc.proofs.Opened.{ands-low}
 use Rattle.party.specs.Derive.{tapeRow}
 use Rattle.instance.specs.Instance.{seedOf}
-use Rattle.instance.proofs.Seeded.{part-length, rows-none, rows-turn, seed-fits, tape-made, tapes-end}
+use Rattle.instance.proofs.Seeded.{seed-fits, tape-made, tapes-end}
 use Rattle.instance.proofs.seeding.tape_rows.Statement.{statement}
 use Rattle.instance.proofs.seeding.tape_rows.Tie as tie
 

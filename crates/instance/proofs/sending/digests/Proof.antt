@@ -4,9 +4,10 @@ use mathlib.Core.Path.{sym, _∙_}
 use native.Mathlib.Omega.{arith}
 use Prim.Native.Nat.{ℕ, _*_}
 use lib.ListN.{length-replicate}
+use Rattle.bits.proofs.Copies.{prefix-length}
 use Rattle.mpc.proofs.Asks.{kept-room, broadcasts-small}
 use Rattle.instance.proofs.Trees.{tree-sizes, tree-parties}
-use Rattle.instance.proofs.Sent.{digests-made, few-seeds, few-corrections, few-masked, front-length, front-inside, front-back, front-taken, online-asks}
+use Rattle.instance.proofs.Sent.{digests-made, few-seeds, few-corrections, few-masked, front-inside, front-back, front-taken, online-asks}
 use Rattle.instance.proofs.sending.digests.Statement.{statement}
 use Rattle.instance.proofs.sending.digests.Tie as tie
 
@@ -26,19 +27,19 @@ array-borrow-prefix-seeds : tie.Need-array-borrow-prefix-seeds
 array-borrow-prefix-seeds c = omega (arith, length-replicate {A = ℕ} 512 0, few-seeds _ _ (c .before .before .before .before .before .before .before .pre .0 .tree))
 
 slice-aggregate-from-master : tie.Need-slice-aggregate-from-master
-slice-aggregate-from-master c = sym (front-length 512 _ (few-seeds _ _ (c .before .before .before .before .before .before .before .before .pre .0 .tree)))
+slice-aggregate-from-master c = sym (prefix-length _ 512 (few-seeds _ _ (c .before .before .before .before .before .before .before .before .pre .0 .tree)))
 
 array-borrow-prefix-corrections : tie.Need-array-borrow-prefix-corrections
 array-borrow-prefix-corrections c = omega (arith, length-replicate {A = ℕ} 512 0, few-corrections _ _ _ _ _ _ (c .before .before .before .before .before .before .before .before .pre .0 .known) (c .before .before .oct .ensures))
 
 slice-aggregate-from-master-2 : tie.Need-slice-aggregate-from-master-2
-slice-aggregate-from-master-2 c = sym (front-length 512 _ (few-corrections _ _ _ _ _ _ (c .before .before .before .before .before .before .before .before .before .pre .0 .known) (c .before .before .before .oct .ensures)))
+slice-aggregate-from-master-2 c = sym (prefix-length _ 512 (few-corrections _ _ _ _ _ _ (c .before .before .before .before .before .before .before .before .before .pre .0 .known) (c .before .before .before .oct .ensures)))
 
 array-borrow-prefix-masked : tie.Need-array-borrow-prefix-masked
 array-borrow-prefix-masked c = omega (arith, length-replicate {A = ℕ} 64 0, few-masked _ _ _ _ _ _ (c .before .before .before .before .before .before .before .before .before .pre .0 .known) (c .before .before .oct2 .ensures))
 
 slice-aggregate-from-master-3 : tie.Need-slice-aggregate-from-master-3
-slice-aggregate-from-master-3 c = sym (front-length 64 _ (few-masked _ _ _ _ _ _ (c .before .before .before .before .before .before .before .before .before .before .pre .0 .known) (c .before .before .before .oct2 .ensures)))
+slice-aggregate-from-master-3 c = sym (prefix-length _ 64 (few-masked _ _ _ _ _ _ (c .before .before .before .before .before .before .before .before .before .before .pre .0 .known) (c .before .before .before .oct2 .ensures)))
 
 from-master-requires : tie.Need-from-master-requires
 from-master-requires c κs =
@@ -46,7 +47,7 @@ from-master-requires c κs =
     let a = few-seeds _ _ (p .0 .tree) in
     let b = few-corrections _ _ _ _ _ _ (p .0 .known) (c .before .before .before .before .before .before .oct .ensures) in
     let d = few-masked _ _ _ _ _ _ (p .0 .known) (c .before .before .before .before .before .oct2 .ensures) in
-    (p .0, (p .1 .0, (p .1 .1, (front-length 512 _ a, (front-length 512 _ b ∙ c .before .before .before .before .before .before .oct .ensures, front-length 64 _ d ∙ c .before .before .before .before .before .oct2 .ensures)))))
+    (p .0, (p .1 .0, (p .1 .1, (prefix-length _ 512 a, (prefix-length _ 512 b ∙ c .before .before .before .before .before .before .oct .ensures, prefix-length _ 64 d ∙ c .before .before .before .before .before .oct2 .ensures)))))
 
 array-share-prefix-seeds : tie.Need-array-share-prefix-seeds
 array-share-prefix-seeds c = front-inside 512 (32 * c .before .before .before .before .before .before .before .before .before .before .before .before .before .before .before .before .before .before .before .before .args .inst .parties) (c .before .before .before .before .before .before .before .from-master .last .1 .1 .1 .1 .1 .0) (few-seeds _ _ (c .before .before .before .before .before .before .before .before .before .before .before .before .before .before .before .before .before .before .before .before .pre .0 .tree)) (c .before .before .before .before .before .before .before .from-master .kept .1 .1 .1 .1 .1 .0)

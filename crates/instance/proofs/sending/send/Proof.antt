@@ -10,10 +10,11 @@ use lib.Dec.{eqb}
 use lib.ListN.{length, length-replicate}
 use lib.Seq.{length-take-le, length-front}
 use Rattle.bits.specs.Bits.{oct}
+use Rattle.bits.proofs.Copies.{prefix-length}
 use Rattle.parties.proofs.Counts.{height-small}
 use Rattle.mpc.proofs.Asks.{kept-room, broadcasts-small}
 use Rattle.instance.proofs.Trees.{tree-sizes, tree-parties}
-use Rattle.instance.proofs.Sent.{few-seeds, few-corrections, few-masked, front-length, front-inside, front-back, front-taken, front-less, front-some}
+use Rattle.instance.proofs.Sent.{few-seeds, few-corrections, few-masked, front-inside, front-back, front-taken, front-less, front-some}
 use Rattle.instance.proofs.Checks.{sent-none, sent-all, rest-length}
 use Rattle.instance.proofs.Laid.{five-parts, length-commitment, stretch-size, sent-inside, siblings-asks, row-asks, stretch-made}
 use Rattle.instance.proofs.sending.send.Statement.{statement}
@@ -35,19 +36,19 @@ array-borrow-prefix-seeds : tie.Need-array-borrow-prefix-seeds
 array-borrow-prefix-seeds c = omega (arith, length-replicate {A = ℕ} 512 0, few-seeds _ _ (c .before .before .before .before .before .before .before .before .pre .0 .tree))
 
 slice-aggregate-from-master : tie.Need-slice-aggregate-from-master
-slice-aggregate-from-master c = sym (front-length 512 _ (few-seeds _ _ (c .before .before .before .before .before .before .before .before .before .pre .0 .tree)))
+slice-aggregate-from-master c = sym (prefix-length _ 512 (few-seeds _ _ (c .before .before .before .before .before .before .before .before .before .pre .0 .tree)))
 
 array-borrow-prefix-corrections : tie.Need-array-borrow-prefix-corrections
 array-borrow-prefix-corrections c = omega (arith, length-replicate {A = ℕ} 512 0, few-corrections _ _ _ _ _ _ (c .before .before .before .before .before .before .before .before .before .pre .0 .known) (c .before .before .oct .ensures))
 
 slice-aggregate-from-master-2 : tie.Need-slice-aggregate-from-master-2
-slice-aggregate-from-master-2 c = sym (front-length 512 _ (few-corrections _ _ _ _ _ _ (c .before .before .before .before .before .before .before .before .before .before .pre .0 .known) (c .before .before .before .oct .ensures)))
+slice-aggregate-from-master-2 c = sym (prefix-length _ 512 (few-corrections _ _ _ _ _ _ (c .before .before .before .before .before .before .before .before .before .before .pre .0 .known) (c .before .before .before .oct .ensures)))
 
 array-borrow-prefix-masked : tie.Need-array-borrow-prefix-masked
 array-borrow-prefix-masked c = omega (arith, length-replicate {A = ℕ} 64 0, few-masked _ _ _ _ _ _ (c .before .before .before .before .before .before .before .before .before .before .pre .0 .known) (c .before .before .oct2 .ensures))
 
 slice-aggregate-from-master-3 : tie.Need-slice-aggregate-from-master-3
-slice-aggregate-from-master-3 c = sym (front-length 64 _ (few-masked _ _ _ _ _ _ (c .before .before .before .before .before .before .before .before .before .before .before .pre .0 .known) (c .before .before .before .oct2 .ensures)))
+slice-aggregate-from-master-3 c = sym (prefix-length _ 64 (few-masked _ _ _ _ _ _ (c .before .before .before .before .before .before .before .before .before .before .before .pre .0 .known) (c .before .before .before .oct2 .ensures)))
 
 from-master-requires : tie.Need-from-master-requires
 from-master-requires c κs =
@@ -55,7 +56,7 @@ from-master-requires c κs =
     let a = few-seeds _ _ (p .0 .tree) in
     let b = few-corrections _ _ _ _ _ _ (p .0 .known) (c .before .before .before .before .before .before .oct .ensures) in
     let d = few-masked _ _ _ _ _ _ (p .0 .known) (c .before .before .before .before .before .oct2 .ensures) in
-    (p .0, (p .1 .0, (p .1 .1 .0, (front-length 512 _ a, (front-length 512 _ b ∙ c .before .before .before .before .before .before .oct .ensures, front-length 64 _ d ∙ c .before .before .before .before .before .oct2 .ensures)))))
+    (p .0, (p .1 .0, (p .1 .1 .0, (prefix-length _ 512 a, (prefix-length _ 512 b ∙ c .before .before .before .before .before .before .oct .ensures, prefix-length _ 64 d ∙ c .before .before .before .before .before .oct2 .ensures)))))
 
 -- the corrections' bytes that are sent
 sent-is : (c : tie.Joined1) → c .if1 .sent ≡ cond (eqb (suc (c .before .before .before .before .before .before .before .before .before .before .before .before .before .before .before .before .before .before .before .before .before .before .args .p)) (c .before .before .before .before .before .before .before .before .before .before .before .before .before .before .before .before .before .before .before .before .before .before .args .inst .parties)) 0 (oct (c .before .before .before .before .before .before .before .before .before .before .before .before .before .before .before .before .before .before .before .before .before .before .args .z .ands))
@@ -186,7 +187,7 @@ returns c =
           _ _ _ _ _ _ _ _ _ _ _ _ _
           (front-back 512 (32 * x .inst .parties) (v .last .1 .1 .1 .1 .1 .0) (few-seeds _ _ (p .0 .tree)) (v .kept .1 .1 .1 .1 .1 .0))
           (front-back 512 (c .before .before .before .before .before .before .before .before .before .before .before .before .before .before .before .before .before .before .before .before .before .before .before .before .before .before .before .before .before .before .before .before .before .before .before .before .before .before .before .before .before .before .before .before .oct .result) (v .last .1 .1 .1 .1 .1 .1 .0) b (v .kept .1 .1 .1 .1 .1 .1 .0)) (v .ensures .0) (v .ensures .1 .0)
-          (v .kept .1 .1 .1 .1 .1 .1 .0 ∙ front-length 512 _ b ∙ c .before .before .before .before .before .before .before .before .before .before .before .before .before .before .before .before .before .before .before .before .before .before .before .before .before .before .before .before .before .before .before .before .before .before .before .before .before .before .before .before .before .before .before .before .oct .ensures) (v .ensures .1 .1 .1 .1) (c .before .before .before .before .before .before .before .before .before .before .before .before .before .before .before .before .before .before .before .before .before .before .before .before .siblings-below .ensures) refl (c .before .before .before .before .before .before .before .before .before .before .before .before .before .before .before .before .before .before .before .before .before .before .before .before .before .before .commitment .ensures)
+          (v .kept .1 .1 .1 .1 .1 .1 .0 ∙ prefix-length _ 512 b ∙ c .before .before .before .before .before .before .before .before .before .before .before .before .before .before .before .before .before .before .before .before .before .before .before .before .before .before .before .before .before .before .before .before .before .before .before .before .before .before .before .before .before .before .before .before .oct .ensures) (v .ensures .1 .1 .1 .1) (c .before .before .before .before .before .before .before .before .before .before .before .before .before .before .before .before .before .before .before .before .before .before .before .before .siblings-below .ensures) refl (c .before .before .before .before .before .before .before .before .before .before .before .before .before .before .before .before .before .before .before .before .before .before .before .before .before .before .commitment .ensures)
           (front-back 64 (c .before .before .before .before .before .before .before .before .before .before .before .before .before .before .before .before .before .before .before .before .before .before .before .before .before .before .before .before .before .before .before .before .before .before .before .before .before .before .before .before .before .before .before .oct2 .result) (v .last .1 .1 .1 .1 .1 .1 .1 .0) (few-masked _ _ _ _ _ _ (p .0 .known) (c .before .before .before .before .before .before .before .before .before .before .before .before .before .before .before .before .before .before .before .before .before .before .before .before .before .before .before .before .before .before .before .before .before .before .before .before .before .before .before .before .before .before .before .oct2 .ensures)) (v .kept .1 .1 .1 .1 .1 .1 .1 .0) ∙ v .ensures .1 .1 .0)
           (rest-length (c .before .before .before .before .before .before .before .before .before .put3 .result) _ (c .before .before .before .before .before .before .before .before .before .put3 .last .1 .1 .0) (sym r)) (c .before .before .pack .ensures)
           (five-parts (16 * x .inst .height) (c .before .before .before .before .before .before .before .before .before .before .before .before .before .before .before .before .before .before .before .put .result) (c .before .before .before .before .before .before .before .before .before .before .before .before .before .before .put2 .result) (c .before .before .before .before .before .before .before .before .before .put3 .result) (length (c .before .before .before .before .before .before .before .before .before .put3 .last .1 .1 .0) - c .before .before .before .before .before .before .before .before .before .put3 .result) (x .part .now) (c .before .before .before .before .before .before .before .before .before .before .before .before .before .before .before .before .before .before .before .before .before .before .before .before .siblings-below .last .1 .1 .1 .1 .1 .0) _ _ _ (c .before .before .pack .last .1 .1 .1 .0) (c .before .before .before .before .before .before .before .before .before .before .before .before .before .before .before .before .before .before .before .put .last .1 .1 .0) (c .before .before .before .before .before .before .before .before .before .before .before .before .before .before .put2 .last .1 .1 .0) (c .before .before .before .before .before .before .before .before .before .put3 .last .1 .1 .0)

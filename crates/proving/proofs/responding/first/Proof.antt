@@ -6,13 +6,13 @@ use mathlib.Core.List.{[], flatten}
 use Prim.Native.Nat.{_+_, _-_, _*_, _≤_}
 use borrow.Rule.Slice.PartMut.{same-len-mid}
 use lib.ListN.{length, take}
+use Rattle.bits.proofs.Rows.{part-length, rows-none, rows-turn}
 use Rattle.bits.specs.Bits.{tabulate}
 use Rattle.circuit.specs.File.{circuitOf}
 use Rattle.hashing.specs.Inputs.{allCommitmentsInput, allOnlineInput}
 use Rattle.hashing.specs.Steps.{taken}
 use Rattle.hashing.proofs.Digests.{taken-more}
 use Rattle.instance.specs.Instance.{masterCommitments, masterOnline}
-use Rattle.instance.proofs.Seeded.{part-length, rows-none, rows-turn}
 use Rattle.honest.proofs.Written.{length-master}
 use Rattle.proving.specs.Steps.{onlinesOf}
 use Rattle.proving.proofs.Firsts.{lent-kept, length-online, length-given, taken-fits, commitmentsAt, onlineAt, all-none, all-turn, first-end, onlines-end}

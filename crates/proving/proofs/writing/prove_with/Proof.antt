@@ -3,7 +3,7 @@
 use mathlib.Core.Path.{sym}
 use Prim.Native.Nat.{_+_, _*_}
 use native.Mathlib.Omega.{arith}
-use Rattle.instance.proofs.Sent.{front-length}
+use Rattle.bits.proofs.Copies.{prefix-length}
 use Rattle.mpc.proofs.Asks.{small}
 use Rattle.proof.proofs.Works.{double-fits, bits-fit, wires-fit, planes-fit, work-fits, work-few, tapes-few, tapes-fit, fronts-lent}
 use Rattle.proving.proofs.Buffers.{few-choices}
@@ -38,13 +38,13 @@ array-borrow-prefix-choices : tie.Need-array-borrow-prefix-choices
 array-borrow-prefix-choices c = let p = c .before .before .before .before .before .before .before .pre in few-choices _ _ _ _ _ _ _ _ _ _ (p .1 .1) (p .1 .0)
 
 slice-aggregate-prove-in : tie.Need-slice-aggregate-prove-in
-slice-aggregate-prove-in c = let p = c .before .before .before .before .before .before .before .before .pre in sym (front-length 1533 (3 * c .before .before .before .before .before .before .before .before .args .tau) (few-choices _ _ _ _ _ _ _ _ _ _ (p .1 .1) (p .1 .0)))
+slice-aggregate-prove-in c = let p = c .before .before .before .before .before .before .before .before .pre in sym (prefix-length (3 * c .before .before .before .before .before .before .before .before .args .tau) 1533 (few-choices _ _ _ _ _ _ _ _ _ _ (p .1 .1) (p .1 .0)))
 
 array-borrow-prefix-tapes : tie.Need-array-borrow-prefix-tapes
 array-borrow-prefix-tapes c = let p = c .before .before .before .before .before .before .before .before .pre in tapes-few _ _ _ _ _ (p .0) _ _ _ (p .1 .0) (c .before .before .oct .ensures)
 
 slice-aggregate-prove-in-2 : tie.Need-slice-aggregate-prove-in-2
-slice-aggregate-prove-in-2 c = let p = c .before .before .before .before .before .before .before .before .before .pre in sym (front-length 17408 (c .before .before .before .before .before .before .before .before .before .args .n * c .before .before .before .oct .result) (tapes-few _ _ _ _ _ (p .0) _ _ _ (p .1 .0) (c .before .before .before .oct .ensures)))
+slice-aggregate-prove-in-2 c = let p = c .before .before .before .before .before .before .before .before .before .pre in sym (prefix-length (c .before .before .before .before .before .before .before .before .before .args .n * c .before .before .before .oct .result) 17408 (tapes-few _ _ _ _ _ (p .0) _ _ _ (p .1 .0) (c .before .before .before .oct .ensures)))
 
 array-borrow-prefix-memory : tie.Need-array-borrow-prefix-memory
 array-borrow-prefix-memory c = work-few _ _ _ _ _ (c .before .before .before .before .before .before .before .before .before .pre .0)
@@ -52,13 +52,13 @@ array-borrow-prefix-memory c = work-few _ _ _ _ _ (c .before .before .before .be
 slice-aggregate-prove-in-3 : tie.Need-slice-aggregate-prove-in-3
 slice-aggregate-prove-in-3 c =
     let x = c .before .before .before .before .before .before .before .before .before .before .args in
-    sym (front-length 299008 (64 * (x .z .inputs + x .z .gates) + 4096) (work-few _ _ _ _ _ (c .before .before .before .before .before .before .before .before .before .before .pre .0)))
+    sym (prefix-length (64 * (x .z .inputs + x .z .gates) + 4096) 299008 (work-few _ _ _ _ _ (c .before .before .before .before .before .before .before .before .before .before .pre .0)))
 
 prove-in-requires : tie.Need-prove-in-requires
 prove-in-requires c κs =
     let x = c .before .before .before .before .before .before .before .before .before .before .args in
     let p = c .before .before .before .before .before .before .before .before .before .before .pre in
-    (fronts-lent _ _ _ _ _ (p .0) _ _ (c .before .before .before .before .oct .result) (p .1 .0) (c .before .before .before .before .oct .ensures), (p .1 .1, front-length 1533 (3 * x .tau) (few-choices _ _ _ _ _ _ _ _ _ _ (p .1 .1) (p .1 .0))))
+    (fronts-lent _ _ _ _ _ (p .0) _ _ (c .before .before .before .before .oct .result) (p .1 .0) (c .before .before .before .before .oct .ensures), (p .1 .1, prefix-length (3 * x .tau) 1533 (few-choices _ _ _ _ _ _ _ _ _ _ (p .1 .1) (p .1 .0))))
 
 same-length : tie.Need-same-length
 same-length c = c .before .before .before .before .before .prove-in .kept .1 .1 .1 .1 .1 .1 .1 .1 .1 .0
