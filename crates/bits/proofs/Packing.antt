@@ -15,7 +15,8 @@ use lib.Dec.{eqb}
 use lib.ListN.{length, getD, set, length-set, List·getD-eq-default}
 use lib.Pow.{mod-pow-add, pow-add, pow-pos, shl-exact, shr-le, shr-lt, split}
 use lib.Seq.{ext-getD, getD-set-same, getD-set-other, set-out}
-use Rattle.bits.specs.Bits.{tabulate, bitVal, odd, testBit, fromBits, bitAt, putBit, oct, pack, unpack, none, unusedZero}
+use Rattle.bits.specs.Bits.{tabulate, bitVal, odd, testBit, fromBits, bitAt, oct, pack, unpack, none, unusedZero}
+use Rattle.bits.specs.Steps.{putBit}
 use Rattle.bits.proofs.Numbers.{lt-or-le, eq-or-ne, bit-at, bitVal-lt, ext-bits, fromBits-lt, mod-two, testBit-bitVal, testBit-block, testBit-fromBits, testBit-high, testBit-low, testBit-mod, testBit-shr, testBit-zero}
 use Rattle.bits.proofs.Tabulate.{length-tabulate, getD-tabulate, getD-tabulate-end, tabulate-cong, tabulate-getD}
 use Rattle.bits.proofs.Bitwise.{or-zero, zero-or}

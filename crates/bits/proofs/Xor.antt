@@ -11,7 +11,8 @@ use borrow.Author.Tests.{eq-eqb, ne-eqb, eqb-false}
 use lib.Dec.{T, eqb}
 use lib.ListN.{length, getD}
 use Rattle.bits.specs.Bits.{tabulate}
-use Rattle.bits.specs.Xor.{_⊕_, xors, xorAll, without}
+use Rattle.bits.specs.Xor.{_⊕_, xors}
+use Rattle.bits.specs.Steps.{xorAll, without}
 use Rattle.bits.proofs.Tabulate.{tabulate-getD}
 
 -- a function of n bits

@@ -5,7 +5,7 @@ use mathlib.Core.Bool.{Bool, true, false, cond, not, _&&_}
 use mathlib.Core.List.{List, [], _∷_}
 use Prim.Native.Nat.{ℕ, zero, suc, _+_, _-_, _*_, _/_, _%_, _^_}
 use lib.Dec.{eqb}
-use lib.ListN.{length, getD, set}
+use lib.ListN.{length, getD}
 
 -- the list f 0, .., f (n - 1)
 abbrev pub tabulate : {A : Type 0} → ℕ → (ℕ → A) → List A
@@ -32,12 +32,6 @@ fromBits (suc w) f = fromBits w f + bitVal (f w) * 2 ^ w
 -- bit k of a byte string; false beyond its end
 unfoldable pub bitAt : List ℕ → ℕ → Bool
 bitAt s k = testBit (getD s (k / 8) 0) (k % 8)
-
--- the byte string with bit k put to b; unchanged if it has no such bit
-unfoldable pub putBit : List ℕ → ℕ → Bool → List ℕ
-putBit s k b =
-    let x : ℕ = getD s (k / 8) 0 in
-    set s (k / 8) (x - bitVal (testBit x (k % 8)) * 2 ^ (k % 8) + bitVal b * 2 ^ (k % 8))
 
 -- "oct(k) is the bytes for k bits: k/8 rounded up."
 abbrev pub oct : ℕ → ℕ

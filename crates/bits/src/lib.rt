@@ -3,8 +3,9 @@ ghost use mathlib.Core.Path.{_≡_};
 ghost use Prim.Native.Nat.{_+_, _*_, _≤_, _<_};
 ghost use lib.ListN.{length, replicate};
 ghost use lib.Seq.{sets};
-ghost use Rattle.bits.specs.Bits.{oct, bitVal, odd, bitAt, putBit, unusedZero};
+ghost use Rattle.bits.specs.Bits.{oct, bitVal, odd, bitAt, unusedZero};
 ghost use Rattle.bits.specs.Bytes.{leAt, leBytes, sameBytes, rowOf};
+ghost use Rattle.bits.specs.Steps.{putBit};
 
 // The bytes that k bits take.
 pub fn oct(k: usize) -> usize

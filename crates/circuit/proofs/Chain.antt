@@ -15,8 +15,7 @@ use Rattle.bits.proofs.Tests.{and-true-left, and-true-right}
 use Rattle.bits.proofs.Numbers.{lt-or-le, eq-or-ne}
 use Rattle.circuit.specs.Circuit as paper
 use Rattle.circuit.specs.File.{inputsOf, gatesOf, nextOf, kindOf, wireA, wireB, walks, chainFrom, gateAt, readsWritten, goodRecord, goodRecords, goodOutputs, outputWire}
-use Rattle.circuit.specs.Records.{gateOf, recordOf}
-use Rattle.circuit.specs.Steps.{placed, Inside, Laid, andOne, readable, seen, gatesFrom}
+use Rattle.circuit.specs.Steps.{gateOf, recordOf, placed, Inside, Laid, andOne, readable, seen, gatesFrom}
 use Rattle.circuit.specs.declared.Gate.{Gate}
 use Rattle.circuit.specs.declared.Gate.the-variants.{Xor, And, Inv}
 use Rattle.circuit.specs.declared.Record.{Record}

@@ -22,8 +22,7 @@ use Rattle.bits.proofs.Tabulate.{length-tabulate, getD-tabulate, getD-tabulate-
 use Rattle.bits.proofs.Tests.{and-true-left, and-true-right}
 use Rattle.circuit.specs.Circuit as paper
 use Rattle.circuit.specs.File.{maxWires, inputsOf, gatesOf, headOf, nextOf, outputWire, walks, goodChain, goodOutputs, readsWritten, gatesInOrder, circuitOf}
-use Rattle.circuit.specs.Records.{gateOf, recordOf}
-use Rattle.circuit.specs.Steps.{placed, readable, gatesFrom, gateByte, bitsOf, loaded, walked, outBits, outByte, within, wired, Legal}
+use Rattle.circuit.specs.Steps.{gateOf, recordOf, placed, readable, gatesFrom, gateByte, bitsOf, loaded, walked, outBits, outByte, within, wired, Legal}
 use Rattle.circuit.specs.declared.Gate.{Gate}
 use Rattle.circuit.specs.declared.Gate.the-variants.{Xor, And, Inv}
 use Rattle.circuit.specs.declared.Record.{Record}

@@ -3,5 +3,4 @@ pub mod Circuit
 pub mod File
 pub mod Meaning
 pub mod Operations
-pub mod Records
 pub mod Steps

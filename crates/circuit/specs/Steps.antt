@@ -1,18 +1,27 @@
 -- What only the contracts of steps use: no definition of the paper stands here.
 -- Assumes nothing.
 use mathlib.Core.Path.{_≡_}
-use mathlib.Core.Bool.{Bool, true, false, _&&_, _||_}
+use mathlib.Core.Bool.{Bool, true, false, cond, _&&_, _||_}
 use mathlib.Core.List.{List, map}
 use Prim.Native.Nat.{ℕ, zero, suc, _+_, _-_, _*_, _<_, _≤_}
 use lib.ListN.{length, getD, set}
 use lib.Bits.{bitXor, bitAnd}
 use Rattle.bits.specs.Bits.{tabulate, odd, bitVal, bitAt, fromBits, oct, unusedZero}
-use Rattle.circuit.specs.File.{inputsOf, outputWire, nextOf, goodChain, goodWires, goodOutputs, outputsOf, gatesOf, recordAt, headOf, maxInputs, maxOutputs, maxGates, maxWires, withinLimits, rightLength, walks, chainFrom, gateAt, readsWritten}
-use Rattle.circuit.specs.Records.{gateOf}
+use Rattle.circuit.specs.File.{kindOf, wireA, wireB, inputsOf, outputWire, nextOf, goodChain, goodWires, goodOutputs, outputsOf, gatesOf, recordAt, headOf, maxInputs, maxOutputs, maxGates, maxWires, withinLimits, rightLength, walks, chainFrom, gateAt, readsWritten}
 use Rattle.circuit.specs.declared.Gate.{Gate}
 use Rattle.circuit.specs.declared.Gate.the-variants.{Xor, And, Inv}
+use Rattle.circuit.specs.declared.Record.{Record}
 use lib.Dec.{eqb, leb, ltb}
 use Rattle.circuit.specs.Circuit as paper
+
+-- the gate of slot k; a kind that is neither 1 nor 2 reads as INV
+unfoldable pub gateOf : List ℕ → ℕ → Gate
+gateOf s k =
+    cond (eqb (kindOf s k) 1) (Xor (wireA s k) (wireB s k)) (cond (eqb (kindOf s k) 2) (And (wireA s k) (wireB s k)) (Inv (wireA s k)))
+
+-- "A gate record read is its kind with its wires, beside its successor."
+unfoldable pub recordOf : List ℕ → ℕ → Record
+recordOf s k = record { next = nextOf s k; gate = gateOf s k }
 
 -- the byte that a gate gives
 abbrev pub gateByte : Gate → List ℕ → ℕ

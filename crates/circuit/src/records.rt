@@ -1,7 +1,6 @@
 // The gate records of a circuit file.
 ghost use mathlib.Core.Path.{_≡_};
-ghost use Rattle.circuit.specs.Records.{recordOf};
-ghost use Rattle.circuit.specs.Steps.{Inside, andOne};
+ghost use Rattle.circuit.specs.Steps.{recordOf, Inside, andOne};
 use crate::Gate;
 use crate::Record;
 

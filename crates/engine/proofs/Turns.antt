@@ -11,8 +11,7 @@ use lib.ListN.{length, getD, set}
 use lib.Bits.{bitXor, bitAnd}
 use Rattle.engine.specs.Steps.{shareAt, valueAt, broadcastAt, at, fill, Room, Fit, correctStep, broadcastStep, maskedProduct, takeStep, andStep, gateStep, walked, broadcastByte, outputByte, outputStep, unmasked, outputsBroadcast, outputValues}
 use Rattle.circuit.specs.File.{inputsOf, outputWire, nextOf}
-use Rattle.circuit.specs.Records.{gateOf, recordOf}
-use Rattle.circuit.specs.Steps.{andOne}
+use Rattle.circuit.specs.Steps.{gateOf, recordOf, andOne}
 use Rattle.circuit.specs.declared.Gate.{Gate}
 use Rattle.circuit.specs.declared.Record.{Record}
 use Rattle.circuit.proofs.Chain.{next-read, gate-read}

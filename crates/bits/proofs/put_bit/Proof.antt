@@ -4,7 +4,8 @@ use native.Mathlib.Omega.{arith}
 use Prim.Native.Nat.{_/_, _%_, _^_}
 use lib.ListN.{getD}
 use borrow.Author.Needs.{needs}
-use Rattle.bits.specs.Bits.{odd, testBit, putBit}
+use Rattle.bits.specs.Bits.{odd, testBit}
+use Rattle.bits.specs.Steps.{putBit}
 use Rattle.bits.proofs.Packing.{testBit-le, shift-bit, put-lt}
 use Rattle.bits.proofs.put_bit.Statement.{statement}
 use Rattle.bits.proofs.put_bit.Tie as tie

@@ -7,7 +7,7 @@ use borrow.Author.Tests.{eq-eqb, ne-eqb}
 use borrow.Author.Needs.{needs}
 use lib.ListN.{getD}
 use Rattle.circuit.specs.File.{outputsOf, kindOf}
-use Rattle.circuit.specs.Records.{recordOf, gateOf}
+use Rattle.circuit.specs.Steps.{recordOf, gateOf}
 use Rattle.circuit.proofs.records.record.Statement.{statement}
 use Rattle.circuit.proofs.records.record.Tie as tie
 
