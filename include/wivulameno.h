@@ -366,25 +366,33 @@ uint32_t wv_open(uint32_t j, uint32_t n, uint32_t p,
                  uint8_t *siblings, size_t siblings_len);
 
 /*
- * Derives the challenge of hstar (32 bytes) and a message (0 to 4096 bytes):
- * tau of m instances, each with its hidden party. Writes 3 bytes to out for
- * each chosen instance, in ascending order: its number (16 bits, little-endian)
- * and its hidden party (one byte). Refuses in this order:
+ * Derives the challenge of a proof: tau of m instances, each with its hidden
+ * party. It covers hstar (32 bytes), the three numbers and the whole statement:
+ * the SHA3-256 digest of the circuit file (32 bytes), y (1 to 32 bytes, packed;
+ * unused bits are not tested) and the message (0 to 4096 bytes). It is drawn
+ * from SHAKE256 of: a byte 6, hstar, m and tau (16 bits each, little-endian), n
+ * (one byte), the digest, y, the length of the message (16 bits), the message.
+ * Writes 3 bytes to out for each chosen instance, in ascending order: its
+ * number (16 bits, little-endian) and its hidden party (one byte). Refuses in
+ * this order:
  *   8  m is not 2 to 512, tau is not 1 to m - 1, or n is not 2, 4, 8 or 16
- *   6  hstar is not of 32 bytes, the message is longer than 4096 bytes, or out
- *      is not of 3 tau bytes
+ *   6  hstar or the digest is not of 32 bytes, y is not of 1 to 32 bytes, the
+ *      message is longer than 4096 bytes, or out is not of 3 tau bytes
  */
 uint32_t wv_challenge(uint32_t m, uint32_t tau, uint32_t n,
                       const uint8_t *hstar, size_t hstar_len,
+                      const uint8_t *digest, size_t digest_len,
+                      const uint8_t *y, size_t y_len,
                       const uint8_t *message, size_t message_len,
                       uint8_t *out, size_t out_len);
 
 /*
  * A proof says that its maker has a witness for which the circuit gives y. It
- * is bound to a message of 0 to 4096 bytes. There are m instances (2 to 512) of
- * a run by n parties (2, 4, 8 or 16); a challenge chooses tau of them (1 to
- * m - 1), each with one party that stays hidden. With oct(k) for k / 8, rounded
- * up, and A for the number of AND gates, a proof has at most
+ * is bound to the circuit file, to y and to a message of 0 to 4096 bytes. There
+ * are m instances (2 to 512) of a run by n parties (2, 4, 8 or 16); a challenge
+ * (wv_challenge) chooses tau of them (1 to m - 1), each with one party that
+ * stays hidden. With oct(k) for k / 8, rounded up, and A for the number of AND
+ * gates, a proof has at most
  *
  *   38 + 48 (m - tau)
  *      + tau (16 log2 n + oct(A) + 32 + oct(I) + oct(A + O))
@@ -446,13 +454,15 @@ uint32_t wv_prove(const uint8_t *circuit, size_t circuit_len,
  * Checks a proof for the circuit, y and the message; 0 is accepted. The numbers
  * m, tau and n are those that the proof's first bytes say, and any within the
  * limits are accepted: a caller who asks for certain ones compares these bytes.
- * With m 2 and tau 1, every second guess passes. Refuses with 1 to 5, then:
+ * With m 2 and tau 1, every second guess passes. The challenge is that of the
+ * proof's first bytes, the circuit file, y and the message: with another one of
+ * these than the prover's it asks for other parts, and the proof is refused
+ * with 12, 7, 10 or 13, whichever comes first. Refuses with 1 to 5, then:
  *    6  y is not of O bits, or the message is longer than 4096 bytes
  *    7  an unused bit of y is not zero
  *   11  the proof is shorter than 38 bytes, its m, tau or n is out of the
  *       limits, or its zero byte is not zero
- *   12  its length is not that of the parts that the challenge of its h* asks
- *       for
+ *   12  its length is not that of the parts that the challenge asks for
  *    7  an unused bit of corrections, masked inputs or a row in it is not zero
  *   10  the replay of a chosen instance has another output than y
  *   13  the h* over all instances is not the one in the proof

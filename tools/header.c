@@ -99,6 +99,38 @@ static void read_buffers_overlap(void)
           WV_ACCEPTED);
 }
 
+/*
+ * The challenge's input as the header says. With m 256 and tau 1 the first of 8
+ * bytes is the instance, with n 16 the lower half of the next one is the party.
+ */
+static void challenge_input(void)
+{
+    uint8_t input[77] = {6};
+    uint8_t stream[9], out[3] = {0xee, 0xee, 0xee};
+
+    memset(input + 1, 'h', 32);
+    input[34] = 1; /* m is 256 */
+    input[35] = 1; /* tau */
+    input[37] = 16; /* n */
+    memset(input + 38, 'd', 32);
+    memset(input + 70, 'y', 3);
+    input[73] = 2; /* the message's length */
+    memset(input + 75, 'm', 2);
+    equal("the stream", wv_shake256(input, sizeof input, stream, sizeof stream),
+          WV_ACCEPTED);
+    equal("challenge",
+          wv_challenge(256, 1, 16, input + 1, 32, input + 38, 32,
+                       input + 70, 3, input + 75, 2, out, sizeof out),
+          WV_ACCEPTED);
+    equal("the instance", out[0], stream[0]);
+    equal("its upper byte", out[1], 0);
+    equal("its party", out[2], stream[8] % 16u);
+    equal("challenge without y",
+          wv_challenge(256, 1, 16, input + 1, 32, input + 38, 32,
+                       input + 70, 0, input + 75, 2, out, sizeof out),
+          WV_REFUSED_LENGTH);
+}
+
 int main(void)
 {
     char version[40];
@@ -117,5 +149,6 @@ int main(void)
     prove_in(wv_proof_len(2, 1, 1, 4, 1, 2), WV_ACCEPTED);
     prove_in(wv_proof_len(2, 1, 1, 4, 1, 2) - 1, WV_REFUSED_LENGTH);
     read_buffers_overlap();
+    challenge_input();
     return failures == 0 ? 0 : 1;
 }

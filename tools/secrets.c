@@ -254,6 +254,7 @@ static const uint8_t message[4] = "abcd";
 
 static uint32_t challenge(unsigned declared)
 {
+    static const uint8_t digest[32] = {7}, claimed[1] = {1};
     uint8_t hstar[32], out[3 * 20];
     uint32_t answer;
 
@@ -261,6 +262,7 @@ static uint32_t challenge(unsigned declared)
     permutations = 0;
     declared_at = declared;
     answer = wv_challenge(40, 20, 16, hstar, sizeof hstar,
+                          digest, sizeof digest, claimed, sizeof claimed,
                           message, sizeof message, out, sizeof out);
     declared_at = 0;
     return answer;

@@ -11,16 +11,13 @@ use Rattle.refusal.specs.Outcome.{refuses, done}
 use Rattle.circuit.specs.Circuit.{Circuit}
 use Rattle.circuit.specs.File.{circuitOf}
 use Rattle.circuit.proofs.Answered.{fell, held}
-use Rattle.seeds.specs.declared.Answer.{Answer}
-use Rattle.hashing.specs.Inputs.{boundOf}
 use Rattle.choice.specs.Challenge.{challengeOf}
-use Rattle.seeds.specs.Operations.{outcome, challengeOp}
 use Rattle.instance.specs.Instance.{Asked}
-use Rattle.proof.specs.Protocol.{challenged}
+use Rattle.proof.specs.Protocol.{statementOf, challenged}
 use Rattle.proof.specs.File.{headerHstar, proofBytes}
 use Rattle.proof.specs.Check.{checkProof}
-use Rattle.proof.specs.Steps.{asksIn, Asking}
-use Rattle.proof.proofs.Askings.{asks-same, asking-challenge, challenge-done}
+use Rattle.proof.specs.Steps.{asksIn, Asking, Drawable}
+use Rattle.proof.proofs.Askings.{asks-same, asking-challenge}
 use Rattle.checking.specs.Steps.{allUnused, allOutputs, recomputed, Sized, Headed}
 use Rattle.checking.proofs.Headers.{hstar-length, headed-counts, headed-parties, headed-some, headed-few}
 
@@ -57,42 +54,51 @@ module _ (c : Circuit) (y proof : List ℕ) (M n : ℕ) (ask : ℕ → Asked) wh
         unfolding checkProof
         asked-accepted w = rw (eq-eqb (length proof) (proofBytes c M n ask) size, unused, outputs, w)
 
--- the challenge to a proof with a good header, in the bytes that the operation leaves
-module _ (s : List ℕ) (M tau n : ℕ) (message proof lent choices : List ℕ) (r : Answer) (head : Headed M tau n message proof) (room : length lent ≡ 3 * tau)
-    (made : outcome r choices ≡ challengeOp M tau n (headerHstar proof) message lent) where
-  -- they are those of the challenge
-  choices-are : choices ≡ challengeOf M tau n (headerHstar proof) (boundOf message)
-  choices-are =
-      challenge-done M tau n (headerHstar proof) message lent choices r made (headed-counts M tau n message proof head)
-      (headed-parties M tau n message proof head) (hstar-length proof (head .good)) (head .short) room
+-- h* of a good header: the challenge can be drawn from it
+pub header-drawable : (M tau n : ℕ) (y message proof lent : List ℕ) → Headed M tau n y message proof → length lent ≡ 3 * tau
+    → Drawable M tau n (headerHstar proof) y message lent
+header-drawable M tau n y message proof lent head room =
+    record {
+      counts = headed-counts M tau n y message proof head;
+      parties = headed-parties M tau n y message proof head;
+      hstar-size = hstar-length proof (head .good);
+      y-least = head .y-least;
+      y-most = head .y-most;
+      short = head .short;
+      room = room;
+    }
 
+-- the challenge to a proof with a good header, bound to the statement, in its bytes
+module _ (s : List ℕ) (M tau n : ℕ) (y message proof choices : List ℕ) (head : Headed M tau n y message proof)
+    (choices-are : choices ≡ challengeOf M tau n (headerHstar proof) (statementOf M tau n s y message)) where
   -- they ask what it asks
-  choices-ask : asksIn n choices ≡ challenged M tau n (headerHstar proof) message
+  choices-ask : asksIn n choices ≡ challenged M tau n (headerHstar proof) (statementOf M tau n s y message)
   choices-ask =
       ap (asksIn n) choices-are
-      ∙ asks-same M tau n (headerHstar proof) message (headed-counts M tau n message proof head) (headed-some M tau n message proof head)
+      ∙ asks-same M tau n (headerHstar proof) (statementOf M tau n s y message) (headed-counts M tau n y message proof head)
+      (headed-some M tau n y message proof head)
 
   -- they name parties of n
   pub choices-asking : Asking n choices
   choices-asking =
-      rw choices-are (asking-challenge M tau n (headerHstar proof) message (headed-counts M tau n message proof head) (headed-some M tau n message proof head))
+      rw choices-are (asking-challenge M tau n (headerHstar proof) (statementOf M tau n s y message) (headed-counts M tau n y message proof head) (headed-some M tau n y message proof head))
 
   -- the tests of the proof, as they are made with these bytes: first the length, which is to be x
-  module _ (y : List ℕ) (x : ℕ) (e : x ≡ proofBytes (circuitOf s) M n (asksIn n choices)) where
+  module _ (x : ℕ) (e : x ≡ proofBytes (circuitOf s) M n (asksIn n choices)) where
     -- another length
-    pub check-length : (length proof ≡ x → ⊥) → refuses 12 [] ≡ checkProof (circuitOf s) y proof M n (challenged M tau n (headerHstar proof) message)
+    pub check-length : (length proof ≡ x → ⊥) → refuses 12 [] ≡ checkProof (circuitOf s) y proof M n (challenged M tau n (headerHstar proof) (statementOf M tau n s y message))
     check-length t =
         asked-length (circuitOf s) y proof M n (asksIn n choices) (λ q. t (q ∙ sym e)) ∙ ap (checkProof (circuitOf s) y proof M n) choices-ask
 
     -- this length
     module _ (size : length proof ≡ x) where
       pub check-sized : Sized s M n choices proof
-      check-sized = record { few = headed-few M tau n message proof head; asking = choices-asking; size = size ∙ e }
+      check-sized = record { few = headed-few M tau n y message proof head; asking = choices-asking; size = size ∙ e }
 
       -- the test of the unused bits
       module _ (b1 : Bool) (f1 : b1 ≡ allUnused (circuitOf s) M n (asksIn n choices) proof) where
         -- it fails
-        pub check-unused : not b1 ≡ true → refuses 7 [] ≡ checkProof (circuitOf s) y proof M n (challenged M tau n (headerHstar proof) message)
+        pub check-unused : not b1 ≡ true → refuses 7 [] ≡ checkProof (circuitOf s) y proof M n (challenged M tau n (headerHstar proof) (statementOf M tau n s y message))
         check-unused t =
             asked-unused (circuitOf s) y proof M n (asksIn n choices) (size ∙ e) (fell _ b1 f1 t)
             ∙ ap (checkProof (circuitOf s) y proof M n) choices-ask
@@ -105,7 +111,7 @@ module _ (s : List ℕ) (M tau n : ℕ) (message proof lent choices : List ℕ) 
           -- the test of the outputs
           module _ (b2 : Bool) (f2 : b2 ≡ allOutputs (circuitOf s) M n (asksIn n choices) y proof) where
             -- it fails
-            pub check-output : not b2 ≡ true → refuses 10 [] ≡ checkProof (circuitOf s) y proof M n (challenged M tau n (headerHstar proof) message)
+            pub check-output : not b2 ≡ true → refuses 10 [] ≡ checkProof (circuitOf s) y proof M n (challenged M tau n (headerHstar proof) (statementOf M tau n s y message))
             check-output t =
                 asked-output (circuitOf s) y proof M n (asksIn n choices) (size ∙ e) check-zero (fell _ b2 f2 t)
                 ∙ ap (checkProof (circuitOf s) y proof M n) choices-ask
@@ -117,13 +123,13 @@ module _ (s : List ℕ) (M tau n : ℕ) (message proof lent choices : List ℕ) 
               same-right = f3 ∙ ap (λ (z : List ℕ). sameBytes z (headerHstar proof)) f
 
               -- it fails
-              pub check-digest : not b3 ≡ true → refuses 13 [] ≡ checkProof (circuitOf s) y proof M n (challenged M tau n (headerHstar proof) message)
+              pub check-digest : not b3 ≡ true → refuses 13 [] ≡ checkProof (circuitOf s) y proof M n (challenged M tau n (headerHstar proof) (statementOf M tau n s y message))
               check-digest t =
                   asked-digest (circuitOf s) y proof M n (asksIn n choices) (size ∙ e) check-zero (held _ b2 f2 t2) (fell _ b3 same-right t)
                   ∙ ap (checkProof (circuitOf s) y proof M n) choices-ask
 
               -- it passes
-              pub check-accepted : not b3 ≡ false → done [] ≡ checkProof (circuitOf s) y proof M n (challenged M tau n (headerHstar proof) message)
+              pub check-accepted : not b3 ≡ false → done [] ≡ checkProof (circuitOf s) y proof M n (challenged M tau n (headerHstar proof) (statementOf M tau n s y message))
               check-accepted t =
                   asked-accepted (circuitOf s) y proof M n (asksIn n choices) (size ∙ e) check-zero (held _ b2 f2 t2) (held _ b3 same-right t)
                   ∙ ap (checkProof (circuitOf s) y proof M n) choices-ask

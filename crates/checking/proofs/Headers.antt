@@ -61,7 +61,7 @@ module _ (proof : List ℕ) (good : goodHeader proof ≡ true) where
   hstar-length = length-take-le 32 (drop 6 proof) (omega (arith, length-drop 6 proof, header-long))
 
 -- the numbers of a good header
-module _ (M tau n : ℕ) (message proof : List ℕ) (head : Headed M tau n message proof) where
+module _ (M tau n : ℕ) (y message proof : List ℕ) (head : Headed M tau n y message proof) where
   pub headed-counts : areCounts M tau ≡ true
   headed-counts = ap₂ areCounts (head .is-M) (head .is-tau) ∙ header-counts proof (head .good)
 

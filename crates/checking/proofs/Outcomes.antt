@@ -4,18 +4,18 @@ use mathlib.Core.Path.{_≡_, sym, ap, ap₂, _∙_}
 use mathlib.Core.Bool.{Bool, true, false, not, _&&_}
 use mathlib.Core.List.{List, []}
 use Prim.Native.Nat.{ℕ}
-use borrow.Author.Tests.{leb-true}
+use borrow.Author.Tests.{eqb-true, leb-true}
 use lib.Dec.{eqb, leb}
 use lib.ListN.{length}
 use Rattle.instance.specs.Steps.{Tree}
 use Rattle.mpc.specs.Steps.{Known}
 use Rattle.bits.specs.Bits.{oct, unusedZero}
-use Rattle.bits.proofs.Tests.{and-true-right}
+use Rattle.bits.proofs.Tests.{and-true-left, and-true-right}
 use Rattle.refusal.specs.Refusal.{numberOf}
 use Rattle.refusal.specs.declared.Refusal.{Refusal}
 use Rattle.refusal.specs.Outcome.{Outcome, refuses}
-use Rattle.parties.specs.Parties.{heightOf}
-use Rattle.circuit.specs.File.{circuitOf, Reading}
+use Rattle.parties.specs.Parties.{heightOf, isPartyCount}
+use Rattle.circuit.specs.File.{circuitOf, Reading, legal, readCircuit}
 use Rattle.circuit.specs.Operations.{readOp, holds, onLegal}
 use Rattle.circuit.specs.Answers.{readPaper}
 use Rattle.circuit.specs.declared.Sizes.{Sizes}
@@ -23,11 +23,12 @@ use Rattle.circuit.specs.declared.ReadAnswer.{ReadAnswer}
 use Rattle.circuit.specs.declared.ReadAnswer.the-variants as readAnswer
 use Rattle.circuit.proofs.Answered.{fell, held}
 use Rattle.mpc.proofs.Opened.{sized, opened-refused, opened-legal, circuit-outputs}
-use Rattle.proof.specs.Protocol.{challenged}
+use Rattle.proof.specs.Protocol.{statementOf, challenged}
 use Rattle.proof.specs.File.{headerM, headerTau, headerN, headerHstar, goodHeader}
 use Rattle.proof.specs.Check.{checkProof, checkLegal, checkOp}
+use Rattle.proof.proofs.Works.{output-bytes}
 use Rattle.checking.specs.Steps.{Headed}
-use Rattle.checking.proofs.Headers.{headed-parties}
+use Rattle.checking.proofs.Headers.{header-parties}
 
 -- a legal file; b2 is the test of the lengths of y and the message
 module _ (s : List ℕ) (i o g a : ℕ) (k : Known s (sized i o g a)) (y message proof : List ℕ) (b1 b2 : Bool) (e1 : b1 ≡ eqb (length y) (oct o))
@@ -38,7 +39,7 @@ module _ (s : List ℕ) (i o g a : ℕ) (k : Known s (sized i o g a)) (y message
       e2 ∙ ap (λ (t : Bool). t && leb (length message) 4096) (e1 ∙ ap (λ (x : ℕ). eqb (length y) (oct x)) (sym (circuit-outputs s i o g a k)))
 
   -- it fails
-  pub legal-length : not b2 ≡ true → refuses 6 [] ≡ checkLegal y message proof (circuitOf s)
+  pub legal-length : not b2 ≡ true → refuses 6 [] ≡ checkLegal s y message proof (circuitOf s)
   unfolding checkLegal
   legal-length t = rw (fell _ b2 lengths-right t)
 
@@ -48,41 +49,44 @@ module _ (s : List ℕ) (i o g a : ℕ) (k : Known s (sized i o g a)) (y message
     unused-right = e3 ∙ ap (λ (x : ℕ). unusedZero x y) (sym (circuit-outputs s i o g a k))
 
     -- it fails
-    pub legal-unused : not b3 ≡ true → refuses 7 [] ≡ checkLegal y message proof (circuitOf s)
+    pub legal-unused : not b3 ≡ true → refuses 7 [] ≡ checkLegal s y message proof (circuitOf s)
     unfolding checkLegal
     legal-unused t = rw (held _ b2 lengths-right t2, fell _ b3 unused-right t)
 
     -- it passes; the test of the header
     module _ (t3 : not b3 ≡ false) (b4 : Bool) (e4 : b4 ≡ goodHeader proof) where
       -- it fails
-      pub legal-header : not b4 ≡ true → refuses 11 [] ≡ checkLegal y message proof (circuitOf s)
+      pub legal-header : not b4 ≡ true → refuses 11 [] ≡ checkLegal s y message proof (circuitOf s)
       unfolding checkLegal
       legal-header t = rw (held _ b2 lengths-right t2, held _ b3 unused-right t3, fell _ b4 e4 t)
 
       -- it passes; the header's numbers
       module _ (t4 : not b4 ≡ false) (M tau n : ℕ) (f1 : M ≡ headerM proof) (f2 : tau ≡ headerTau proof) (f3 : n ≡ headerN proof) where
-        pub legal-headed : Headed M tau n message proof
-        legal-headed =
+        pub legal-headed : readCircuit s ≡ legal (circuitOf s) → Headed M tau n y message proof
+        legal-headed read =
+            let bytes = output-bytes s i o g a k read y (eqb-true _ _ (sym e1 ∙ and-true-left b1 (leb (length message) 4096) (held _ b2 e2 t2))) in
             record {
               good = held _ b4 e4 t4;
               is-M = f1;
               is-tau = f2;
               is-n = f3;
+              y-least = bytes .0;
+              y-most = bytes .1;
               short = leb-true (length message) 4096 (and-true-right b1 (leb (length message) 4096) (held _ b2 e2 t2));
             }
 
         -- the tree of its parties
         pub legal-tree : (h : ℕ) → h ≡ heightOf n → Tree n h
-        legal-tree h e = record { parties = headed-parties M tau n message proof legal-headed; height = e }
+        legal-tree h e = record { parties = ap isPartyCount f3 ∙ header-parties proof (held _ b4 e4 t4); height = e }
 
         -- the proof is looked into
-        pub legal-done : (r : Outcome) → r ≡ checkProof (circuitOf s) y proof M n (challenged M tau n (headerHstar proof) message)
-            → r ≡ checkLegal y message proof (circuitOf s)
+        pub legal-done : (r : Outcome) → r ≡ checkProof (circuitOf s) y proof M n (challenged M tau n (headerHstar proof) (statementOf M tau n s y message))
+            → r ≡ checkLegal s y message proof (circuitOf s)
         unfolding checkLegal
         legal-done r e =
             e
-            ∙ ap (λ (m : ℕ). checkProof (circuitOf s) y proof m n (challenged m tau n (headerHstar proof) message)) f1
-            ∙ ap₂ (λ (t p : ℕ). checkProof (circuitOf s) y proof (headerM proof) p (challenged (headerM proof) t p (headerHstar proof) message)) f2 f3
+            ∙ ap (λ (m : ℕ). checkProof (circuitOf s) y proof m n (challenged m tau n (headerHstar proof) (statementOf m tau n s y message))) f1
+            ∙ ap₂ (λ (t p : ℕ). checkProof (circuitOf s) y proof (headerM proof) p (challenged (headerM proof) t p (headerHstar proof) (statementOf (headerM proof) t p s y message))) f2 f3
             ∙ rw (held _ b2 lengths-right t2, held _ b3 unused-right t3, held _ b4 e4 t4)
 
 -- the file is read first
@@ -90,9 +94,9 @@ module _ (s y message proof : List ℕ) (r : ReadAnswer) (e : readPaper r ≡ re
   -- a refused file
   pub check-refused : (k : Refusal) → r ≡ readAnswer.Refused k → refuses (numberOf k) [] ≡ checkOp s y message proof
   unfolding checkOp
-  check-refused k p = sym (ap (λ (x : Reading). onLegal x [] (checkLegal y message proof)) (opened-refused s k r p e))
+  check-refused k p = sym (ap (λ (x : Reading). onLegal x [] (checkLegal s y message proof)) (opened-refused s k r p e))
 
   -- a legal file
-  pub check-read : (z : Sizes) → r ≡ readAnswer.Legal z → checkLegal y message proof (circuitOf s) ≡ checkOp s y message proof
+  pub check-read : (z : Sizes) → r ≡ readAnswer.Legal z → checkLegal s y message proof (circuitOf s) ≡ checkOp s y message proof
   unfolding checkOp
-  check-read z p = sym (ap (λ (x : Reading). onLegal x [] (checkLegal y message proof)) (opened-legal s z r p e))
+  check-read z p = sym (ap (λ (x : Reading). onLegal x [] (checkLegal s y message proof)) (opened-legal s z r p e))

@@ -8,7 +8,7 @@ use Prim.Native.Nat.{ℕ, _≤_}
 use lib.ListN.{length}
 use Rattle.circuit.specs.Circuit.{Circuit}
 use Rattle.circuit.specs.File.{circuitOf}
-use Rattle.seeds.specs.Operations.{maxInstances, maxMessage}
+use Rattle.seeds.specs.Operations.{maxInstances, maxMessage, maxOutputBytes}
 use Rattle.instance.specs.Instance.{Asked}
 use Rattle.instance.specs.Opened.{stretchCommitments, stretchOnline, stretchUnused, stretchOutput}
 use Rattle.proof.specs.Protocol.{hstarOf}
@@ -35,10 +35,12 @@ pub record Sized (s : List ℕ) (M n : ℕ) (choices proof : List ℕ) : Type 0 
   pub asking : Asking n choices
   pub size : length proof ≡ proofBytes (circuitOf s) M n (asksIn n choices)
 
--- a good header with these numbers, and a message that is not too long
-pub record Headed (M tau n : ℕ) (message proof : List ℕ) : Type 0 where
+-- a good header with these numbers, and y and message of lengths within the limits
+pub record Headed (M tau n : ℕ) (y message proof : List ℕ) : Type 0 where
   pub good : goodHeader proof ≡ true
   pub is-M : M ≡ headerM proof
   pub is-tau : tau ≡ headerTau proof
   pub is-n : n ≡ headerN proof
+  pub y-least : 1 ≤ length y
+  pub y-most : length y ≤ maxOutputBytes
   pub short : length message ≤ maxMessage

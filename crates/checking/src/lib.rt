@@ -2,10 +2,10 @@
 ghost use mathlib.Core.Path.{_≡_};
 ghost use Prim.Native.Nat.{_*_};
 ghost use lib.ListN.{length};
-ghost use Rattle.circuit.specs.File.{circuitOf};
+ghost use Rattle.circuit.specs.File.{readCircuit, legal, circuitOf};
 ghost use Rattle.mpc.specs.Steps.{Known};
 ghost use Rattle.instance.specs.Steps.{Tree, Lent};
-ghost use Rattle.proof.specs.Protocol.{challenged};
+ghost use Rattle.proof.specs.Protocol.{statementOf, challenged};
 ghost use Rattle.proof.specs.File.{headerHstar, goodHeader};
 ghost use Rattle.proof.specs.Check.{checkProof, checkLegal, checkOp};
 ghost use Rattle.checking.specs.Answers.{outcome};
@@ -20,10 +20,10 @@ use circuit::reading::read;
 use mpc::tests::both;
 use mpc::tests::holds;
 use proof::HEADER_BYTES;
+use proof::asking::draw_challenge;
 use proof::asking::proof_bytes;
 use refusal::Refusal;
 use seeds::MAX_MESSAGE;
-use seeds::challenge;
 use seeds::counts;
 use unused_bits::all_unused;
 use verifying::recompute;
@@ -62,10 +62,10 @@ fn check_in(
     tapes: &mut [u8],
     memory: &mut [u8],
 ) -> Answer
-    requires { ⌜ Lent (now s) z n h (now tapes) (now memory) × (Headed m tau n (now message) (now proof) × (length (now choices) ≡ 3 * tau)) ⌝ }
-    ensures { λ r. ⌜ outcome r ≡ checkProof (circuitOf (now (s .entry))) (now (y .entry)) (now (proof .entry)) m n (challenged m tau n (headerHstar (now (proof .entry))) (now (message .entry))) ⌝ }
+    requires { ⌜ Lent (now s) z n h (now tapes) (now memory) × (Headed m tau n (now y) (now message) (now proof) × (length (now choices) ≡ 3 * tau)) ⌝ }
+    ensures { λ r. ⌜ outcome r ≡ checkProof (circuitOf (now (s .entry))) (now (y .entry)) (now (proof .entry)) m n (challenged m tau n (headerHstar (now (proof .entry))) (statementOf m tau n (now (s .entry)) (now (y .entry)) (now (message .entry)))) ⌝ }
 {
-    let _ = challenge(m, tau, n, &proof[6..HEADER_BYTES], message, choices);
+    draw_challenge(s, m, tau, n, &proof[6..HEADER_BYTES], y, message, choices);
     if proof.len() != proof_bytes(s, z, m, n, h, choices) {
         return Answer::Refused(Refusal::ProofLength);
     }
@@ -94,8 +94,8 @@ fn check_with(
     message: &[u8],
     proof: &[u8],
 ) -> Answer
-    requires { ⌜ Known (now s) z × (Tree n h × Headed m tau n (now message) (now proof)) ⌝ }
-    ensures { λ r. ⌜ outcome r ≡ checkProof (circuitOf (now (s .entry))) (now (y .entry)) (now (proof .entry)) m n (challenged m tau n (headerHstar (now (proof .entry))) (now (message .entry))) ⌝ }
+    requires { ⌜ Known (now s) z × (Tree n h × Headed m tau n (now y) (now message) (now proof)) ⌝ }
+    ensures { λ r. ⌜ outcome r ≡ checkProof (circuitOf (now (s .entry))) (now (y .entry)) (now (proof .entry)) m n (challenged m tau n (headerHstar (now (proof .entry))) (statementOf m tau n (now (s .entry)) (now (y .entry)) (now (message .entry)))) ⌝ }
 {
     let inputs = z.inputs;
     let gates = z.gates;
@@ -124,8 +124,8 @@ fn check_with(
 
 // Tests y, the message and the header, and checks a proof of a legal circuit.
 fn check_lent(s: &[u8], z: Sizes, y: &[u8], message: &[u8], proof: &[u8]) -> Answer
-    requires { ⌜ Known (now s) z ⌝ }
-    ensures { λ r. ⌜ outcome r ≡ checkLegal (now (y .entry)) (now (message .entry)) (now (proof .entry)) (circuitOf (now (s .entry))) ⌝ }
+    requires { ⌜ (readCircuit (now s) ≡ legal (circuitOf (now s))) × Known (now s) z ⌝ }
+    ensures { λ r. ⌜ outcome r ≡ checkLegal (now (s .entry)) (now (y .entry)) (now (message .entry)) (now (proof .entry)) (circuitOf (now (s .entry))) ⌝ }
 {
     if !both(holds(y, z.outputs), message.len() <= MAX_MESSAGE) {
         return Answer::Refused(Refusal::BufferLength);

@@ -278,9 +278,15 @@ unfolding challengeInput
 bytes-challenge h g p q = bytes-append ((6 ∷ []) ++ h) g (bytes-append (6 ∷ []) h (bytes-one 6 (omega arith)) p) q
 
 -- and so is what it is bound to
-pub bytes-bound : (m : List ℕ) → Bytes m → Bytes (boundOf m)
+pub bytes-bound : (M tau n : ℕ) (d y m : List ℕ) → Bytes d → Bytes y → Bytes m → Bytes (boundOf M tau n d y m)
 unfolding boundOf
-bytes-bound m q = bytes-append (leBytes 2 (length m)) m (leBytes-lt 2 (length m)) q
+bytes-bound M tau n d y m p q r =
+    let a = bytes-append (leBytes 2 M) (leBytes 2 tau) (leBytes-lt 2 M) (leBytes-lt 2 tau) in
+    let b = bytes-append (leBytes 2 M ++ leBytes 2 tau) (leBytes 1 n) a (leBytes-lt 1 n) in
+    let e = bytes-append (leBytes 2 M ++ leBytes 2 tau ++ leBytes 1 n) d b p in
+    let f = bytes-append (leBytes 2 M ++ leBytes 2 tau ++ leBytes 1 n ++ d) y e q in
+    let g = bytes-append (leBytes 2 M ++ leBytes 2 tau ++ leBytes 1 n ++ d ++ y) (leBytes 2 (length m)) f (leBytes-lt 2 (length m)) in
+    bytes-append (leBytes 2 M ++ leBytes 2 tau ++ leBytes 1 n ++ d ++ y ++ leBytes 2 (length m)) m g r
 
 -- the challenge, from the sponge that has taken in its input
 pub challenge-is : (M tau n : ℕ) (h g : List ℕ) (s : Sponge) (o : List ℕ) → Bytes h → Bytes g → s ≡ ready (challengeInput h g)

@@ -1,3 +1,4 @@
 pub mod Streams
 pub mod Choosing
 pub mod Challenges
+pub mod Bounds

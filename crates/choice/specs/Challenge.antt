@@ -1,6 +1,6 @@
--- The challenge. Document 01: "SHAKE256(6, h*, message length u16, message). For t = 0..τ−1 take 8 bytes as a number
--- modulo M − t: that place among the instances not yet chosen, ascending. Then one byte modulo n for each chosen
--- instance, ascending: its hidden party."
+-- The challenge. Document 01: "For t = 0..τ−1 take 8 bytes as a number modulo M − t: that place among the instances not yet
+-- chosen, ascending. Then one byte modulo n for each chosen instance, ascending: its hidden party." The bytes are SHAKE256 of its
+-- input (`hashing/specs/Inputs`: `challengeInput`).
 -- Assumes nothing.
 use mathlib.Core.Bool.{Bool, true, false}
 use mathlib.Core.List.{List, [], _∷_, _++_}

@@ -15,26 +15,52 @@ use keccak::SHAKE_FIRST;
 use keccak::SHAKE256_RATE;
 use keccak::sponge::Sponge;
 
-// Takes in what the challenge is bound to: the message's length as u16, and the message.
-fn absorb_bound(sponge: Sponge, message: &[u8]) -> Sponge
+// Takes in what the challenge is bound to: M, τ and n, the digest of the circuit file, y, and the message behind its length.
+fn absorb_bound(
+    sponge: Sponge,
+    m: usize,
+    tau: usize,
+    n: u8,
+    digest: &[u8],
+    y: &[u8],
+    message: &[u8],
+) -> Sponge
     requires { ⌜ sponge .fill < 136 ⌝ }
-    ensures { λ r. ⌜ r ≡ absorbs 136 sponge (boundOf (now (message .entry))) ⌝ }
+    ensures { λ r. ⌜ r ≡ absorbs 136 sponge (boundOf m tau n (now (digest .entry)) (now (y .entry)) (now (message .entry))) ⌝ }
 {
-    let n = message.len();
-    let size = [(n % 256) as u8, (n / 256 % 256) as u8];
+    let counts = [
+        (m % 256) as u8,
+        (m / 256 % 256) as u8,
+        (tau % 256) as u8,
+        (tau / 256 % 256) as u8,
+        n,
+    ];
+    let k = message.len();
+    let size = [(k % 256) as u8, (k / 256 % 256) as u8];
     sponge
+        .absorb(SHAKE256_RATE, &counts)
+        .absorb(SHAKE256_RATE, digest)
+        .absorb(SHAKE256_RATE, y)
         .absorb(SHAKE256_RATE, &size)
         .absorb(SHAKE256_RATE, message)
 }
 
 // The sponge that is ready to give out the stream.
-fn stream(hstar: &[u8], message: &[u8]) -> Sponge
-    ensures { λ r. ⌜ r ≡ ready (challengeInput (now (hstar .entry)) (boundOf (now (message .entry)))) ⌝ }
+fn stream(
+    m: usize,
+    tau: usize,
+    n: u8,
+    hstar: &[u8],
+    digest: &[u8],
+    y: &[u8],
+    message: &[u8],
+) -> Sponge
+    ensures { λ r. ⌜ r ≡ ready (challengeInput (now (hstar .entry)) (boundOf m tau n (now (digest .entry)) (now (y .entry)) (now (message .entry)))) ⌝ }
 {
     let s = Sponge::new()
         .absorb_byte(SHAKE256_RATE, 6)
         .absorb(SHAKE256_RATE, hstar);
-    absorb_bound(s, message).pad(SHAKE256_RATE, SHAKE_FIRST)
+    absorb_bound(s, m, tau, n, digest, y, message).pad(SHAKE256_RATE, SHAKE_FIRST)
 }
 
 // Chooses the instance at place x among those not yet chosen, ascending.
@@ -111,12 +137,21 @@ fn choose_with(tau: usize, n: u8, sponge: Sponge, flags: &mut [bool], out: &mut 
     write_chosen(flags, n, s, out);
 }
 
-// The challenge of tau among m instances and n parties.
-pub fn derive(m: usize, tau: usize, n: u8, hstar: &[u8], message: &[u8], out: &mut [u8])
+// The challenge of tau among m instances and n parties, bound to the digest of the circuit file, y and the message.
+pub fn derive(
+    m: usize,
+    tau: usize,
+    n: u8,
+    hstar: &[u8],
+    digest: &[u8],
+    y: &[u8],
+    message: &[u8],
+    out: &mut [u8],
+)
     requires { ⌜ (m ≤ 512) × ((tau < m) × ((0 < n) × (length (now out) ≡ 3 * tau))) ⌝ }
-    ensures { λ _. ⌜ now (out .exit) ≡ challengeOf m tau n (now (hstar .entry)) (boundOf (now (message .entry))) ⌝ }
+    ensures { λ _. ⌜ now (out .exit) ≡ challengeOf m tau n (now (hstar .entry)) (boundOf m tau n (now (digest .entry)) (now (y .entry)) (now (message .entry))) ⌝ }
 {
-    let s = stream(hstar, message);
+    let s = stream(m, tau, n, hstar, digest, y, message);
     let mut flags = [false; 512];
     choose_with(tau, n, s, &mut flags[..m], out);
 }

@@ -1,4 +1,4 @@
--- The input of every hash, named after what it makes. Document 01, "Seeds and digests":
+-- The input of every hash, named after what it makes. Document 01, "Seeds and digests", with the challenge of document 02, order 1:
 -- "Each input starts with a tag byte. j is u16, i is u8."
 -- Assumes nothing.
 use mathlib.Core.Bool.{cond}
@@ -53,9 +53,11 @@ allOnlineInput digests = (10 ∷ []) ++ digests
 unfoldable pub transcriptInput : List ℕ → List ℕ → List ℕ
 transcriptInput h h′ = (11 ∷ []) ++ h ++ h′
 
--- "message length u16, message": what the challenge is bound to beside h*
-unfoldable pub boundOf : List ℕ → List ℕ
-boundOf message = leBytes 2 (length message) ++ message
+-- What the challenge is bound to beside h*. Document 02, order 1: "After h* the challenge input takes M, τ (u16), n (u8), SHA3-256 of
+-- the circuit file, then y packed"; document 01: "message length u16, message"
+unfoldable pub boundOf : ℕ → ℕ → ℕ → List ℕ → List ℕ → List ℕ → List ℕ
+boundOf M tau n digest y message =
+    leBytes 2 M ++ leBytes 2 tau ++ leBytes 1 n ++ digest ++ y ++ leBytes 2 (length message) ++ message
 
 -- 6: the challenge, from h* and what it is bound to
 unfoldable pub challengeInput : List ℕ → List ℕ → List ℕ

@@ -1,3 +1,4 @@
 pub mod Inputs
 pub mod Digest
+pub mod Statement
 pub mod Steps

@@ -7,7 +7,6 @@ use Prim.Native.Nat.{ℕ, suc, _≤_, _<_}
 use native.Mathlib.Omega.{arith}
 use lib.Dec.{eqb}
 use lib.ListN.{getD}
-use Rattle.hashing.specs.Inputs.{boundOf}
 use Rattle.choice.proofs.Challenges.{challenge-sound}
 use Rattle.instance.specs.Instance.{Asked, hiding}
 use Rattle.proof.specs.Protocol.{asked, challenged}
@@ -28,6 +27,6 @@ asked-below n (i ∷ is) (q ∷ ps) h j p e = go (eqb i j) e (asked-below n is p
     go false e f = f e
 
 -- of every challenge
-pub challenged-below : (M tau n : ℕ) (hstar message : List ℕ) → tau ≤ M → 0 < n → (j : ℕ) → Below n (challenged M tau n hstar message j)
+pub challenged-below : (M tau n : ℕ) (hstar bound : List ℕ) → tau ≤ M → 0 < n → (j : ℕ) → Below n (challenged M tau n hstar bound j)
 unfolding challenged
-challenged-below M tau n hstar message w h j = asked-below n _ _ (challenge-sound M tau n hstar (boundOf message) w h .hidden) j
+challenged-below M tau n hstar bound w h j = asked-below n _ _ (challenge-sound M tau n hstar bound w h .hidden) j

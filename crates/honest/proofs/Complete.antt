@@ -1,6 +1,6 @@
 -- Theorem, every honest proof passes.
 -- Assumes nothing.
-use mathlib.Core.Path.{_≡_, sym, ap, _∙_}
+use mathlib.Core.Path.{_≡_, refl, sym, ap, _∙_}
 use mathlib.Core.Bool.{true, _&&_}
 use mathlib.Core.List.{List, []}
 use Prim.Native.Nat.{ℕ, _<_}
@@ -21,7 +21,7 @@ use Rattle.hiding.specs.Hiding.{Witness}
 use Rattle.seeds.specs.Operations.{areCounts}
 use Rattle.seeds.proofs.Instances.{Fit, counts-fit}
 use Rattle.instance.specs.Instance.{Asked, masterCommitments, masterOnline, stretchOf}
-use Rattle.proof.specs.Protocol.{hstarOf, mastersOf, firstMessage, challenged}
+use Rattle.proof.specs.Protocol.{hstarOf, mastersOf, firstMessage, statementOf, challenged}
 use Rattle.proof.specs.File.{headerM, headerTau, headerN, headerHstar, goodHeader}
 use Rattle.proof.specs.Prove.{proofOf, witnesses}
 use Rattle.instance.specs.Opened.{openedRun}
@@ -42,25 +42,25 @@ unfolding hstarOf
 hstar-cong M f f′ g g′ p q = rw (tabulate-cong M f f′ p, tabulate-cong M g g′ q)
 
 -- check accepts a proof with a good header, where it accepts with the header's numbers
-legal-accepts : (c : Circuit) (y message proof : List ℕ) (M tau n : ℕ) (h : List ℕ)
+legal-accepts : (c : Circuit) (s y message proof : List ℕ) (M tau n : ℕ) (h : List ℕ)
     → headerM proof ≡ M → headerTau proof ≡ tau → headerN proof ≡ n → headerHstar proof ≡ h
     → holds (length (c .outputs)) y && leb (length message) 4096 ≡ true → unusedZero (length (c .outputs)) y ≡ true → goodHeader proof ≡ true
-    → checkProof c y proof M n (challenged M tau n h message) ≡ done [] → checkLegal y message proof c ≡ done []
+    → checkProof c y proof M n (challenged M tau n h (statementOf M tau n s y message)) ≡ done [] → checkLegal s y message proof c ≡ done []
 unfolding checkLegal
-legal-accepts c y message proof M tau n h eM et en eh a b d e = rw (a, b, d, eM, et, en, eh) e
+legal-accepts c s y message proof M tau n h eM et en eh a b d e = rw (a, b, d, eM, et, en, eh) e
 
 -- an honest proof, from a witness of y and with counts in their limits
-module _ (c : Circuit) (M tau n : ℕ) (witness message : List ℕ) (masters : ℕ → List ℕ) (master-size : (j : ℕ) → length (masters j) ≡ 16) (y : List ℕ) (hw : Witness c witness) (hy : pack (evaluate c (bitAt witness)) ≡ y)
+module _ (c : Circuit) (M tau n : ℕ) (witness bound : List ℕ) (masters : ℕ → List ℕ) (master-size : (j : ℕ) → length (masters j) ≡ 16) (y : List ℕ) (hw : Witness c witness) (hy : pack (evaluate c (bitAt witness)) ≡ y)
     (counts : areCounts M tau ≡ true) (parties : isPartyCount n ≡ true) where
   -- its first message, its challenge, and the proof
   abbrev hstar : List ℕ
   hstar = firstMessage c M n witness masters
 
   abbrev ask : ℕ → Asked
-  ask = challenged M tau n hstar message
+  ask = challenged M tau n hstar bound
 
   abbrev proof : List ℕ
-  proof = proofOf c M tau n witness message masters
+  proof = proofOf c M tau n witness bound masters
 
   -- the counts are in their limits
   fit : Fit M tau
@@ -71,35 +71,35 @@ module _ (c : Circuit) (M tau n : ℕ) (witness message : List ℕ) (masters : �
 
   -- every hidden party is below n
   below : (j : ℕ) → Below n (ask j)
-  below = challenged-below M tau n hstar message (omega (arith, fit .below)) (omega (arith, sizes n height .some))
+  below = challenged-below M tau n hstar bound (omega (arith, fit .below)) (omega (arith, sizes n height .some))
 
   -- the tests of an honest proof pass
   honest : ProofTests c y proof (headerHstar proof) M n ask
   unfolding firstMessage
   honest = record {
-    size = length-proof c M tau n witness message masters master-size;
-    unused = λ j h. rw (stretch-there c M tau n witness message masters master-size j h) (unused-given c n j height witness (masters j) (master-size j) (ask j) (below j));
+    size = length-proof c M tau n witness bound masters master-size;
+    unused = λ j h. rw (stretch-there c M tau n witness bound masters master-size j h) (unused-given c n j height witness (masters j) (master-size j) (ask j) (below j));
     output = λ j p h e.
         ap (λ (s : List ℕ). pack (openedRun c n j p s .output))
-        (stretch-there c M tau n witness message masters master-size j h ∙ ap (stretchOf c n j witness (masters j)) e)
+        (stretch-there c M tau n witness bound masters master-size j h ∙ ap (stretchOf c n j witness (masters j)) e)
         ∙ (ap pack (opened-output c n j p height (below j p e) witness (masters j) (master-size j) hw) ∙ hy);
     digest =
         hstar-cong M _ (λ j. masterCommitments c n j (masters j)) _ (λ j. masterOnline c n j witness (masters j))
-        (λ j h. rw (stretch-there c M tau n witness message masters master-size j h) (commitments-given c n j height witness (masters j) (master-size j) (ask j) (below j)))
-        (λ j h. rw (stretch-there c M tau n witness message masters master-size j h) (online-given c n j height witness (masters j) (master-size j) hw (ask j) (below j)))
-        ∙ sym (hstar-there c M tau n witness message masters master-size);
+        (λ j h. rw (stretch-there c M tau n witness bound masters master-size j h) (commitments-given c n j height witness (masters j) (master-size j) (ask j) (below j)))
+        (λ j h. rw (stretch-there c M tau n witness bound masters master-size j h) (online-given c n j height witness (masters j) (master-size j) hw (ask j) (below j)))
+        ∙ sym (hstar-there c M tau n witness bound masters master-size);
   }
 
-  -- check accepts it
-  accepts : holds (length (c .outputs)) y && leb (length message) 4096 ≡ true → unusedZero (length (c .outputs)) y ≡ true
-      → checkLegal y message proof c ≡ done []
-  accepts a b =
+  -- check accepts it, where it is bound to the statement
+  accepts : (s message : List ℕ) → bound ≡ statementOf M tau n s y message → holds (length (c .outputs)) y && leb (length message) 4096 ≡ true
+      → unusedZero (length (c .outputs)) y ≡ true → checkLegal s y message proof c ≡ done []
+  accepts s message same a b =
       let m : M < 65536 = omega (arith, fit .most) in
       let t : tau < 65536 = omega (arith, fit .below) in
-      legal-accepts c y message proof M tau n hstar (M-there c M tau n witness message masters master-size m)
-      (tau-there c M tau n witness message masters master-size t) (n-there c M tau n witness message masters master-size) (hstar-there c M tau n witness message masters master-size) a b
-      (good-there c M tau n witness message masters master-size m t counts parties)
-      (proof-accepted c y proof M n ask honest)
+      legal-accepts c s y message proof M tau n hstar (M-there c M tau n witness bound masters master-size m)
+      (tau-there c M tau n witness bound masters master-size t) (n-there c M tau n witness bound masters master-size) (hstar-there c M tau n witness bound masters master-size) a b
+      (good-there c M tau n witness bound masters master-size m t counts parties)
+      (ap (λ (z : List ℕ). checkProof c y proof M n (challenged M tau n hstar z)) (sym same) ∙ proof-accepted c y proof M n ask honest)
 
 -- every honest proof passes
 pub complete : Complete
@@ -107,12 +107,12 @@ unfolding witnesses checkOp
 complete s witness y message root buffer left M tau n k bytes e =
     let p = proved s witness y message root buffer left M tau n k e in
     let c : Circuit = p .circuit in
-    let proof : List ℕ = proofOf c M tau n witness message (mastersOf root) in
+    let proof : List ℕ = proofOf c M tau n witness (statementOf M tau n s y message) (mastersOf root) in
     let hw : Witness c witness = record {
       bytes = record { size = eqb-true (length witness) (oct (c .inputs)) (p .inputs); small = bytes };
       unused = p .unused-inputs;
     } in
     let q : take k left ≡ proof = ap (take k) (sym (p .content)) ∙ take-at proof (drop k buffer) k (p .size) in
     rw (p .read, q)
-    (accepts c M tau n witness message (mastersOf root) (λ j. length-master j root) y hw (same-eq (pack (evaluate c (bitAt witness))) y (p .gives)) (p .counts) (p .parties)
-    (and-true _ _ (p .outputs) (p .short)) (p .unused-outputs))
+    (accepts c M tau n witness (statementOf M tau n s y message) (mastersOf root) (λ j. length-master j root) y hw (same-eq (pack (evaluate c (bitAt witness))) y (p .gives)) (p .counts) (p .parties)
+    s message refl (and-true _ _ (p .outputs) (p .short)) (p .unused-outputs))

@@ -63,11 +63,11 @@ header-back h sent fits =
 
 -- what the challenge of a header asks of each instance
 abbrev asks : List ℕ → Header → ℕ → Asked
-asks message h = challenged (h .M) (h .tau) (h .n) (h .hstar) message
+asks bound h = challenged (h .M) (h .tau) (h .n) (h .hstar) bound
 
 -- a response to it
-module _ (c : Circuit) (message : List ℕ) (h : Header) (sent : Response) (fits : HeaderFits h)
-    (answers : (j : ℕ) → j < h .M → answered (sent j) ≡ asks message h j) (lengths : (j : ℕ) → j < h .M → Lengths c (h .n) (sent j)) where
+module _ (c : Circuit) (bound : List ℕ) (h : Header) (sent : Response) (fits : HeaderFits h)
+    (answers : (j : ℕ) → j < h .M → answered (sent j) ≡ asks bound h j) (lengths : (j : ℕ) → j < h .M → Lengths c (h .n) (sent j)) where
   -- the file, and what was sent of each instance
   abbrev file : List ℕ
   file = encode h sent
@@ -77,38 +77,38 @@ module _ (c : Circuit) (message : List ℕ) (h : Header) (sent : Response) (fits
 
   -- the same, and beyond the last instance others of the same length
   abbrev padded : ℕ → List ℕ
-  padded j = cond (ltb j (h .M)) (bytes j) (replicate (stretchBytes c (h .n) (asks message h j)) 0)
+  padded j = cond (ltb j (h .M)) (bytes j) (replicate (stretchBytes c (h .n) (asks bound h j)) 0)
 
   padded-is : (j : ℕ) → j < h .M → padded j ≡ bytes j
   padded-is j l = rw (lt-ltb j (h .M) l)
 
-  length-padded : (j : ℕ) → length (padded j) ≡ stretchBytes c (h .n) (asks message h j)
+  length-padded : (j : ℕ) → length (padded j) ≡ stretchBytes c (h .n) (asks bound h j)
   length-padded j =
       ⊎-elim
       (λ l. ap length (padded-is j l) ∙ (length-encoded c (h .n) (sent j) (lengths j l) ∙ ap (stretchBytes c (h .n)) (answers j l)))
-      (λ l. rw (le-ltb j (h .M) l) (length-replicate (stretchBytes c (h .n) (asks message h j)) 0))
+      (λ l. rw (le-ltb j (h .M) l) (length-replicate (stretchBytes c (h .n) (asks bound h j)) 0))
       (lt-or-le j (h .M))
 
   -- the stretch of instance j is what was sent of it
-  stretch-back : (j : ℕ) → j < h .M → stretchAt c (h .n) (asks message h) file j ≡ bytes j
+  stretch-back : (j : ℕ) → j < h .M → stretchAt c (h .n) (asks bound h) file j ≡ bytes j
   unfolding encode stretchAt stretchStart encodeHeader headerOf
   stretch-back j l =
-      let start : ℕ → ℕ = stretchStart c (h .n) (asks message h) in
+      let start : ℕ → ℕ = stretchStart c (h .n) (asks bound h) in
       let first : length (encodeHeader h) ≡ 38 = length-header (h .M) (h .tau) (h .n) (h .hstar) (h .hstar) (fits .2) in
       let more : (i : ℕ) → start (suc i) ≡ start i + length (padded i) = λ i. ap (λ (k : ℕ). start i + k) (sym (length-padded i)) in
       let same : file ≡ encodeHeader h ++ flatten (tabulate (h .M) padded) =
       ap (λ (t : List (List ℕ)). encodeHeader h ++ flatten t) (tabulate-cong (h .M) bytes padded (λ i b. sym (padded-is i b))) in
-      ap (λ (s : List ℕ). take (stretchBytes c (h .n) (asks message h j)) (drop (start j) s)) same
+      ap (λ (s : List ℕ). take (stretchBytes c (h .n) (asks bound h j)) (drop (start j) s)) same
       ∙ (ap (λ (k : ℕ). take k (drop (start j) (encodeHeader h ++ flatten (tabulate (h .M) padded)))) (sym (length-padded j))
       ∙ (part-at (encodeHeader h) padded start first more (h .M) j l ∙ padded-is j l))
 
   -- so it is decoded
-  sent-back : (j : ℕ) → j < h .M → decode c message file j ≡ sent j
+  sent-back : (j : ℕ) → j < h .M → decode c bound file j ≡ sent j
   unfolding decode
   sent-back j l =
-      ap (λ (g : Header). decodeSent c (g .n) (asks message g j) (bytesFrom c (g .n) (asks message g) (drop 38 file) j) .0) (header-back h sent fits)
-      ∙ (decoded-parts c (h .n) (asks message h) file j
-      ∙ (ap (partsOf c (h .n) (asks message h j)) (stretch-back j l)
+      ap (λ (g : Header). decodeSent c (g .n) (asks bound g j) (bytesFrom c (g .n) (asks bound g) (drop 38 file) j) .0) (header-back h sent fits)
+      ∙ (decoded-parts c (h .n) (asks bound h) file j
+      ∙ (ap (partsOf c (h .n) (asks bound h j)) (stretch-back j l)
       ∙ (ap (λ (a : Asked). partsOf c (h .n) a (bytes j)) (sym (answers j l)) ∙ parts-back c (h .n) (sent j) (lengths j l))))
 
 -- what is encoded is decoded again

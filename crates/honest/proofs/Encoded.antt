@@ -14,7 +14,7 @@ use Rattle.parties.specs.Parties.{heightOf}
 use Rattle.circuit.specs.Circuit.{Circuit}
 use Rattle.mpc.specs.Tapes.{andsOf}
 use Rattle.instance.specs.Instance.{Asked, opened, hiding}
-use Rattle.honest.specs.Response.{encodeHeader, encodeSent, encode, decodeHeader, challengeIn, auxBytes, decodeSent, bytesFrom, decode, sentBytes, allBytes, impliedLength}
+use Rattle.honest.specs.Response.{encodeHeader, encodeSent, encode, decodeHeader, boundIn, challengeIn, auxBytes, decodeSent, bytesFrom, decode, sentBytes, allBytes, impliedLength}
 use Rattle.honest.specs.Theorems.{AllBytes, GoodHeader, AcceptedEncoding}
 use Rattle.honest.proofs.Decoded.{bytes-from}
 use Rattle.honest.proofs.Published.{check-is-published, same-circuit}
@@ -86,13 +86,13 @@ module _ (c : Circuit) (n : ℕ) where
       ∙ joined (allBytes c n ask m) (sentBytes c n (ask m)) s (bytesFrom c n ask s m) (bytes-from c n ask s m))
 
 -- a file of the length that h* implies, with a good header
-file-encoded : (c : Circuit) (message file : List ℕ) → AllBytes file → GoodHeader file (decodeHeader file) → length file ≡ impliedLength c message file
-    → file ≡ encode (decodeHeader file) (decode c message file)
+file-encoded : (c : Circuit) (bound file : List ℕ) → AllBytes file → GoodHeader file (decodeHeader file) → length file ≡ impliedLength c bound file
+    → file ≡ encode (decodeHeader file) (decode c bound file)
 unfolding encode decode impliedLength
-file-encoded c message file b g e =
+file-encoded c bound file b g e =
     let n : ℕ = decodeHeader file .n in
     let M : ℕ = decodeHeader file .M in
-    let ask : ℕ → Asked = challengeIn message file in
+    let ask : ℕ → Asked = challengeIn bound file in
     let all : take (allBytes c n ask M) (drop 38 file) ≡ drop 38 file = take-all (allBytes c n ask M) (drop 38 file) (omega (arith, length-drop 38 file)) in
     sym
     (ap₂ (λ (x y : List ℕ). x ++ y) (header-encoded file b (g .size) (g .zero)) (all-encoded c n ask (drop 38 file) M ∙ all) ∙ take-append-drop 38 file)
@@ -101,4 +101,4 @@ file-encoded c message file b g e =
 pub accepted-encoding : AcceptedEncoding
 accepted-encoding s y message proof c b r e =
     let h = check-is-published .sound s y message proof e in
-    file-encoded c message proof b (h .header) (h .size ∙ ap (λ (z : Circuit). impliedLength z message proof) (same-circuit s (h .circuit) c (h .read) r))
+    file-encoded c (boundIn s y message proof) proof b (h .header) (h .size ∙ ap (λ (z : Circuit). impliedLength z (boundIn s y message proof) proof) (same-circuit s (h .circuit) c (h .read) r))

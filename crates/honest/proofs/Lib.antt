@@ -21,3 +21,4 @@ pub mod Inside
 pub mod Room
 pub mod Kept
 pub mod Writes
+pub mod Covered

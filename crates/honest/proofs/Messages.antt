@@ -21,7 +21,7 @@ use Rattle.hiding.proofs.Kept.{replay-keeps-row}
 use Rattle.instance.specs.Instance.{Asked, opened, hiding}
 use Rattle.instance.specs.Stretch.{correctionBytes, stretchBytes, rowPart}
 use Rattle.proof.specs.File.{stretchStart, proofBytes, stretchAt}
-use Rattle.honest.specs.Response.{Chosen, chosen, decodeHeader, challengeIn, decode, impliedLength, UnusedZero}
+use Rattle.honest.specs.Response.{Chosen, chosen, decodeHeader, boundIn, challengeIn, decode, impliedLength, UnusedZero}
 use Rattle.honest.specs.Verification.{simulation, msgs}
 use Rattle.honest.specs.Theorems.{AllBytes, MessagesAsSent}
 use Rattle.honest.proofs.Asking.{Below}
@@ -88,12 +88,12 @@ messages-as-sent s y message proof c b r e j p x l f =
     let q : h .circuit ≡ c = same-circuit s (h .circuit) c (h .read) r in
     let n : ℕ = decodeHeader proof .n in
     let M : ℕ = decodeHeader proof .M in
-    let ask : ℕ → Asked = challengeIn message proof in
+    let ask : ℕ → Asked = challengeIn (boundIn s y message proof) proof in
     let size : length proof ≡ proofBytes c M n ask =
-    h .size ∙ (ap (λ (z : Circuit). impliedLength z message proof) q ∙ implied-is c message proof) in
+    h .size ∙ (ap (λ (z : Circuit). impliedLength z (boundIn s y message proof) proof) q ∙ implied-is c (boundIn s y message proof) proof) in
     let t : Row c n p x =
     row-sent c n (stretchAt c n ask proof j) (bytes-stretch c n ask proof b j) (ask j) (length-stretchAt c n M ask proof size j l)
-    (all-below message proof (h .header) j) p x (sym (decoded-parts c n ask proof j) ∙ f) in
-    let u : UnusedZero (h .circuit) x = h .unused j p x l (ap (λ (z : Circuit). decode z message proof j) q ∙ f) in
+    (all-below (boundIn s y message proof) proof (h .header) j) p x (sym (decoded-parts c n ask proof j) ∙ f) in
+    let u : UnusedZero (h .circuit) x = h .unused j p x l (ap (λ (z : Circuit). decode z (boundIn s y message proof) proof j) q ∙ f) in
     let v : UnusedZero c x = subst (λ (z : Circuit). UnusedZero z x) q u in
     msgs-kept c n j p x (t .party) (t .size) (t .bytes) (v .msgs)

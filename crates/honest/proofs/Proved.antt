@@ -17,7 +17,7 @@ use Rattle.circuit.specs.File.{Reading, refused, legal, readCircuit}
 use Rattle.circuit.specs.Operations.{onLegal, holds}
 use Rattle.seeds.specs.Operations.{areCounts}
 use Rattle.proof.specs.File.{proofRoom}
-use Rattle.proof.specs.Protocol.{mastersOf}
+use Rattle.proof.specs.Protocol.{mastersOf, statementOf}
 use Rattle.proof.specs.Prove.{proofOf, witnesses, written, proveLegal, proveOp}
 use Rattle.honest.proofs.Passing.{succeeded, refused-not, unless-test, unless-rest}
 
@@ -40,8 +40,8 @@ module _ (s witness y message root buffer left : List ℕ) (M tau n k : ℕ) whe
     pub unused-inputs : unusedZero (circuit .inputs) witness ≡ true
     pub unused-outputs : unusedZero (length (circuit .outputs)) y ≡ true
     pub gives : witnesses circuit witness y ≡ true
-    pub size : length (proofOf circuit M tau n witness message (mastersOf root)) ≡ k
-    pub content : proofOf circuit M tau n witness message (mastersOf root) ++ drop k buffer ≡ left
+    pub size : length (proofOf circuit M tau n witness (statementOf M tau n s y message) (mastersOf root)) ≡ k
+    pub content : proofOf circuit M tau n witness (statementOf M tau n s y message) (mastersOf root) ++ drop k buffer ≡ left
 
   -- what is written
   module _ (proof : List ℕ) (e : written proof buffer ≡ succeeded (k ∷ []) (left ∷ [])) where
@@ -59,7 +59,7 @@ module _ (s witness y message root buffer left : List ℕ) (M tau n k : ℕ) whe
         rw wrote-size at d
 
   -- of a legal circuit
-  proved-legal : (c : Circuit) → readCircuit s ≡ legal c → proveLegal witness y message root M tau n buffer c ≡ succeeded (k ∷ []) (left ∷ []) → Proved
+  proved-legal : (c : Circuit) → readCircuit s ≡ legal c → proveLegal s witness y message root M tau n buffer c ≡ succeeded (k ∷ []) (left ∷ []) → Proved
   unfolding proveLegal
   proved-legal c r e =
       let lent : List (List ℕ) = buffer ∷ [] in
@@ -73,7 +73,7 @@ module _ (s witness y message root buffer left : List ℕ) (M tau n k : ℕ) whe
       let d1 : Bool = unusedZero (c .inputs) witness in
       let d2 : Bool = unusedZero (length (c .outputs)) y in
       let f : Bool = witnesses c witness y in
-      let o4 : Outcome = written (proofOf c M tau n witness message (mastersOf root)) buffer in
+      let o4 : Outcome = written (proofOf c M tau n witness (statementOf M tau n s y message) (mastersOf root)) buffer in
       let o3 : Outcome = unless f 10 lent o4 in
       let o2 : Outcome = unless (d1 && d2) 7 lent o3 in
       let o1 : Outcome = unless (b1 && b2 && b3 && b4 && b5) 6 lent o2 in
@@ -98,13 +98,13 @@ module _ (s witness y message root buffer left : List ℕ) (M tau n k : ℕ) whe
         unused-inputs = and-true-left d1 d2 t3;
         unused-outputs = and-true-right d1 d2 t3;
         gives = unless-test f 10 lent o4 (k ∷ []) (left ∷ []) e3;
-        size = wrote-size (proofOf c M tau n witness message (mastersOf root)) e4;
-        content = wrote-content (proofOf c M tau n witness message (mastersOf root)) e4;
+        size = wrote-size (proofOf c M tau n witness (statementOf M tau n s y message) (mastersOf root)) e4;
+        content = wrote-content (proofOf c M tau n witness (statementOf M tau n s y message) (mastersOf root)) e4;
       }
 
   -- of what was read
   proved-read : (r : Reading) → readCircuit s ≡ r
-      → onLegal r (buffer ∷ []) (proveLegal witness y message root M tau n buffer) ≡ succeeded (k ∷ []) (left ∷ []) → Proved
+      → onLegal r (buffer ∷ []) (proveLegal s witness y message root M tau n buffer) ≡ succeeded (k ∷ []) (left ∷ []) → Proved
   proved-read (refused x) r e = absurd (refused-not x (buffer ∷ []) (k ∷ []) (left ∷ []) e)
   proved-read (legal c) r e = proved-legal c r e
 

@@ -26,9 +26,9 @@ use Rattle.seeds.proofs.Instances.{Fit, counts-fit}
 use Rattle.instance.specs.Instance.{Asked, opened, hiding}
 use Rattle.instance.specs.Stretch.{stretchBytes, sentMaster, sentOnline, correctionsPart, maskedPart, rowPart}
 use Rattle.instance.specs.Opened.{openedRun, stretchCommitments, stretchOnline, stretchUnused}
-use Rattle.proof.specs.Protocol.{hstarOf, challenged}
+use Rattle.proof.specs.Protocol.{hstarOf, statementOf, challenged}
 use Rattle.proof.specs.File.{headerM, headerTau, headerN, headerZero, headerHstar, goodHeader, proofBytes, stretchAt}
-use Rattle.honest.specs.Response.{Unchosen, Chosen, Sent, unchosen, chosen, Response, answered, Header, decodeHeader, challengeIn, decodeSent, bytesFrom, decode, impliedLength, UnusedZero}
+use Rattle.honest.specs.Response.{Unchosen, Chosen, Sent, unchosen, chosen, Response, answered, Header, decodeHeader, boundIn, challengeIn, decodeSent, bytesFrom, decode, impliedLength, UnusedZero}
 use Rattle.honest.specs.Verification.{all, honestCom, openedCom, simulation, msgs, Verified}
 use Rattle.honest.specs.Theorems.{GoodHeader, Accepts, CheckIsPublished, AcceptedLength}
 use Rattle.honest.proofs.Passing.{and-true}
@@ -243,11 +243,12 @@ header-accepted proof g =
     (and-true _ _ (g .parties) (eq-eqb (headerZero proof) 0 (g .zero))))
 
 -- the tests of a proof with the header h
-abbrev TestsWith : Circuit → List ℕ → List ℕ → List ℕ → Header → Type 0
-TestsWith c y message proof h = ProofTests c y proof (h .hstar) (h .M) (h .n) (challenged (h .M) (h .tau) (h .n) (h .hstar) message)
+abbrev TestsWith : Circuit → List ℕ → List ℕ → List ℕ → List ℕ → Header → Type 0
+TestsWith c s y message proof h =
+    ProofTests c y proof (h .hstar) (h .M) (h .n) (challenged (h .M) (h .tau) (h .n) (h .hstar) (statementOf (h .M) (h .tau) (h .n) s y message))
 
 -- a good header
-module _ (message proof : List ℕ) (good : GoodHeader proof (decodeHeader proof)) where
+module _ (bound proof : List ℕ) (good : GoodHeader proof (decodeHeader proof)) where
   abbrev pub parties : ℕ
   parties = decodeHeader proof .n
 
@@ -255,16 +256,16 @@ module _ (message proof : List ℕ) (good : GoodHeader proof (decodeHeader proof
   height = has-height parties (good .parties)
 
   -- every hidden party is one of them
-  pub all-below : (j : ℕ) → Below parties (challengeIn message proof j)
+  pub all-below : (j : ℕ) → Below parties (challengeIn bound proof j)
   all-below =
-      challenged-below (decodeHeader proof .M) (decodeHeader proof .tau) parties (decodeHeader proof .hstar) message (omega (arith, good .tau-most))
+      challenged-below (decodeHeader proof .M) (decodeHeader proof .tau) parties (decodeHeader proof .hstar) bound (omega (arith, good .tau-most))
       (omega (arith, sizes parties height .some))
 
 -- the length that h* implies is the one that check computes
-pub implied-is : (c : Circuit) (message proof : List ℕ)
-    → impliedLength c message proof ≡ proofBytes c (decodeHeader proof .M) (decodeHeader proof .n) (challengeIn message proof)
+pub implied-is : (c : Circuit) (bound proof : List ℕ)
+    → impliedLength c bound proof ≡ proofBytes c (decodeHeader proof .M) (decodeHeader proof .n) (challengeIn bound proof)
 unfolding impliedLength
-implied-is c message proof = all-bytes c (decodeHeader proof .n) (challengeIn message proof) (decodeHeader proof .M)
+implied-is c bound proof = all-bytes c (decodeHeader proof .n) (challengeIn bound proof) (decodeHeader proof .M)
 
 -- what passes the tests meets the published check
 tests-accept : (s y message proof : List ℕ) → CheckTests s y message proof → Accepts s y message proof
@@ -272,7 +273,7 @@ unfolding decode
 tests-accept s y message proof t =
     let c : Circuit = t .circuit in
     let good : GoodHeader proof (decodeHeader proof) = subst (GoodHeader proof) (sym (header-is proof)) (header-passed proof (t .header)) in
-    let tests : TestsWith c y message proof (decodeHeader proof) = subst (TestsWith c y message proof) (sym (header-is proof)) (t .proof-tests) in
+    let tests : TestsWith c s y message proof (decodeHeader proof) = subst (TestsWith c s y message proof) (sym (header-is proof)) (t .proof-tests) in
     record {
       circuit = c;
       read = t .read;
@@ -280,12 +281,12 @@ tests-accept s y message proof t =
       message-size = t .short;
       y-unused = t .y-unused;
       header = good;
-      size = tests .size ∙ sym (implied-is c message proof);
+      size = tests .size ∙ sym (implied-is c (boundIn s y message proof) proof);
       unused = λ j p x l e.
-          unused-chosen c (decodeHeader proof .n) j (height message proof good) (challengeIn message proof j) _ (tests .unused j l) p x
-          (sym (decoded-parts c (decodeHeader proof .n) (challengeIn message proof) proof j) ∙ e);
-      verified = verified c y proof (decodeHeader proof .hstar) (decodeHeader proof .M) (decodeHeader proof .n) (challengeIn message proof)
-          (height message proof good) (all-below message proof good) (tests .size) tests;
+          unused-chosen c (decodeHeader proof .n) j (height (boundIn s y message proof) proof good) (challengeIn (boundIn s y message proof) proof j) _ (tests .unused j l) p x
+          (sym (decoded-parts c (decodeHeader proof .n) (challengeIn (boundIn s y message proof) proof) proof j) ∙ e);
+      verified = verified c y proof (decodeHeader proof .hstar) (decodeHeader proof .M) (decodeHeader proof .n) (challengeIn (boundIn s y message proof) proof)
+          (height (boundIn s y message proof) proof good) (all-below (boundIn s y message proof) proof good) (tests .size) tests;
     }
 
 -- and the other way round
@@ -293,9 +294,9 @@ accept-tests : (s y message proof : List ℕ) → Accepts s y message proof → 
 unfolding decode
 accept-tests s y message proof h =
     let c : Circuit = h .circuit in
-    let tests : TestsWith c y message proof (decodeHeader proof) =
-    tested c y proof (decodeHeader proof .hstar) (decodeHeader proof .M) (decodeHeader proof .n) (challengeIn message proof)
-    (height message proof (h .header)) (all-below message proof (h .header)) (h .size ∙ implied-is c message proof) (h .unused) (h .verified) in
+    let tests : TestsWith c s y message proof (decodeHeader proof) =
+    tested c y proof (decodeHeader proof .hstar) (decodeHeader proof .M) (decodeHeader proof .n) (challengeIn (boundIn s y message proof) proof)
+    (height (boundIn s y message proof) proof (h .header)) (all-below (boundIn s y message proof) proof (h .header)) (h .size ∙ implied-is c (boundIn s y message proof) proof) (h .unused) (h .verified) in
     record {
       circuit = c;
       read = h .read;
@@ -303,7 +304,7 @@ accept-tests s y message proof h =
       short = h .message-size;
       y-unused = h .y-unused;
       header = header-accepted proof (subst (GoodHeader proof) (header-is proof) (h .header));
-      proof-tests = subst (TestsWith c y message proof) (header-is proof) tests;
+      proof-tests = subst (TestsWith c s y message proof) (header-is proof) tests;
     }
 
 -- check is the published check
@@ -321,4 +322,4 @@ same-circuit s c d e f = cc
 pub accepted-length : AcceptedLength
 accepted-length s y message proof c r e =
     let h = check-is-published .sound s y message proof e in
-    h .size ∙ ap (λ (z : Circuit). impliedLength z message proof) (same-circuit s (h .circuit) c (h .read) r)
+    h .size ∙ ap (λ (z : Circuit). impliedLength z (boundIn s y message proof) proof) (same-circuit s (h .circuit) c (h .read) r)

@@ -16,7 +16,6 @@ use Rattle.parties.specs.Parties.{heightOf, isPartyCount}
 use Rattle.parties.proofs.Counts.{sizes}
 use Rattle.circuit.specs.Circuit.{Circuit}
 use Rattle.mpc.specs.Tapes.{andsOf}
-use Rattle.hashing.specs.Inputs.{boundOf}
 use Rattle.choice.specs.Challenge.{streamOf, instances, hiddenParties, Sound}
 use Rattle.seeds.specs.Operations.{areCounts}
 use Rattle.choice.proofs.Challenges.{challenge-sound}
@@ -108,22 +107,22 @@ module _ (c : Circuit) (n : ℕ) (height : heightOf n ≡ 0 → ⊥) where
       omega (arith, start-moves i p is ps m, start-most is ps (omega arith) m, suc-mul (length is) longest)
 
 -- the length that a challenge implies is at most the room that prove asks for
-pub challenge-fits : (c : Circuit) (M tau n : ℕ) (hstar message : List ℕ) → areCounts M tau ≡ true → isPartyCount n ≡ true
-    → proofBytes c M n (challenged M tau n hstar message) ≤ proofRoom c M tau n
+pub challenge-fits : (c : Circuit) (M tau n : ℕ) (hstar bound : List ℕ) → areCounts M tau ≡ true → isPartyCount n ≡ true
+    → proofBytes c M n (challenged M tau n hstar bound) ≤ proofRoom c M tau n
 unfolding challenged proofRoom
-challenge-fits c M tau n hstar message h i =
+challenge-fits c M tau n hstar bound h i =
     let height : heightOf n ≡ 0 → ⊥ = has-height n i in
     let fit : Fit M tau = counts-fit M tau h in
-    let is : List ℕ = instances M tau (streamOf tau hstar (boundOf message)) in
-    let ps : List ℕ = hiddenParties tau n (streamOf tau hstar (boundOf message)) in
-    let s : Sound M tau n is ps = challenge-sound M tau n hstar (boundOf message) (omega (arith, fit .below)) (omega (arith, sizes n height .some)) in
+    let is : List ℕ = instances M tau (streamOf tau hstar bound) in
+    let ps : List ℕ = hiddenParties tau n (streamOf tau hstar bound) in
+    let s : Sound M tau n is ps = challenge-sound M tau n hstar bound (omega (arith, fit .below)) (omega (arith, sizes n height .some)) in
     let t : length is ≡ tau = s .count in
     let b : stretchStart c n (asked is ps) M + 48 * tau ≤ 38 + 48 * M + tau * longest c n height =
     rw t at (start-most c n height is ps (t ∙ sym (s .paired)) M) in
     omega (arith, fit .below)
 
 -- so is that of an honest proof
-pub proof-fits : (c : Circuit) (M tau n : ℕ) (witness message : List ℕ) (masters : ℕ → List ℕ) → ((j : ℕ) → length (masters j) ≡ 16) → areCounts M tau ≡ true → isPartyCount n ≡ true
-    → length (proofOf c M tau n witness message masters) ≤ proofRoom c M tau n
-proof-fits c M tau n witness message masters master-size h i =
-    omega (arith, length-proof c M tau n witness message masters master-size, challenge-fits c M tau n (firstMessage c M n witness masters) message h i)
+pub proof-fits : (c : Circuit) (M tau n : ℕ) (witness bound : List ℕ) (masters : ℕ → List ℕ) → ((j : ℕ) → length (masters j) ≡ 16) → areCounts M tau ≡ true → isPartyCount n ≡ true
+    → length (proofOf c M tau n witness bound masters) ≤ proofRoom c M tau n
+proof-fits c M tau n witness bound masters master-size h i =
+    omega (arith, length-proof c M tau n witness bound masters master-size, challenge-fits c M tau n (firstMessage c M n witness masters) bound h i)

@@ -16,7 +16,7 @@ use Rattle.circuit.specs.Circuit.{Circuit}
 use Rattle.circuit.specs.File.{Reading, refused, legal, readCircuit}
 use Rattle.circuit.specs.Operations.{holds, onLegal}
 use Rattle.instance.specs.Instance.{Asked, opened, hiding}
-use Rattle.proof.specs.Protocol.{hstarOf, challenged}
+use Rattle.proof.specs.Protocol.{hstarOf, statementOf, challenged}
 use Rattle.proof.specs.File.{headerM, headerTau, headerN, headerHstar, goodHeader, proofBytes, stretchAt}
 use Rattle.instance.specs.Opened.{openedRun, stretchCommitments, stretchOnline, stretchUnused, stretchOutput}
 use Rattle.proof.specs.Check.{every, checkProof, checkLegal, checkOp}
@@ -39,7 +39,8 @@ pub record CheckTests (s y message proof : List ℕ) : Type 0 where
   pub y-unused : unusedZero (length (circuit .outputs)) y ≡ true
   pub header : goodHeader proof ≡ true
   pub proof-tests : ProofTests circuit y proof (headerHstar proof) (headerM proof) (headerN proof)
-      (challenged (headerM proof) (headerTau proof) (headerN proof) (headerHstar proof) message)
+      (challenged (headerM proof) (headerTau proof) (headerN proof) (headerHstar proof)
+      (statementOf (headerM proof) (headerTau proof) (headerN proof) s y message))
 
 -- a proof, of which `ask` says what is asked of each instance
 module _ (c : Circuit) (y proof : List ℕ) (M n : ℕ) (ask : ℕ → Asked) where
@@ -103,7 +104,7 @@ module _ (c : Circuit) (y proof : List ℕ) (M n : ℕ) (ask : ℕ → Asked) wh
       tests ∙ rw (a, b, d, e)
 
 -- a check that accepts has passed the tests before the proof's
-module _ (y message proof : List ℕ) (c : Circuit) where
+module _ (s y message proof : List ℕ) (c : Circuit) where
   -- the tests, and what is asked by the header's challenge
   abbrev sizes : Bool
   sizes = holds (length (c .outputs)) y && leb (length message) 4096
@@ -112,19 +113,19 @@ module _ (y message proof : List ℕ) (c : Circuit) where
   clean = unusedZero (length (c .outputs)) y
 
   abbrev asks : ℕ → Asked
-  asks = challenged (headerM proof) (headerTau proof) (headerN proof) (headerHstar proof) message
+  asks = challenged (headerM proof) (headerTau proof) (headerN proof) (headerHstar proof) (statementOf (headerM proof) (headerTau proof) (headerN proof) s y message)
 
   abbrev rest : Outcome
   rest = checkProof c y proof (headerM proof) (headerN proof) asks
 
   -- check makes them in this order
-  legal-tests : checkLegal y message proof c ≡ unless sizes 6 [] (unless clean 7 [] (unless (goodHeader proof) 11 [] rest))
+  legal-tests : checkLegal s y message proof c ≡ unless sizes 6 [] (unless clean 7 [] (unless (goodHeader proof) 11 [] rest))
   unfolding checkLegal
   legal-tests = refl
 
   -- they pass where check accepts a legal circuit
-  legal-passed : (s : List ℕ) → readCircuit s ≡ legal c → checkLegal y message proof c ≡ done [] → CheckTests s y message proof
-  legal-passed s r e =
+  legal-passed : readCircuit s ≡ legal c → checkLegal s y message proof c ≡ done [] → CheckTests s y message proof
+  legal-passed r e =
       let e0 = sym legal-tests ∙ e in
       let e1 = unless-rest sizes 6 [] _ [] [] e0 in
       let e2 = unless-rest clean 7 [] _ [] [] e1 in
@@ -140,9 +141,9 @@ module _ (y message proof : List ℕ) (c : Circuit) where
       }
 
 -- whatever was read
-read-passed : (s y message proof : List ℕ) (r : Reading) → readCircuit s ≡ r → onLegal r [] (checkLegal y message proof) ≡ done [] → CheckTests s y message proof
+read-passed : (s y message proof : List ℕ) (r : Reading) → readCircuit s ≡ r → onLegal r [] (checkLegal s y message proof) ≡ done [] → CheckTests s y message proof
 read-passed s y message proof (refused k) r e = absurd (refused-not k [] [] [] e)
-read-passed s y message proof (legal c) r e = legal-passed y message proof c s r e
+read-passed s y message proof (legal c) r e = legal-passed s y message proof c r e
 
 -- all tests pass where check accepts
 pub passed : (s y message proof : List ℕ) → checkOp s y message proof ≡ done [] → CheckTests s y message proof
@@ -154,6 +155,6 @@ pub accepted : (s y message proof : List ℕ) → CheckTests s y message proof �
 unfolding checkOp
 accepted s y message proof h =
     let c = h .circuit in
-    let a : sizes y message proof c ≡ true = and-true _ _ (eq-eqb _ _ (h .y-size)) (le-leb (length message) 4096 (h .short)) in
-    let b : rest y message proof c ≡ done [] = proof-accepted c y proof (headerM proof) (headerN proof) (asks y message proof c) (h .proof-tests) in
-    ap (λ (x : Reading). onLegal x [] (checkLegal y message proof)) (h .read) ∙ (legal-tests y message proof c ∙ rw (a, h .y-unused, h .header, b))
+    let a : sizes s y message proof c ≡ true = and-true _ _ (eq-eqb _ _ (h .y-size)) (le-leb (length message) 4096 (h .short)) in
+    let b : rest s y message proof c ≡ done [] = proof-accepted c y proof (headerM proof) (headerN proof) (asks s y message proof c) (h .proof-tests) in
+    ap (λ (x : Reading). onLegal x [] (checkLegal s y message proof)) (h .read) ∙ (legal-tests s y message proof c ∙ rw (a, h .y-unused, h .header, b))

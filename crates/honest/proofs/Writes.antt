@@ -14,7 +14,7 @@ use Rattle.parties.specs.Parties.{isPartyCount}
 use Rattle.circuit.specs.Circuit.{Circuit, evalGates, evaluate}
 use Rattle.circuit.specs.File.{legal, readCircuit}
 use Rattle.seeds.specs.Operations.{areCounts}
-use Rattle.proof.specs.Protocol.{mastersOf, firstMessage, challenged}
+use Rattle.proof.specs.Protocol.{mastersOf, firstMessage, statementOf, challenged}
 use Rattle.proof.specs.File.{proofBytes, proofRoom}
 use Rattle.proof.specs.Prove.{proofOf, witnesses, written, proveLegal, proveOp}
 use Rattle.honest.proofs.Written.{length-master, length-proof}
@@ -47,9 +47,10 @@ module _ (c : Circuit) (witness y message root buffer : List ℕ) (M tau n : ℕ
   unfolding witnesses
   y-given = eq-same (pack (evaluate c (bitAt witness))) y (h .gives)
 
-  legal-writes : proveLegal witness y message root M tau n buffer c ≡ written (proofOf c M tau n witness message (mastersOf root)) buffer
+  legal-writes : (s : List ℕ) → proveLegal s witness y message root M tau n buffer c
+      ≡ written (proofOf c M tau n witness (statementOf M tau n s y message) (mastersOf root)) buffer
   unfolding proveLegal
-  legal-writes =
+  legal-writes s =
       rw (
         h .counts,
         h .parties,
@@ -65,14 +66,14 @@ module _ (c : Circuit) (witness y message root buffer : List ℕ) (M tau n : ℕ
 
   -- prove writes the proof
   pub prove-writes : (s : List ℕ) → readCircuit s ≡ legal c
-      → proveOp s witness y message root M tau n buffer ≡ written (proofOf c M tau n witness message (mastersOf root)) buffer
+      → proveOp s witness y message root M tau n buffer ≡ written (proofOf c M tau n witness (statementOf M tau n s y message) (mastersOf root)) buffer
   unfolding proveOp
-  prove-writes s e = rw e legal-writes
+  prove-writes s e = rw e (legal-writes s)
 
   -- and answers its length
   pub prove-answers : (s : List ℕ) → readCircuit s ≡ legal c
       → proveOp s witness y message root M tau n buffer .answer
-      ≡ success (proofBytes c M n (challenged M tau n (firstMessage c M n witness (mastersOf root)) message) ∷ [])
+      ≡ success (proofBytes c M n (challenged M tau n (firstMessage c M n witness (mastersOf root)) (statementOf M tau n s y message)) ∷ [])
   unfolding written
   prove-answers s e =
-      ap (λ (o : Outcome). o .answer) (prove-writes s e) ∙ ap (λ (k : ℕ). success (k ∷ [])) (length-proof c M tau n witness message (mastersOf root) (λ j. length-master j root))
+      ap (λ (o : Outcome). o .answer) (prove-writes s e) ∙ ap (λ (k : ℕ). success (k ∷ [])) (length-proof c M tau n witness (statementOf M tau n s y message) (mastersOf root) (λ j. length-master j root))

@@ -25,18 +25,18 @@ unfolding masterOf
 length-master j root = length-shake128 _ 16
 
 -- the proof of M instances, of which tau are chosen, by n parties
-module _ (c : Circuit) (M tau n : ℕ) (witness message : List ℕ) (masters : ℕ → List ℕ) (master-size : (j : ℕ) → length (masters j) ≡ 16) where
+module _ (c : Circuit) (M tau n : ℕ) (witness bound : List ℕ) (masters : ℕ → List ℕ) (master-size : (j : ℕ) → length (masters j) ≡ 16) where
   abbrev hstar : List ℕ
   hstar = firstMessage c M n witness masters
 
   abbrev ask : ℕ → Asked
-  ask = challenged M tau n hstar message
+  ask = challenged M tau n hstar bound
 
   abbrev sent : ℕ → List ℕ
   sent j = stretchOf c n j witness (masters j) (ask j)
 
   abbrev proof : List ℕ
-  proof = proofOf c M tau n witness message masters
+  proof = proofOf c M tau n witness bound masters
 
   -- h* has 32 bytes
   length-hstar : length hstar ≡ 32

@@ -12,7 +12,7 @@ use Rattle.parties.specs.Parties.{heightOf}
 use Rattle.circuit.specs.Circuit.{Circuit}
 use Rattle.mpc.specs.Tapes.{andsOf}
 use Rattle.instance.specs.Instance.{Asked, opened, hiding}
-use Rattle.proof.specs.Protocol.{challenged}
+use Rattle.proof.specs.Protocol.{statementOf, challenged}
 use Rattle.proof.specs.File.{headerBytes}
 
 -- "For each j ∈ [M] \ C, the prover sends seed*_j, h'_j": seed*_j is the master
@@ -76,11 +76,17 @@ decodeHeader file =
     let s₃ : List ℕ = drop 2 s₂ in
     record { M = leAt 2 file 0; tau = leAt 2 s₁ 0; n = getD s₂ 0 0; hstar = take 32 s₃ }
 
+-- the whole statement, with the header's M, τ and n: what the challenge of a file is bound to, under the circuit file s, y and message
+abbrev pub boundIn : List ℕ → List ℕ → List ℕ → List ℕ → List ℕ
+boundIn s y message file =
+    let h : Header = decodeHeader file in
+    statementOf (h .M) (h .tau) (h .n) s y message
+
 -- "The check draws the challenge from the header's h*": what is asked of each instance
 abbrev pub challengeIn : List ℕ → List ℕ → ℕ → Asked
-challengeIn message file =
+challengeIn bound file =
     let h : Header = decodeHeader file in
-    challenged (h .M) (h .tau) (h .n) (h .hstar) message
+    challenged (h .M) (h .tau) (h .n) (h .hstar) bound
 
 -- "corrections unless p = n − 1"
 unfoldable pub auxBytes : Circuit → ℕ → ℕ → ℕ
@@ -114,9 +120,9 @@ bytesFrom c n ask s (suc j) = decodeSent c n (ask j) (bytesFrom c n ask s j) .1
 
 -- the response in a file, after the header; the challenge says which instances are chosen
 unfoldable pub decode : Circuit → List ℕ → List ℕ → Response
-decode c message file j =
+decode c bound file j =
     let n : ℕ = decodeHeader file .n in
-    let ask : ℕ → Asked = challengeIn message file in
+    let ask : ℕ → Asked = challengeIn bound file in
     decodeSent c n (ask j) (bytesFrom c n ask (drop headerBytes file) j) .0
 
 -- the lengths of the parts: "master (16), h'_j (32)"; "log2 n siblings of 16 bytes, corrections unless p = n − 1, com_p, masked inputs,
@@ -139,9 +145,9 @@ allBytes c n ask (suc m) = allBytes c n ask m + sentBytes c n (ask m)
 
 -- the length that h* implies: the header, and all instances
 unfoldable pub impliedLength : Circuit → List ℕ → List ℕ → ℕ
-impliedLength c message file =
+impliedLength c bound file =
     let h : Header = decodeHeader file in
-    headerBytes + allBytes c (h .n) (challengeIn message file) (h .M)
+    headerBytes + allBytes c (h .n) (challengeIn bound file) (h .M)
 
 -- "the unused bits of a last byte are zero"
 pub record UnusedZero (c : Circuit) (x : Chosen) : Type 0 where

@@ -6,16 +6,18 @@ use mathlib.Core.List.{List, [], _∷_}
 use Prim.Native.Nat.{ℕ, _≤_, _<_}
 use lib.ListN.{length, getD, take}
 use Rattle.bits.specs.Bits.{oct, unusedZero}
+use Rattle.keccak.specs.Sponge.{sha3-256}
 use Rattle.refusal.specs.Outcome.{success, done}
 use Rattle.parties.specs.Parties.{isPartyCount}
 use Rattle.circuit.specs.Circuit.{Circuit}
 use Rattle.circuit.specs.File.{readCircuit, legal}
+use Rattle.hashing.specs.Inputs.{challengeInput}
 use Rattle.seeds.specs.Operations.{maxInstances, maxMessage}
 use Rattle.proof.specs.Protocol.{challenged}
 use Rattle.proof.specs.File.{headerBytes}
 use Rattle.proof.specs.Prove.{proveOp}
 use Rattle.proof.specs.Check.{checkOp}
-use Rattle.honest.specs.Response.{Chosen, chosen, Response, answered, Header, HeaderFits, encode, decodeHeader, challengeIn, decode, Lengths, impliedLength, UnusedZero}
+use Rattle.honest.specs.Response.{Chosen, chosen, Response, answered, Header, HeaderFits, encode, decodeHeader, boundIn, challengeIn, decode, Lengths, impliedLength, UnusedZero}
 use Rattle.honest.specs.Verification.{msgs, Verified}
 
 -- bytes
@@ -54,12 +56,13 @@ pub record Accepts (s y message proof : List ℕ) : Type 0 where
   -- "11 a header .."
   pub header : GoodHeader proof (decodeHeader proof)
   -- "12 a length other than h* implies"
-  pub size : length proof ≡ impliedLength circuit message proof
+  pub size : length proof ≡ impliedLength circuit (boundIn s y message proof) proof
   -- "7 unused bits in the proof"
-  pub unused : (j p : ℕ) (x : Chosen) → j < decodeHeader proof .M → decode circuit message proof j ≡ chosen p x → UnusedZero circuit x
+  pub unused : (j p : ℕ) (x : Chosen) → j < decodeHeader proof .M → decode circuit (boundIn s y message proof) proof j ≡ chosen p x
+      → UnusedZero circuit x
   -- "10 a replay with another output; 13 the recomputed h* differs"
-  pub verified : Verified circuit y (decodeHeader proof .hstar) (decodeHeader proof .M) (decodeHeader proof .n) (challengeIn message proof)
-      (decode circuit message proof)
+  pub verified : Verified circuit y (decodeHeader proof .hstar) (decodeHeader proof .M) (decodeHeader proof .n)
+      (challengeIn (boundIn s y message proof) proof) (decode circuit (boundIn s y message proof) proof)
 
 -- Theorem, check is the published check: a proof is accepted exactly where that holds
 pub record CheckIsPublished : Type 0 where
@@ -71,25 +74,48 @@ pub record CheckIsPublished : Type 0 where
 abbrev pub AcceptedEncoding : Type 0
 AcceptedEncoding =
     (s y message proof : List ℕ) (c : Circuit) → AllBytes proof → readCircuit s ≡ legal c → checkOp s y message proof ≡ done []
-    → proof ≡ encode (decodeHeader proof) (decode c message proof)
+    → proof ≡ encode (decodeHeader proof) (decode c (boundIn s y message proof) proof)
 
 -- Theorem: what is encoded is decoded again, where the header's numbers fit their bytes, and the response is to its challenge and has the
 -- lengths that are asked for
 pub record EncodingDecodes : Type 0 where
   pub header : (h : Header) (sent : Response) → HeaderFits h → decodeHeader (encode h sent) ≡ h
-  pub response : (c : Circuit) (message : List ℕ) (h : Header) (sent : Response) → HeaderFits h
-      → ((j : ℕ) → j < h .M → answered (sent j) ≡ challenged (h .M) (h .tau) (h .n) (h .hstar) message j)
-      → ((j : ℕ) → j < h .M → Lengths c (h .n) (sent j)) → (j : ℕ) → j < h .M → decode c message (encode h sent) j ≡ sent j
+  pub response : (c : Circuit) (bound : List ℕ) (h : Header) (sent : Response) → HeaderFits h
+      → ((j : ℕ) → j < h .M → answered (sent j) ≡ challenged (h .M) (h .tau) (h .n) (h .hstar) bound j)
+      → ((j : ℕ) → j < h .M → Lengths c (h .n) (sent j)) → (j : ℕ) → j < h .M → decode c bound (encode h sent) j ≡ sent j
 
 -- Theorem: in every accepted file, the messages of party p that go into h'_j are those sent
 abbrev pub MessagesAsSent : Type 0
 MessagesAsSent =
     (s y message proof : List ℕ) (c : Circuit) → AllBytes proof → readCircuit s ≡ legal c → checkOp s y message proof ≡ done []
-    → (j p : ℕ) (x : Chosen) → j < decodeHeader proof .M → decode c message proof j ≡ chosen p x
+    → (j p : ℕ) (x : Chosen) → j < decodeHeader proof .M → decode c (boundIn s y message proof) proof j ≡ chosen p x
     → msgs c (decodeHeader proof .n) j p x p ≡ x .msgs-p
 
 -- Theorem: the length of every accepted proof is the one its challenge implies
 abbrev pub AcceptedLength : Type 0
 AcceptedLength =
     (s y message proof : List ℕ) (c : Circuit) → readCircuit s ≡ legal c → checkOp s y message proof ≡ done []
-    → length proof ≡ impliedLength c message proof
+    → length proof ≡ impliedLength c (boundIn s y message proof) proof
+
+-- the input of the challenge of a file, under the circuit file s, y and message
+abbrev pub inputIn : List ℕ → List ℕ → List ℕ → List ℕ → List ℕ
+inputIn s y message file = challengeInput (decodeHeader file .hstar) (boundIn s y message file)
+
+-- what two files with one challenge input have in common
+pub record OneStatement (s y message proof s′ y′ message′ proof′ : List ℕ) (c c′ : Circuit) : Type 0 where
+  pub hstar : decodeHeader proof .hstar ≡ decodeHeader proof′ .hstar
+  pub M : decodeHeader proof .M ≡ decodeHeader proof′ .M
+  pub tau : decodeHeader proof .tau ≡ decodeHeader proof′ .tau
+  pub n : decodeHeader proof .n ≡ decodeHeader proof′ .n
+  -- "one transcript could be offered under two circuits": now only under two files with one SHA3-256
+  pub circuits : sha3-256 s ≡ sha3-256 s′
+  pub same-y : oct (length (c .outputs)) ≡ oct (length (c′ .outputs)) → y ≡ y′
+  pub same-message : oct (length (c .outputs)) ≡ oct (length (c′ .outputs)) → message ≡ message′
+
+-- Theorem, the challenge covers the statement: where two accepted files draw their challenges from one input, they have one h*, M, τ and
+-- n, their circuit files have one SHA3-256, and, where the outputs of the circuits have equally many bytes, y and message are the same
+abbrev pub StatementCovered : Type 0
+StatementCovered =
+    (s y message proof s′ y′ message′ proof′ : List ℕ) (c c′ : Circuit) → readCircuit s ≡ legal c → readCircuit s′ ≡ legal c′
+    → checkOp s y message proof ≡ done [] → checkOp s′ y′ message′ proof′ ≡ done [] → inputIn s y message proof ≡ inputIn s′ y′ message′ proof′
+    → OneStatement s y message proof s′ y′ message′ proof′ c c′

@@ -11,11 +11,10 @@ use Rattle.refusal.specs.Outcome.{success}
 use Rattle.parties.specs.Parties.{heightOf, isPartyCount}
 use Rattle.circuit.specs.Circuit.{ands}
 use Rattle.circuit.specs.File.{legal, withinLimits, rightLength, goodRecord, goodRecords, walks, goodChain, chainFrom, gateAt, gatesInOrder, readsWritten, goodOutputs, goodWires, circuitOf, readCircuit}
-use Rattle.hashing.specs.Inputs.{boundOf}
 use Rattle.choice.specs.Challenge.{streamOf, instances, hiddenParties, Ascending, more, Sound}
 use Rattle.seeds.specs.Operations.{areCounts}
 use Rattle.choice.proofs.Challenges.{challenge-sound}
-use Rattle.proof.specs.Protocol.{mastersOf, firstMessage, asked, challenged}
+use Rattle.proof.specs.Protocol.{mastersOf, firstMessage, statementOf, asked, challenged}
 use Rattle.proof.specs.File.{proofBytes, proofRoom}
 use Rattle.proof.specs.Prove.{proveOp}
 use Rattle.honest.proofs.Writes.{Passes, prove-answers}
@@ -80,14 +79,15 @@ passes witness y message root buffer h =
 
 -- prove answers the length that its hidden party decides
 answers : (witness y message root buffer : List ℕ) (p k : ℕ) → ProveInputs witness y message root buffer → proofSizes p ≡ replicate 4 k
-    → hiddenParty witness message root ≡ p → proveOp circuitK witness y message root 4 1 2 buffer .answer ≡ success (k ∷ [])
+    → hiddenParty witness y message root ≡ p → proveOp circuitK witness y message root 4 1 2 buffer .answer ≡ success (k ∷ [])
 unfolding hiddenParty challenged
 answers witness y message root buffer p k h f e =
     let hstar : List ℕ = firstMessage (circuitOf circuitK) 4 2 witness (mastersOf root) in
-    let stream : List ℕ = streamOf 1 hstar (boundOf message) in
+    let bound : List ℕ = statementOf 4 1 2 circuitK y message in
+    let stream : List ℕ = streamOf 1 hstar bound in
     prove-answers (circuitOf circuitK) witness y message root buffer 4 1 2 (passes witness y message root buffer h) circuitK read-K
     ∙ ap (λ (n : ℕ). success (n ∷ []))
-    (size-by-party (instances 4 1 stream) (hiddenParties 1 2 stream) p k (challenge-sound 4 1 2 hstar (boundOf message) (omega arith) (omega arith)) e f)
+    (size-by-party (instances 4 1 stream) (hiddenParties 1 2 stream) p k (challenge-sound 4 1 2 hstar bound (omega arith) (omega arith)) e f)
 
 -- "m10 M = 4, τ = 1, n = 2: 233 bytes if p = 0, 232 if p = 1"
 pub m10-proved : M10
@@ -95,7 +95,7 @@ unfolding hiddenParty
 m10-proved witness y message root buffer h =
     let hstar : List ℕ = firstMessage (circuitOf circuitK) 4 2 witness (mastersOf root) in
     record {
-      party = challenge-sound 4 1 2 hstar (boundOf message) (omega arith) (omega arith) .hidden 0;
+      party = challenge-sound 4 1 2 hstar (statementOf 4 1 2 circuitK y message) (omega arith) (omega arith) .hidden 0;
       first = answers witness y message root buffer 0 233 h first-row;
       last = answers witness y message root buffer 1 232 h last-row;
     }

@@ -13,10 +13,9 @@ use Rattle.circuit.specs.File.{circuitOf}
 use Rattle.circuit.specs.Operations.{readOp}
 use Rattle.mpc.specs.Showing.{Showing}
 use Rattle.mpc.specs.Operations.{prepareOp, runOp, showOp}
-use Rattle.hashing.specs.Inputs.{boundOf}
 use Rattle.choice.specs.Challenge.{streamOf, hiddenParties}
 use Rattle.seeds.specs.Operations.{maxMessage}
-use Rattle.proof.specs.Protocol.{mastersOf, firstMessage, asked}
+use Rattle.proof.specs.Protocol.{mastersOf, firstMessage, statementOf, asked}
 use Rattle.proof.specs.File.{proofBytes}
 use Rattle.proof.specs.Prove.{proveOp}
 
@@ -122,14 +121,16 @@ pub record ProveInputs (witness y message root buffer : List ℕ) : Type 0 where
   pub room : 233 ≤ length buffer
 
 -- p: the party that the challenge of that proof hides
-unfoldable pub hiddenParty : List ℕ → List ℕ → List ℕ → ℕ
-hiddenParty witness message root = getD (hiddenParties 1 2 (streamOf 1 (firstMessage (circuitOf circuitK) 4 2 witness (mastersOf root)) (boundOf message))) 0 0
+unfoldable pub hiddenParty : List ℕ → List ℕ → List ℕ → List ℕ → ℕ
+hiddenParty witness y message root =
+    let hstar : List ℕ = firstMessage (circuitOf circuitK) 4 2 witness (mastersOf root) in
+    getD (hiddenParties 1 2 (streamOf 1 hstar (statementOf 4 1 2 circuitK y message))) 0 0
 
 -- m10 as the answer of prove: "233 bytes if p = 0, 232 if p = 1"
 pub record ProveAnswers (witness y message root buffer : List ℕ) : Type 0 where
-  pub party : hiddenParty witness message root < 2
-  pub first : hiddenParty witness message root ≡ 0 → proveOp circuitK witness y message root 4 1 2 buffer .answer ≡ success (233 ∷ [])
-  pub last : hiddenParty witness message root ≡ 1 → proveOp circuitK witness y message root 4 1 2 buffer .answer ≡ success (232 ∷ [])
+  pub party : hiddenParty witness y message root < 2
+  pub first : hiddenParty witness y message root ≡ 0 → proveOp circuitK witness y message root 4 1 2 buffer .answer ≡ success (233 ∷ [])
+  pub last : hiddenParty witness y message root ≡ 1 → proveOp circuitK witness y message root 4 1 2 buffer .answer ≡ success (232 ∷ [])
 
 -- for every witness, message, root and buffer
 abbrev pub M10 : Type 0

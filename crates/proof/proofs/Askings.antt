@@ -10,16 +10,16 @@ use lib.Dec.{eqb}
 use lib.ListN.{length, getD}
 use Rattle.bits.specs.Bytes.{leBytes}
 use Rattle.refusal.specs.Outcome.{Outcome, done}
-use Rattle.parties.specs.Parties.{isPartyCount}
 use Rattle.seeds.specs.declared.Answer.{Answer}
-use Rattle.hashing.specs.Inputs.{boundOf}
+use Rattle.keccak.specs.Sponge.{sha3-256}
+use Rattle.keccak.proofs.Lengths.{length-sha3-256}
 use Rattle.choice.specs.Challenge.{streamOf, instances, hiddenParties, beside, challengeOf, Ascending, more}
-use Rattle.seeds.specs.Operations.{outcome, areCounts, challengeOp}
+use Rattle.seeds.specs.Operations.{outcome, maxMessage, maxOutputBytes, areCounts, statementFits, challengeOp}
 use Rattle.choice.proofs.Challenges.{challenge-sound}
 use Rattle.seeds.proofs.Instances.{Fit, counts-fit}
 use Rattle.instance.specs.Instance.{hiding}
-use Rattle.proof.specs.Protocol.{asked, challenged}
-use Rattle.proof.specs.Steps.{askOf, partyIn, asksIn, Asking}
+use Rattle.proof.specs.Protocol.{statementOf, asked, challenged}
+use Rattle.proof.specs.Steps.{askOf, partyIn, asksIn, Asking, Drawable}
 use Rattle.proof.proofs.Sizes.{ask-opened, ask-hiding}
 
 -- an instance number of two bytes is read as it was written
@@ -56,39 +56,55 @@ party-beside n (i ∷ is) (p ∷ ps) h j = go (eqb (i % 256 + 256 * (i / 256 % 2
     go false l = l
 
 -- M instances of which tau are chosen, by n parties
-module _ (M tau n : ℕ) (hstar message : List ℕ) (counts : areCounts M tau ≡ true) (some : 0 < n) where
+module _ (M tau n : ℕ) (hstar bound : List ℕ) (counts : areCounts M tau ≡ true) (some : 0 < n) where
   -- the bytes of a challenge ask what it asks
-  pub asks-challenged : (j : ℕ) → asksIn n (challengeOf M tau n hstar (boundOf message)) j ≡ challenged M tau n hstar message j
+  pub asks-challenged : (j : ℕ) → asksIn n (challengeOf M tau n hstar bound) j ≡ challenged M tau n hstar bound j
   unfolding challengeOf challenged
   asks-challenged j =
       let fit : Fit M tau = counts-fit M tau counts in
-      let s = challenge-sound M tau n hstar (boundOf message) (omega (arith, fit .below)) some in
-      asks-beside n M 0 (instances M tau (streamOf tau hstar (boundOf message))) (hiddenParties tau n (streamOf tau hstar (boundOf message))) (omega (arith, fit .most))
+      let s = challenge-sound M tau n hstar bound (omega (arith, fit .below)) some in
+      asks-beside n M 0 (instances M tau (streamOf tau hstar bound)) (hiddenParties tau n (streamOf tau hstar bound)) (omega (arith, fit .most))
       (s .ascending) (s .hidden) j
 
   -- of all instances
-  pub asks-same : asksIn n (challengeOf M tau n hstar (boundOf message)) ≡ challenged M tau n hstar message
+  pub asks-same : asksIn n (challengeOf M tau n hstar bound) ≡ challenged M tau n hstar bound
   asks-same = fun-ext asks-challenged
 
   -- no party beyond n is named
-  pub asking-challenge : Asking n (challengeOf M tau n hstar (boundOf message))
+  pub asking-challenge : Asking n (challengeOf M tau n hstar bound)
   unfolding challengeOf
   asking-challenge =
       let fit : Fit M tau = counts-fit M tau counts in
-      let s = challenge-sound M tau n hstar (boundOf message) (omega (arith, fit .below)) some in
-      record { parties = party-beside n (instances M tau (streamOf tau hstar (boundOf message))) (hiddenParties tau n (streamOf tau hstar (boundOf message))) (s .hidden) }
+      let s = challenge-sound M tau n hstar bound (omega (arith, fit .below)) some in
+      record { parties = party-beside n (instances M tau (streamOf tau hstar bound)) (hiddenParties tau n (streamOf tau hstar bound)) (s .hidden) }
 
--- the operation, where its tests pass
-challenge-passed : (M tau n : ℕ) (hstar message lent : List ℕ) → areCounts M tau ≡ true → isPartyCount n ≡ true → length hstar ≡ 32
-    → length message ≤ 4096 → length lent ≡ 3 * tau
-    → challengeOp M tau n hstar message lent ≡ done (challengeOf M tau n hstar (boundOf message) ∷ [])
-unfolding challengeOp
-challenge-passed M tau n hstar message lent counts parties size few room =
-    rw (counts, parties, eq-eqb (length hstar) 32 size, le-leb (length message) 4096 few, eq-eqb (length lent) (3 * tau) room)
+-- the tests of the lengths, where they pass
+statement-fits : (hstar digest y message : List ℕ) → length hstar ≡ 32 → length digest ≡ 32 → 1 ≤ length y → length y ≤ maxOutputBytes
+    → length message ≤ maxMessage → statementFits hstar digest y message ≡ true
+unfolding statementFits
+statement-fits hstar digest y message a b c d e =
+    rw (
+      eq-eqb (length hstar) 32 a,
+      eq-eqb (length digest) 32 b,
+      le-leb 1 (length y) c,
+      le-leb (length y) maxOutputBytes d,
+      le-leb (length message) maxMessage e,
+    )
 
--- what it leaves then
-pub challenge-done : (M tau n : ℕ) (hstar message lent left : List ℕ) (r : Answer) → outcome r left ≡ challengeOp M tau n hstar message lent
-    → areCounts M tau ≡ true → isPartyCount n ≡ true → length hstar ≡ 32 → length message ≤ 4096 → length lent ≡ 3 * tau
-    → left ≡ challengeOf M tau n hstar (boundOf message)
-challenge-done M tau n hstar message lent left r e counts parties size few room =
-    ap (λ (o : Outcome). getD (o .left) 0 []) (e ∙ challenge-passed M tau n hstar message lent counts parties size few room)
+-- the operation on the digest of a file, where its tests pass: what it leaves
+module _ (s : List ℕ) (M tau n : ℕ) (hstar y message lent : List ℕ) (h : Drawable M tau n hstar y message lent) where
+  challenge-passed : challengeOp M tau n hstar (sha3-256 s) y message lent ≡ done (challengeOf M tau n hstar (statementOf M tau n s y message) ∷ [])
+  unfolding challengeOp statementOf
+  challenge-passed =
+      rw (
+        h .counts,
+        h .parties,
+        statement-fits hstar (sha3-256 s) y message (h .hstar-size) (length-sha3-256 s) (h .y-least) (h .y-most) (h .short),
+        eq-eqb (length lent) (3 * tau) (h .room),
+      )
+
+  pub challenge-drawn : (digest left : List ℕ) (r : Answer) → digest ≡ sha3-256 s → outcome r left ≡ challengeOp M tau n hstar digest y message lent
+      → left ≡ challengeOf M tau n hstar (statementOf M tau n s y message)
+  challenge-drawn digest left r d e =
+      ap (λ (o : Outcome). getD (o .left) 0 [])
+      (e ∙ ap (λ (z : List ℕ). challengeOp M tau n hstar z y message lent) d ∙ challenge-passed)

@@ -1,15 +1,22 @@
 -- The work memory of a proof: the fronts of arrays of zeros, and that they are long enough for a legal circuit.
 -- Assumes nothing.
 use mathlib.Core.Path.{_≡_, ap, _∙_}
+use mathlib.Core.Bool.{true, _&&_}
 use mathlib.Core.List.{List}
 use Prim.Native.Nat.{ℕ, _+_, _*_, _≤_}
 use native.Mathlib.Nat.{mul-le-mul}
 use native.Mathlib.Omega.{arith}
 use mir.Syntax.{w64}
 use mir.Val.{Fits}
-use lib.ListN.{take, replicate}
+use borrow.Author.Tests.{leb-true}
+use lib.Dec.{leb}
+use lib.ListN.{length, take, replicate}
 use Rattle.bits.specs.Bits.{oct}
 use Rattle.bits.proofs.Copies.{prefix-length}
+use Rattle.bits.proofs.Tests.{and-true-left, and-true-right}
+use Rattle.circuit.specs.File.{inputsOf, outputsOf, gatesOf, withinLimits, circuitOf, legal, readCircuit}
+use Rattle.circuit.proofs.Answered.{passed}
+use Rattle.seeds.specs.Operations.{maxOutputBytes}
 use Rattle.mpc.specs.Steps.{Known}
 use Rattle.mpc.proofs.Opened.{sized, ands-low}
 use Rattle.mpc.proofs.Asks.{small}
@@ -65,3 +72,19 @@ module _ (s : List ℕ) (i o g a : ℕ) (k : Known s (sized i o g a)) where
           tapes-fit = prefix-length (n * r) 17408 tapes-few ∙ ap (λ (x : ℕ). n * x) e;
           room = omega (arith, prefix-length (64 * (i + g) + 4096) 299008 work-few);
         }
+
+-- a circuit that was read has an output
+some-output : (s : List ℕ) → withinLimits s ≡ true → 1 ≤ outputsOf s
+unfolding withinLimits
+some-output s e =
+    let i = leb 1 (inputsOf s) && leb (inputsOf s) 512 in
+    let o = leb 1 (outputsOf s) in
+    let few = leb (outputsOf s) 256 in
+    leb-true 1 (outputsOf s) (and-true-right i o (and-true-left (i && o) few (and-true-left (i && o && few) (leb (gatesOf s) 4096) e)))
+
+-- so y has 1 to 32 bytes
+pub output-bytes : (s : List ℕ) (i o g a : ℕ) → Known s (sized i o g a) → readCircuit s ≡ legal (circuitOf s) → (y : List ℕ) → length y ≡ oct o
+    → (1 ≤ length y) × (length y ≤ maxOutputBytes)
+output-bytes s i o g a k e y size =
+    let some = some-output s (passed s (circuitOf s) e .front .limited) in
+    (omega (arith, size, some, k .legal .laid .outputs), omega (arith, size, k .legal .laid .few-outputs))

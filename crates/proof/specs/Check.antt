@@ -14,7 +14,7 @@ use Rattle.circuit.specs.Operations.{onLegal, holds}
 use Rattle.seeds.specs.Operations.{maxMessage}
 use Rattle.instance.specs.Instance.{Asked}
 use Rattle.instance.specs.Opened.{stretchCommitments, stretchOnline, stretchUnused, stretchOutput}
-use Rattle.proof.specs.Protocol.{hstarOf, challenged}
+use Rattle.proof.specs.Protocol.{hstarOf, statementOf, challenged}
 use Rattle.proof.specs.File.{headerM, headerTau, headerN, headerHstar, goodHeader, proofBytes, stretchAt}
 
 -- a test of the first m instances
@@ -36,15 +36,16 @@ checkProof c y proof M n ask =
     13 []
     (done []))))
 
--- "The check draws the challenge from the header's h*."
-unfoldable pub checkLegal : List ℕ → List ℕ → List ℕ → Circuit → Outcome
-checkLegal y message proof c =
+-- "The check draws the challenge from the header's h*", bound to the header's M, τ and n, the circuit file s, y and the message
+unfoldable pub checkLegal : List ℕ → List ℕ → List ℕ → List ℕ → Circuit → Outcome
+checkLegal s y message proof c =
     unless (holds (length (c .outputs)) y && leb (length message) maxMessage) 6 []
     (unless (unusedZero (length (c .outputs)) y) 7 []
     (unless (goodHeader proof) 11 []
     (checkProof c y proof (headerM proof) (headerN proof)
-    (challenged (headerM proof) (headerTau proof) (headerN proof) (headerHstar proof) message))))
+    (challenged (headerM proof) (headerTau proof) (headerN proof) (headerHstar proof)
+    (statementOf (headerM proof) (headerTau proof) (headerN proof) s y message)))))
 
 -- "Check: 1 to 5", then these; it is lent no buffer to fill
 unfoldable pub checkOp : List ℕ → List ℕ → List ℕ → List ℕ → Outcome
-checkOp s y message proof = onLegal (readCircuit s) [] (checkLegal y message proof)
+checkOp s y message proof = onLegal (readCircuit s) [] (checkLegal s y message proof)

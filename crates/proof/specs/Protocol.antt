@@ -33,10 +33,14 @@ asked [] ps j = opened
 asked (i ∷ is) [] j = opened
 asked (i ∷ is) (p ∷ ps) j = cond (eqb i j) (hiding p) (asked is ps j)
 
--- Round 2: the challenge, from the first message and the message to be signed
+-- "The trade now hashes the whole statement": what the challenge is bound to, with the digest of the circuit file s as it is lent
+unfoldable pub statementOf : ℕ → ℕ → ℕ → List ℕ → List ℕ → List ℕ → List ℕ
+statementOf M tau n s y message = boundOf M tau n (sha3-256 s) y message
+
+-- Round 2: the challenge, from the first message and what it is bound to
 unfoldable pub challenged : ℕ → ℕ → ℕ → List ℕ → List ℕ → ℕ → Asked
-challenged M tau n hstar message =
-    asked (instances M tau (streamOf tau hstar (boundOf message))) (hiddenParties tau n (streamOf tau hstar (boundOf message)))
+challenged M tau n hstar bound =
+    asked (instances M tau (streamOf tau hstar bound)) (hiddenParties tau n (streamOf tau hstar bound))
 
 -- Round 3: the response
 unfoldable pub responseOf : Circuit → ℕ → ℕ → List ℕ → (ℕ → List ℕ) → (ℕ → Asked) → List ℕ

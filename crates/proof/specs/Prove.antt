@@ -13,14 +13,14 @@ use Rattle.circuit.specs.Circuit.{Circuit, evaluate}
 use Rattle.circuit.specs.File.{readCircuit}
 use Rattle.circuit.specs.Operations.{onLegal, holds}
 use Rattle.seeds.specs.Operations.{maxMessage, areCounts}
-use Rattle.proof.specs.Protocol.{mastersOf, firstMessage, challenged, responseOf}
+use Rattle.proof.specs.Protocol.{mastersOf, firstMessage, statementOf, challenged, responseOf}
 use Rattle.proof.specs.File.{headerOf, proofRoom}
 
--- the proof: the header with the first message, and the response to its challenge
+-- the proof: the header with the first message, and the response to its challenge, which is bound to `bound`
 unfoldable pub proofOf : Circuit → ℕ → ℕ → ℕ → List ℕ → List ℕ → (ℕ → List ℕ) → List ℕ
-proofOf c M tau n witness message masters =
+proofOf c M tau n witness bound masters =
     let hstar : List ℕ = firstMessage c M n witness masters in
-    headerOf M tau n hstar ++ responseOf c M n witness masters (challenged M tau n hstar message)
+    headerOf M tau n hstar ++ responseOf c M n witness masters (challenged M tau n hstar bound)
 
 -- the witness gives y
 unfoldable pub witnesses : Circuit → List ℕ → List ℕ → Bool
@@ -30,9 +30,9 @@ witnesses c witness y = sameBytes (pack (evaluate c (bitAt witness))) y
 unfoldable pub written : List ℕ → List ℕ → Outcome
 written proof buffer = record { answer = success (length proof ∷ []); left = (proof ++ drop (length proof) buffer) ∷ [] }
 
--- "8 for M, τ, n; 6 ..; 7; 10 if the witness does not give y"
-unfoldable pub proveLegal : List ℕ → List ℕ → List ℕ → List ℕ → ℕ → ℕ → ℕ → List ℕ → Circuit → Outcome
-proveLegal witness y message root M tau n buffer c =
+-- "8 for M, τ, n; 6 ..; 7; 10 if the witness does not give y"; s is the circuit file
+unfoldable pub proveLegal : List ℕ → List ℕ → List ℕ → List ℕ → List ℕ → ℕ → ℕ → ℕ → List ℕ → Circuit → Outcome
+proveLegal s witness y message root M tau n buffer c =
     let lent : List (List ℕ) = buffer ∷ [] in
     unless (areCounts M tau && isPartyCount n) 8 lent
     (unless
@@ -40,9 +40,10 @@ proveLegal witness y message root M tau n buffer c =
     && leb (proofRoom c M tau n) (length buffer))
     6 lent
     (unless (unusedZero (c .inputs) witness && unusedZero (length (c .outputs)) y) 7 lent
-    (unless (witnesses c witness y) 10 lent (written (proofOf c M tau n witness message (mastersOf root)) buffer))))
+    (unless (witnesses c witness y) 10 lent
+    (written (proofOf c M tau n witness (statementOf M tau n s y message) (mastersOf root)) buffer))))
 
 -- "Prove: 1 to 5", then these
 unfoldable pub proveOp : List ℕ → List ℕ → List ℕ → List ℕ → List ℕ → ℕ → ℕ → ℕ → List ℕ → Outcome
 proveOp s witness y message root M tau n buffer =
-    onLegal (readCircuit s) (buffer ∷ []) (proveLegal witness y message root M tau n buffer)
+    onLegal (readCircuit s) (buffer ∷ []) (proveLegal s witness y message root M tau n buffer)

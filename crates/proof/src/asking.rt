@@ -6,11 +6,33 @@ ghost use Rattle.mpc.specs.Steps.{Known};
 ghost use Rattle.seeds.specs.Operations.{maxInstances};
 ghost use Rattle.instance.specs.Stretch.{stretchBytes};
 ghost use Rattle.instance.specs.Steps.{Tree};
+ghost use Rattle.choice.specs.Challenge.{challengeOf};
+ghost use Rattle.proof.specs.Protocol.{statementOf};
 ghost use Rattle.proof.specs.File.{proofBytes};
-ghost use Rattle.proof.specs.Steps.{askOf, partyIn, asksIn, Asking};
+ghost use Rattle.proof.specs.Steps.{askOf, partyIn, asksIn, Asking, Drawable};
 use crate::HEADER_BYTES;
 use circuit::Sizes;
 use instance::checking::sent_bytes;
+use keccak::sha3_256;
+use seeds::challenge;
+
+// Draws the challenge from h*, bound to the whole statement: m, tau and n, the circuit file s, y and the message.
+pub fn draw_challenge(
+    s: &[u8],
+    m: u32,
+    tau: u32,
+    n: u32,
+    hstar: &[u8],
+    y: &[u8],
+    message: &[u8],
+    choices: &mut [u8],
+)
+    requires { ⌜ Drawable m tau n (now hstar) (now y) (now message) (now choices) ⌝ }
+    ensures { λ _. ⌜ now (choices .exit) ≡ challengeOf m tau n (now (hstar .entry)) (statementOf m tau n (now (s .entry)) (now (y .entry)) (now (message .entry))) ⌝ }
+{
+    let digest = sha3_256(s);
+    let _ = challenge(m, tau, n, hstar, &digest, y, message, choices);
+}
 
 // The hidden party of instance j by the bytes of a challenge; n where it is not chosen.
 pub fn asked(choices: &[u8], n: u32, j: u32) -> u32

@@ -14,21 +14,18 @@ use Rattle.parties.specs.Parties.{heightOf}
 use Rattle.circuit.specs.Circuit.{Circuit}
 use Rattle.circuit.specs.File.{circuitOf}
 use Rattle.circuit.specs.declared.Sizes.{Sizes}
-use Rattle.hashing.specs.Inputs.{boundOf}
 use Rattle.choice.specs.Challenge.{challengeOf}
 use Rattle.hashing.specs.Digest.{transcriptOf}
-use Rattle.seeds.specs.Operations.{outcome, challengeOp}
-use Rattle.seeds.specs.declared.Answer.{Answer}
 use Rattle.seeds.proofs.Instances.{counts-fit}
 use Rattle.instance.specs.Instance.{Asked, opened, hiding}
 use Rattle.instance.specs.Stretch.{stretchBytes}
 use Rattle.instance.specs.Steps.{Tree, Lent}
 use Rattle.instance.proofs.Trees.{tree-sizes}
-use Rattle.proof.specs.Protocol.{mastersOf, hstarOf, firstMessage, challenged, responseOf}
+use Rattle.proof.specs.Protocol.{mastersOf, hstarOf, firstMessage, statementOf, challenged, responseOf}
 use Rattle.proof.specs.File.{headerOf, stretchStart, proofBytes}
 use Rattle.proof.specs.Prove.{proofOf}
-use Rattle.proof.specs.Steps.{asksIn, Asking}
-use Rattle.proof.proofs.Askings.{asks-same, asking-challenge, challenge-done}
+use Rattle.proof.specs.Steps.{asksIn, Asking, Drawable}
+use Rattle.proof.proofs.Askings.{asks-same, asking-challenge}
 use Rattle.honest.proofs.Header.{length-header}
 use Rattle.honest.proofs.Proved.{has-height}
 use Rattle.honest.proofs.Written.{length-master, length-proof}
@@ -115,10 +112,14 @@ unfolding firstMessage hstarOf transcriptOf
 length-hstar c M n w root = length-sha3-256 _
 
 -- the tests are past
-module _ (s : List ℕ) (sizes : Sizes) (M tau n h : ℕ) (w message root B : List ℕ) (t : Tested s sizes M tau n w message root B) (tree : Tree n h) where
+module _ (s : List ℕ) (sizes : Sizes) (M tau n h : ℕ) (w y message root B : List ℕ) (t : Tested s sizes M tau n w y message root B) (tree : Tree n h) where
   -- the circuit
   abbrev c : Circuit
   c = circuitOf s
+
+  -- what the challenge is bound to
+  abbrev bound : List ℕ
+  bound = statementOf M tau n s y message
 
   -- there is a party
   pub some-party : 0 < n
@@ -145,44 +146,52 @@ module _ (s : List ℕ) (sizes : Sizes) (M tau n h : ℕ) (w message root B : Li
   -- the h'_j fit
   pub onlines-fit : 38 + 32 * M ≤ length B
   onlines-fit =
-      let ask : ℕ → Asked = challenged M tau n (firstMessage c M n w (mastersOf root)) message in
+      let ask : ℕ → Asked = challenged M tau n (firstMessage c M n w (mastersOf root)) bound in
       omega
-      (arith, start-least c n ask tall M, length-proof c M tau n w message (mastersOf root) (λ j. length-master j root), proof-fits c M tau n w message (mastersOf root) (λ j. length-master j root) (t .counts) (tree .parties), t .room)
+      (arith, start-least c n ask tall M, length-proof c M tau n w bound (mastersOf root) (λ j. length-master j root), proof-fits c M tau n w bound (mastersOf root) (λ j. length-master j root) (t .counts) (tree .parties), t .room)
 
   -- their place has 32 bytes for each instance
   pub onlines-part : length (midOf 38 (38 + 32 * M - 38) B) ≡ 32 * M
   onlines-part = mid-len 38 (38 + 32 * M) B onlines-fit ∙ omega arith
 
-  -- h*, and the bytes of the challenge as the operation leaves them
-  module _ (hs lent ch : List ℕ) (r : Answer) (eh : hs ≡ firstMessage c M n w (mastersOf root)) (fits : length lent ≡ 3 * tau)
-      (er : outcome r ch ≡ challengeOp M tau n hs message lent) where
-    -- h* has 32 bytes
-    pub length-first : length hs ≡ 32
-    length-first = ap length eh ∙ length-hstar c M n w root
+  -- h* has 32 bytes
+  pub length-first : (hs : List ℕ) → hs ≡ firstMessage c M n w (mastersOf root) → length hs ≡ 32
+  length-first hs eh = ap length eh ∙ length-hstar c M n w root
 
-    -- they are the challenge
-    choices-right : ch ≡ challengeOf M tau n hs (boundOf message)
-    choices-right = challenge-done M tau n hs message lent ch r er (t .counts) (tree .parties) length-first (t .short) fits
+  -- the challenge can be drawn from it
+  pub first-drawable : (hs lent : List ℕ) → hs ≡ firstMessage c M n w (mastersOf root) → length lent ≡ 3 * tau → Drawable M tau n hs y message lent
+  first-drawable hs lent eh fits =
+      record {
+        counts = t .counts;
+        parties = tree .parties;
+        hstar-size = length-first hs eh;
+        y-least = t .y-least;
+        y-most = t .y-most;
+        short = t .short;
+        room = fits;
+      }
 
+  -- h*, and the bytes of the challenge
+  module _ (hs ch : List ℕ) (eh : hs ≡ firstMessage c M n w (mastersOf root)) (choices-right : ch ≡ challengeOf M tau n hs bound) where
     -- they ask what the challenge asks
-    asks-right : asksIn n ch ≡ challenged M tau n (firstMessage c M n w (mastersOf root)) message
+    asks-right : asksIn n ch ≡ challenged M tau n (firstMessage c M n w (mastersOf root)) bound
     asks-right =
-        ap (asksIn n) choices-right ∙ asks-same M tau n hs message (t .counts) some-party
-        ∙ ap (λ (x : List ℕ). challenged M tau n x message) eh
+        ap (asksIn n) choices-right ∙ asks-same M tau n hs bound (t .counts) some-party
+        ∙ ap (λ (x : List ℕ). challenged M tau n x bound) eh
 
     -- they name parties alone
     pub asking-right : Asking n ch
-    asking-right = rw choices-right (asking-challenge M tau n hs message (t .counts) some-party)
+    asking-right = rw choices-right (asking-challenge M tau n hs bound (t .counts) some-party)
 
     -- the bytes of the proof
     module _ (size : ℕ) (es : size ≡ proofBytes c M n (asksIn n ch)) where
       -- their number is right
-      pub size-right : size ≡ length (proofOf c M tau n w message (mastersOf root))
-      size-right = es ∙ ap (proofBytes c M n) asks-right ∙ sym (length-proof c M tau n w message (mastersOf root) (λ j. length-master j root))
+      pub size-right : size ≡ length (proofOf c M tau n w bound (mastersOf root))
+      size-right = es ∙ ap (proofBytes c M n) asks-right ∙ sym (length-proof c M tau n w bound (mastersOf root) (λ j. length-master j root))
 
       -- they fit
       size-inside : size ≤ length B
-      size-inside = omega (arith, size-right, proof-fits c M tau n w message (mastersOf root) (λ j. length-master j root) (t .counts) (tree .parties), t .room)
+      size-inside = omega (arith, size-right, proof-fits c M tau n w bound (mastersOf root) (λ j. length-master j root) (t .counts) (tree .parties), t .room)
 
       -- they reach beyond the h'_j
       size-least : 38 + 32 * M ≤ size
@@ -201,7 +210,7 @@ module _ (s : List ℕ) (sizes : Sizes) (M tau n h : ℕ) (w message root B : Li
 
         -- the header has 38 bytes
         front : length hd ≡ 38
-        front = ap length eg ∙ length-header M tau n hs [] length-first
+        front = ap length eg ∙ length-header M tau n hs [] (length-first hs eh)
 
         -- it is as long as before
         length-ready : length ready ≡ length B
@@ -226,7 +235,7 @@ module _ (s : List ℕ) (sizes : Sizes) (M tau n h : ℕ) (w message root B : Li
         -- the proof is written
         module _ (z : List ℕ) (e : z ≡ responseOf c M n w (mastersOf root) (asksIn n ch)) where
           -- the buffer then
-          pub proof-made : putMid 38 (size - 38) ready z ≡ proofOf c M tau n w message (mastersOf root) ++ drop size B
+          pub proof-made : putMid 38 (size - 38) ready z ≡ proofOf c M tau n w bound (mastersOf root) ++ drop size B
           unfolding proofOf
           proof-made =
               all-written M B on onlines-fit count size hd size-least size-inside front z

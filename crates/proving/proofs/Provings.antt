@@ -14,7 +14,7 @@ use Rattle.bits.proofs.Tests.{and-true-left, and-true-right}
 use Rattle.refusal.specs.declared.Refusal.{Refusal}
 use Rattle.refusal.specs.declared.Refusal.the-variants.{BufferLength, UnusedBits, Parameter, Output}
 use Rattle.parties.specs.Parties.{heightOf, isPartyCount}
-use Rattle.circuit.specs.File.{circuitOf, Reading}
+use Rattle.circuit.specs.File.{circuitOf, Reading, legal, readCircuit}
 use Rattle.circuit.specs.Operations.{readOp, onLegal}
 use Rattle.circuit.specs.Answers.{readPaper}
 use Rattle.circuit.specs.declared.Sizes.{Sizes}
@@ -26,19 +26,20 @@ use Rattle.seeds.specs.Operations.{areCounts}
 use Rattle.seeds.proofs.Instances.{counts-fit}
 use Rattle.instance.specs.Steps.{Tree}
 use Rattle.proof.specs.File.{proofRoom}
-use Rattle.proof.specs.Protocol.{mastersOf}
+use Rattle.proof.proofs.Works.{output-bytes}
+use Rattle.proof.specs.Protocol.{mastersOf, statementOf}
 use Rattle.proof.specs.Prove.{proofOf, witnesses, written, proveLegal, proveOp}
 use Rattle.proving.specs.Steps.{Tested}
 use Rattle.proving.specs.Answers.{outcome}
 use Rattle.proving.specs.declared.Answer.the-variants.{Written, Refused}
 
--- five tests that hold together: the first, the third and the last
-five : (b1 b2 b3 b4 b5 : Bool) → b1 && b2 && b3 && b4 && b5 ≡ true → (b1 ≡ true) × ((b3 ≡ true) × (b5 ≡ true))
+-- five tests that hold together: the first three and the last
+five : (b1 b2 b3 b4 b5 : Bool) → b1 && b2 && b3 && b4 && b5 ≡ true → (b1 ≡ true) × ((b2 ≡ true) × ((b3 ≡ true) × (b5 ≡ true)))
 five b1 b2 b3 b4 b5 z =
     let z4 = and-true-left (b1 && b2 && b3 && b4) b5 z in
     let z3 = and-true-left (b1 && b2 && b3) b4 z4 in
     let z2 = and-true-left (b1 && b2) b3 z3 in
-    (and-true-left b1 b2 z2, (and-true-right (b1 && b2) b3 z3, and-true-right (b1 && b2 && b3 && b4) b5 z))
+    (and-true-left b1 b2 z2, (and-true-right b1 b2 z2, (and-true-right (b1 && b2) b3 z3, and-true-right (b1 && b2 && b3 && b4) b5 z)))
 
 -- the answers on a legal file; the test of the counts is b2
 module _ (s : List ℕ) (i o g a : ℕ) (k : Known s (sized i o g a)) (w y message root buffer : List ℕ) (m tau n h : ℕ) (count : h ≡ heightOf n) (b1 b2 : Bool)
@@ -49,7 +50,7 @@ module _ (s : List ℕ) (i o g a : ℕ) (k : Known s (sized i o g a)) (w y messa
   counts-right = f2 ∙ ap₂ _&&_ f1 (ap (λ (t : ℕ). not (eqb t 0)) count)
 
   -- no counts
-  pub prove-counts : not b2 ≡ true → outcome (Refused Parameter) buffer ≡ proveLegal w y message root m tau n buffer (circuitOf s)
+  pub prove-counts : not b2 ≡ true → outcome (Refused Parameter) buffer ≡ proveLegal s w y message root m tau n buffer (circuitOf s)
   unfolding proveLegal
   prove-counts t = rw (fell _ b2 counts-right t)
 
@@ -80,19 +81,19 @@ module _ (s : List ℕ) (i o g a : ℕ) (k : Known s (sized i o g a)) (w y messa
     -- the test of the lengths is b3
     module _ (b3 : Bool) (f3 : b3 ≡ lent i o) where
       -- a lent length not as stated
-      pub prove-length : not b3 ≡ true → outcome (Refused BufferLength) buffer ≡ proveLegal w y message root m tau n buffer (circuitOf s)
+      pub prove-length : not b3 ≡ true → outcome (Refused BufferLength) buffer ≡ proveLegal s w y message root m tau n buffer (circuitOf s)
       unfolding proveLegal
       prove-length t = rw (held _ b2 counts-right t2, fell _ b3 (f3 ∙ lent-right) t)
 
       -- lengths as stated; the test of the unused bits is b6
       module _ (t3 : not b3 ≡ false) (b4 b5 b6 : Bool) (f4 : b4 ≡ unusedZero i w) (f5 : b5 ≡ unusedZero o y) (f6 : b6 ≡ b4 && b5) where
         -- what the lengths are
-        lent-holds : (length w ≡ oct i) × ((length message ≤ 4096) × (proofRoom (circuitOf s) m tau n ≤ length buffer))
+        lent-holds : (length w ≡ oct i) × ((length y ≡ oct o) × ((length message ≤ 4096) × (proofRoom (circuitOf s) m tau n ≤ length buffer)))
         lent-holds =
             let z =
             five (eqb (length w) (oct i)) (eqb (length y) (oct o)) (leb (length message) 4096) (eqb (length root) 16)
             (leb (proofRoom (circuitOf s) m tau n) (length buffer)) (held _ b3 f3 t3) in
-            (eqb-true _ _ (z .0), (leb-true _ _ (z .1 .0), leb-true _ _ (z .1 .1)))
+            (eqb-true _ _ (z .0), (eqb-true _ _ (z .1 .0), (leb-true _ _ (z .1 .1 .0), leb-true _ _ (z .1 .1 .1))))
 
         -- in the words of the operation
         unused-right : b6 ≡ unusedZero (circuitOf s .inputs) w && unusedZero (length (circuitOf s .outputs)) y
@@ -102,7 +103,7 @@ module _ (s : List ℕ) (i o g a : ℕ) (k : Known s (sized i o g a)) (w y messa
             (f5 ∙ ap (λ (x : ℕ). unusedZero x y) (sym (circuit-outputs s i o g a k)))
 
         -- a nonzero unused bit
-        pub prove-unused : not b6 ≡ true → outcome (Refused UnusedBits) buffer ≡ proveLegal w y message root m tau n buffer (circuitOf s)
+        pub prove-unused : not b6 ≡ true → outcome (Refused UnusedBits) buffer ≡ proveLegal s w y message root m tau n buffer (circuitOf s)
         unfolding proveLegal
         prove-unused t = rw (held _ b2 counts-right t2, held _ b3 (f3 ∙ lent-right) t3, fell _ b6 unused-right t)
 
@@ -113,24 +114,33 @@ module _ (s : List ℕ) (i o g a : ℕ) (k : Known s (sized i o g a)) (w y messa
           prove-witness = record { size = lent-holds .0; unused = sym f4 ∙ and-true-left b4 b5 (held _ b6 f6 t6) }
 
           -- what the steps ask
-          pub prove-tested : Tested s (sized i o g a) m tau n w message root buffer
-          prove-tested = record { witness-fits = prove-witness; counts = counts-hold; short = lent-holds .1 .0; room = lent-holds .1 .1 }
+          pub prove-tested : readCircuit s ≡ legal (circuitOf s) → Tested s (sized i o g a) m tau n w y message root buffer
+          prove-tested read =
+              let f = output-bytes s i o g a k read y (lent-holds .1 .0) in
+              record {
+                witness-fits = prove-witness;
+                counts = counts-hold;
+                y-least = f .0;
+                y-most = f .1;
+                short = lent-holds .1 .1 .0;
+                room = lent-holds .1 .1 .1;
+              }
 
           -- the test of the output is b7
           module _ (b7 : Bool) (f7 : b7 ≡ witnesses (circuitOf s) w y) where
             -- another output
-            pub prove-output : not b7 ≡ true → outcome (Refused Output) buffer ≡ proveLegal w y message root m tau n buffer (circuitOf s)
+            pub prove-output : not b7 ≡ true → outcome (Refused Output) buffer ≡ proveLegal s w y message root m tau n buffer (circuitOf s)
             unfolding proveLegal
             prove-output t =
                 rw (held _ b2 counts-right t2, held _ b3 (f3 ∙ lent-right) t3, held _ b6 unused-right t6, fell _ b7 f7 t)
 
             -- success
-            pub prove-done : not b7 ≡ false → (r : ℕ) (left : List ℕ) → r ≡ length (proofOf (circuitOf s) m tau n w message (mastersOf root))
-                → left ≡ proofOf (circuitOf s) m tau n w message (mastersOf root) ++ drop r buffer
-                → outcome (Written r) left ≡ proveLegal w y message root m tau n buffer (circuitOf s)
+            pub prove-done : not b7 ≡ false → (r : ℕ) (left : List ℕ) → r ≡ length (proofOf (circuitOf s) m tau n w (statementOf m tau n s y message) (mastersOf root))
+                → left ≡ proofOf (circuitOf s) m tau n w (statementOf m tau n s y message) (mastersOf root) ++ drop r buffer
+                → outcome (Written r) left ≡ proveLegal s w y message root m tau n buffer (circuitOf s)
             unfolding proveLegal written
             prove-done t r left e f =
-                let proof : List ℕ = proofOf (circuitOf s) m tau n w message (mastersOf root) in
+                let proof : List ℕ = proofOf (circuitOf s) m tau n w (statementOf m tau n s y message) (mastersOf root) in
                 ap (outcome (Written r)) f ∙ ap (λ (x : ℕ). outcome (Written x) (proof ++ drop x buffer)) e
                 ∙ rw (held _ b2 counts-right t2, held _ b3 (f3 ∙ lent-right) t3, held _ b6 unused-right t6, held _ b7 f7 t)
 
@@ -139,10 +149,10 @@ module _ (s w y message root : List ℕ) (m tau n : ℕ) (buffer : List ℕ) (r 
   -- a refused file
   pub prove-refused : (k : Refusal) → r ≡ readAnswer.Refused k → outcome (Refused k) buffer ≡ proveOp s w y message root m tau n buffer
   unfolding proveOp
-  prove-refused k p = sym (ap (λ (x : Reading). onLegal x (buffer ∷ []) (proveLegal w y message root m tau n buffer)) (opened-refused s k r p e))
+  prove-refused k p = sym (ap (λ (x : Reading). onLegal x (buffer ∷ []) (proveLegal s w y message root m tau n buffer)) (opened-refused s k r p e))
 
   -- a legal file
   pub prove-read : (z : Sizes) → r ≡ readAnswer.Legal z
-      → proveLegal w y message root m tau n buffer (circuitOf s) ≡ proveOp s w y message root m tau n buffer
+      → proveLegal s w y message root m tau n buffer (circuitOf s) ≡ proveOp s w y message root m tau n buffer
   unfolding proveOp
-  prove-read z p = sym (ap (λ (x : Reading). onLegal x (buffer ∷ []) (proveLegal w y message root m tau n buffer)) (opened-legal s z r p e))
+  prove-read z p = sym (ap (λ (x : Reading). onLegal x (buffer ∷ []) (proveLegal s w y message root m tau n buffer)) (opened-legal s z r p e))

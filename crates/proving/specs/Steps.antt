@@ -12,7 +12,7 @@ use Rattle.circuit.specs.File.{circuitOf}
 use Rattle.circuit.specs.declared.Sizes.{Sizes}
 use Rattle.mpc.specs.Steps.{WitnessFits}
 use Rattle.party.specs.Derive.{masterOf}
-use Rattle.seeds.specs.Operations.{maxInstances, maxMessage, areCounts}
+use Rattle.seeds.specs.Operations.{maxInstances, maxMessage, maxOutputBytes, areCounts}
 use Rattle.instance.specs.Instance.{masterOnline}
 use Rattle.proof.specs.File.{headerBytes, proofBytes, proofRoom}
 use Rattle.proof.specs.Steps.{asksIn, Asking}
@@ -29,8 +29,10 @@ pub record Response (s : List ℕ) (M n : ℕ) (witness root choices part : List
   pub onlines : take (32 * M) part ≡ onlinesOf (circuitOf s) M n witness root
 
 -- what prove has when its tests are past
-pub record Tested (s : List ℕ) (z : Sizes) (M tau n : ℕ) (witness message root buffer : List ℕ) : Type 0 where
+pub record Tested (s : List ℕ) (z : Sizes) (M tau n : ℕ) (witness y message root buffer : List ℕ) : Type 0 where
   pub witness-fits : WitnessFits z witness
   pub counts : areCounts M tau ≡ true
+  pub y-least : 1 ≤ length y
+  pub y-most : length y ≤ maxOutputBytes
   pub short : length message ≤ maxMessage
   pub room : proofRoom (circuitOf s) M tau n ≤ length buffer

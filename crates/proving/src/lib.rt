@@ -96,7 +96,7 @@ fn prove_lent(
     buffer: &mut [u8],
 ) -> Answer
     requires { ⌜ (readCircuit (now s) ≡ legal (circuitOf (now s))) × Known (now s) z ⌝ }
-    ensures { λ r. ⌜ outcome r (now (buffer .exit)) ≡ proveLegal (now (witness .entry)) (now (y .entry)) (now (message .entry)) (now (root .entry)) m tau n (now (buffer .entry)) (circuitOf (now (s .entry))) ⌝ }
+    ensures { λ r. ⌜ outcome r (now (buffer .exit)) ≡ proveLegal (now (s .entry)) (now (witness .entry)) (now (y .entry)) (now (message .entry)) (now (root .entry)) m tau n (now (buffer .entry)) (circuitOf (now (s .entry))) ⌝ }
 {
     let h = parties::height(n);
     if !both(counts(m, tau), h != 0) {
@@ -126,7 +126,7 @@ fn prove_lent(
     if !gives(s, z, witness, y) {
         return Answer::Refused(Refusal::Output);
     }
-    Answer::Written(prove_with(s, z, m, tau, n, h, witness, message, root, buffer))
+    Answer::Written(prove_with(s, z, m, tau, n, h, witness, y, message, root, buffer))
 }
 
 // Proves that the circuit gives y on the witness: writes a proof into the buffer and answers its length, or refuses and leaves the

@@ -7,7 +7,7 @@ ghost use Rattle.circuit.specs.File.{circuitOf};
 ghost use Rattle.mpc.specs.Steps.{Known};
 ghost use Rattle.instance.specs.Steps.{Tree, Lent};
 ghost use Rattle.proof.specs.File.{headerBytes, headerOf};
-ghost use Rattle.proof.specs.Protocol.{mastersOf};
+ghost use Rattle.proof.specs.Protocol.{mastersOf, statementOf};
 ghost use Rattle.proof.specs.Prove.{proofOf};
 ghost use Rattle.proving.specs.Steps.{Tested};
 use crate::responding::first;
@@ -15,8 +15,8 @@ use crate::responding::respond;
 use bits::copy;
 use circuit::Sizes;
 use proof::HEADER_BYTES;
+use proof::asking::draw_challenge;
 use proof::asking::proof_bytes;
-use seeds::challenge;
 
 // The header: M, τ, n, zero, h*.
 pub(crate) fn head(m: u32, tau: u32, n: u32, hstar: &[u8], out: &mut [u8])
@@ -39,6 +39,7 @@ pub(crate) fn prove_in(
     n: u32,
     h: u32,
     witness: &[u8],
+    y: &[u8],
     message: &[u8],
     root: &[u8],
     buffer: &mut [u8],
@@ -46,9 +47,9 @@ pub(crate) fn prove_in(
     tapes: &mut [u8],
     memory: &mut [u8],
 ) -> usize
-    requires { ⌜ Lent (now s) z n h (now tapes) (now memory) × (Tested (now s) z m tau n (now witness) (now message) (now root) (now buffer) × (length (now choices) ≡ 3 * tau)) ⌝ }
-    ensures { λ r. ⌜ r ≡ length (proofOf (circuitOf (now (s .entry))) m tau n (now (witness .entry)) (now (message .entry)) (mastersOf (now (root .entry)))) ⌝ }
-    ensures { λ r. ⌜ now (buffer .exit) ≡ proofOf (circuitOf (now (s .entry))) m tau n (now (witness .entry)) (now (message .entry)) (mastersOf (now (root .entry))) ++ drop r (now (buffer .entry)) ⌝ }
+    requires { ⌜ Lent (now s) z n h (now tapes) (now memory) × (Tested (now s) z m tau n (now witness) (now y) (now message) (now root) (now buffer) × (length (now choices) ≡ 3 * tau)) ⌝ }
+    ensures { λ r. ⌜ r ≡ length (proofOf (circuitOf (now (s .entry))) m tau n (now (witness .entry)) (statementOf m tau n (now (s .entry)) (now (y .entry)) (now (message .entry))) (mastersOf (now (root .entry)))) ⌝ }
+    ensures { λ r. ⌜ now (buffer .exit) ≡ proofOf (circuitOf (now (s .entry))) m tau n (now (witness .entry)) (statementOf m tau n (now (s .entry)) (now (y .entry)) (now (message .entry))) (mastersOf (now (root .entry))) ++ drop r (now (buffer .entry)) ⌝ }
 {
     let kept = HEADER_BYTES + 32 * (m as usize);
     let hstar = first(
@@ -63,7 +64,7 @@ pub(crate) fn prove_in(
         tapes,
         memory,
     );
-    let _ = challenge(m, tau, n, &hstar, message, choices);
+    draw_challenge(s, m, tau, n, &hstar, y, message, choices);
     head(m, tau, n, &hstar, &mut buffer[..HEADER_BYTES]);
     let size = proof_bytes(s, z, m, n, h, choices);
     respond(
@@ -91,13 +92,14 @@ pub(crate) fn prove_with(
     n: u32,
     h: u32,
     witness: &[u8],
+    y: &[u8],
     message: &[u8],
     root: &[u8],
     buffer: &mut [u8],
 ) -> usize
-    requires { ⌜ Known (now s) z × (Tree n h × Tested (now s) z m tau n (now witness) (now message) (now root) (now buffer)) ⌝ }
-    ensures { λ r. ⌜ r ≡ length (proofOf (circuitOf (now (s .entry))) m tau n (now (witness .entry)) (now (message .entry)) (mastersOf (now (root .entry)))) ⌝ }
-    ensures { λ r. ⌜ now (buffer .exit) ≡ proofOf (circuitOf (now (s .entry))) m tau n (now (witness .entry)) (now (message .entry)) (mastersOf (now (root .entry))) ++ drop r (now (buffer .entry)) ⌝ }
+    requires { ⌜ Known (now s) z × (Tree n h × Tested (now s) z m tau n (now witness) (now y) (now message) (now root) (now buffer)) ⌝ }
+    ensures { λ r. ⌜ r ≡ length (proofOf (circuitOf (now (s .entry))) m tau n (now (witness .entry)) (statementOf m tau n (now (s .entry)) (now (y .entry)) (now (message .entry))) (mastersOf (now (root .entry)))) ⌝ }
+    ensures { λ r. ⌜ now (buffer .exit) ≡ proofOf (circuitOf (now (s .entry))) m tau n (now (witness .entry)) (statementOf m tau n (now (s .entry)) (now (y .entry)) (now (message .entry))) (mastersOf (now (root .entry))) ++ drop r (now (buffer .entry)) ⌝ }
 {
     let inputs = z.inputs;
     let gates = z.gates;
@@ -116,6 +118,7 @@ pub(crate) fn prove_with(
         n,
         h,
         witness,
+        y,
         message,
         root,
         buffer,

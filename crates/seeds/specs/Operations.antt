@@ -47,22 +47,32 @@ openOp j n p master lent =
     (unless (eqb (length lent) (16 * heightOf n)) 6 (lent ∷ [])
     (done (siblingsBelow j (heightOf n) 1 p master ∷ []))))))
 
--- the limits on M, and on the bytes of a message
+-- the limits on M, on the bytes of a message, and on the bytes of y, which hold 256 outputs
 abbrev pub maxInstances : ℕ
 maxInstances = 512
 
 abbrev pub maxMessage : ℕ
 maxMessage = 4096
 
+abbrev pub maxOutputBytes : ℕ
+maxOutputBytes = 32
+
 -- "M is 2..512, τ 1..M−1"
 unfoldable pub areCounts : ℕ → ℕ → Bool
 areCounts M tau = leb 2 M && (leb M maxInstances && (leb 1 tau && ltb tau M))
 
--- derive the challenge from h* and the message
-unfoldable pub challengeOp : ℕ → ℕ → ℕ → List ℕ → List ℕ → List ℕ → Outcome
-challengeOp M tau n hstar message lent =
+-- "Deriving a challenge is lent this digest and y; 6 unless they are 32 and 1..32 bytes" (document 02, order 1); h* has 32 bytes, a
+-- message 0..4,096
+unfoldable pub statementFits : List ℕ → List ℕ → List ℕ → List ℕ → Bool
+statementFits hstar digest y message =
+    eqb (length hstar) 32
+    && (eqb (length digest) 32 && (leb 1 (length y) && (leb (length y) maxOutputBytes && leb (length message) maxMessage)))
+
+-- derive the challenge from h* and the statement: the counts, the digest of the circuit file, y and the message
+unfoldable pub challengeOp : ℕ → ℕ → ℕ → List ℕ → List ℕ → List ℕ → List ℕ → List ℕ → Outcome
+challengeOp M tau n hstar digest y message lent =
     unless (areCounts M tau) 8 (lent ∷ [])
     (unless (isPartyCount n) 8 (lent ∷ [])
-    (unless (eqb (length hstar) 32) 6 (lent ∷ [])
-    (unless (leb (length message) maxMessage) 6 (lent ∷ [])
-    (unless (eqb (length lent) (3 * tau)) 6 (lent ∷ []) (done (challengeOf M tau n hstar (boundOf message) ∷ []))))))
+    (unless (statementFits hstar digest y message) 6 (lent ∷ [])
+    (unless (eqb (length lent) (3 * tau)) 6 (lent ∷ [])
+    (done (challengeOf M tau n hstar (boundOf M tau n digest y message) ∷ [])))))

@@ -1,16 +1,18 @@
 // The operations on seeds of document 01: expand a tree, open it, derive a challenge.
 ghost use mathlib.Core.Path.{_≡_};
-ghost use Rattle.seeds.specs.Operations.{outcome, areCounts, expandOp, openOp, challengeOp};
+ghost use Rattle.seeds.specs.Operations.{outcome, areCounts, statementFits, expandOp, openOp, challengeOp};
 use choice::derive;
 use parties::height;
 use refusal::Refusal;
 use tree::leaves_below;
 use tree::siblings_below;
 
-// The limits on the instances of a proof, and on the bytes of a message.
+// The limits on the instances of a proof, on the bytes of a message, and on the bytes of y, which hold 256 outputs.
 pub const MAX_INSTANCES: u32 = 512;
 
 pub const MAX_MESSAGE: usize = 4096;
+
+pub const MAX_OUTPUT_BYTES: usize = 32;
 
 // What an operation answers.
 pub enum Answer {
@@ -70,9 +72,28 @@ pub fn counts(m: u32, tau: u32) -> bool
     2 <= m && (m <= MAX_INSTANCES && (1 <= tau && tau < m))
 }
 
-// Derives the challenge: tau chosen instances, ascending, each with its hidden party.
-pub fn challenge(m: u32, tau: u32, n: u32, hstar: &[u8], message: &[u8], out: &mut [u8]) -> Answer
-    ensures { λ r. ⌜ outcome r (now (out .exit)) ≡ challengeOp m tau n (now (hstar .entry)) (now (message .entry)) (now (out .entry)) ⌝ }
+// Whether h* and the digest have 32 bytes, y 1 to 32 and the message no more than a message may have.
+fn statement_fits(hstar: &[u8], digest: &[u8], y: &[u8], message: &[u8]) -> bool
+    ensures { λ r. ⌜ r ≡ statementFits (now (hstar .entry)) (now (digest .entry)) (now (y .entry)) (now (message .entry)) ⌝ }
+{
+    hstar.len() == 32
+        && (digest.len() == 32
+            && (1 <= y.len() && (y.len() <= MAX_OUTPUT_BYTES && message.len() <= MAX_MESSAGE)))
+}
+
+// Derives the challenge: tau chosen instances, ascending, each with its hidden party. It is bound to the counts, the digest of the
+// circuit file, y and the message.
+pub fn challenge(
+    m: u32,
+    tau: u32,
+    n: u32,
+    hstar: &[u8],
+    digest: &[u8],
+    y: &[u8],
+    message: &[u8],
+    out: &mut [u8],
+) -> Answer
+    ensures { λ r. ⌜ outcome r (now (out .exit)) ≡ challengeOp m tau n (now (hstar .entry)) (now (digest .entry)) (now (y .entry)) (now (message .entry)) (now (out .entry)) ⌝ }
 {
     let fit = counts(m, tau);
     if !fit {
@@ -82,15 +103,22 @@ pub fn challenge(m: u32, tau: u32, n: u32, hstar: &[u8], message: &[u8], out: &m
     if h == 0 {
         return Answer::Refused(Refusal::Parameter);
     }
-    if hstar.len() != 32 {
-        return Answer::Refused(Refusal::BufferLength);
-    }
-    if message.len() > MAX_MESSAGE {
+    let lent = statement_fits(hstar, digest, y, message);
+    if !lent {
         return Answer::Refused(Refusal::BufferLength);
     }
     if out.len() != 3 * (tau as usize) {
         return Answer::Refused(Refusal::BufferLength);
     }
-    derive(m as usize, tau as usize, n as u8, hstar, message, out);
+    derive(
+        m as usize,
+        tau as usize,
+        n as u8,
+        hstar,
+        digest,
+        y,
+        message,
+        out,
+    );
     Answer::Done
 }

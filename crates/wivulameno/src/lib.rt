@@ -264,19 +264,21 @@ pub extern "C" fn wv_open(j: u32, n: u32, p: u32, master: &[u8], siblings: &mut 
     }
 }
 
-// Derives the challenge from h* and the message.
+// Derives the challenge from h*, bound to the counts, the digest of the circuit file, y and the message.
 #[no_mangle]
 pub extern "C" fn wv_challenge(
     m: u32,
     tau: u32,
     n: u32,
     hstar: &[u8],
+    digest: &[u8],
+    y: &[u8],
     message: &[u8],
     out: &mut [u8],
 ) -> u32
-    ensures { λ r. ⌜ (r ≡ status (challengeOp m tau n (now (hstar .entry)) (now (message .entry)) (now (out .entry)) .answer)) × (now (out .exit) ∷ [] ≡ challengeOp m tau n (now (hstar .entry)) (now (message .entry)) (now (out .entry)) .left) ⌝ }
+    ensures { λ r. ⌜ (r ≡ status (challengeOp m tau n (now (hstar .entry)) (now (digest .entry)) (now (y .entry)) (now (message .entry)) (now (out .entry)) .answer)) × (now (out .exit) ∷ [] ≡ challengeOp m tau n (now (hstar .entry)) (now (digest .entry)) (now (y .entry)) (now (message .entry)) (now (out .entry)) .left) ⌝ }
 {
-    let a = seeds::challenge(m, tau, n, hstar, message, out);
+    let a = seeds::challenge(m, tau, n, hstar, digest, y, message, out);
     match a {
         seeds::Answer::Done => 0,
         seeds::Answer::Refused(k) => refusal::number(k),

@@ -4,7 +4,7 @@ use crate::openssl::OpenSsl;
 use crate::rows::{call, Call};
 use reference::circuit::Sizes;
 use reference::fips202;
-use reference::proof::{header, hidden_parties, Counts};
+use reference::proof::{header, hidden_parties, Counts, Statement};
 use std::hint::black_box;
 
 #[derive(Clone, Copy)]
@@ -46,40 +46,54 @@ fn of_leaves(sizes: Sizes, nodes: usize, leaves: usize, last: usize) -> [Hashes;
     ]
 }
 
-/// The digests: h_j of all instances, h'_j of some, and the challenge.
-fn of_digests(sizes: Sizes, counts: Counts, message: &[u8], broadcasts: usize) -> [Hashes; 5] {
+/// The digests: h_j of all instances, h'_j of some, the circuit's, and the
+/// challenge.
+fn of_digests(
+    sizes: Sizes,
+    counts: Counts,
+    statement: Statement,
+    broadcasts: usize,
+) -> [Hashes; 6] {
     let [m, tau, n] = [counts.m, counts.tau, counts.n].map(|count| count as usize);
     let rows = sizes.inputs_len() + n * sizes.row_len();
+    let Statement {
+        circuit,
+        y,
+        message,
+    } = statement;
+    // The tag, h*, M, tau, n, the circuit's digest, y, the message and its length.
+    let challenge = 1 + 32 + 2 + 2 + 1 + 32 + y.len() + 2 + message.len();
     [
         hashes(Sha3, 3 + 32 * n, 32, m),
         hashes(Sha3, 3 + rows, 32, broadcasts),
         hashes(Sha3, 1 + 32 * m, 32, 2),
         hashes(Sha3, 1 + 64, 32, 1),
-        hashes(Shake256, 35 + message.len(), 9 * tau, 1),
+        hashes(Sha3, circuit.len(), 32, 1),
+        hashes(Shake256, challenge, 9 * tau, 1),
     ]
 }
 
 /// What a prover hashes, each input once.
-pub fn of_prove(sizes: Sizes, counts: Counts, message: &[u8]) -> Vec<Hashes> {
+pub fn of_prove(sizes: Sizes, counts: Counts, statement: Statement) -> Vec<Hashes> {
     let [m, n] = [counts.m, counts.n].map(|count| count as usize);
     let masters = [hashes(Shake128, 19, 16, m)];
     let leaves = of_leaves(sizes, m * (n - 1), m * n, m);
-    let digests = of_digests(sizes, counts, message, m);
+    let digests = of_digests(sizes, counts, statement, m);
     [&masters[..], &leaves, &digests].concat()
 }
 
 /// What the check of this proof hashes, each input once.
-pub fn of_check(sizes: Sizes, proof: &[u8], message: &[u8]) -> Vec<Hashes> {
+pub fn of_check(sizes: Sizes, statement: Statement, proof: &[u8]) -> Vec<Hashes> {
     let (counts, h_star) = header(proof).expect("a header");
     let [m, tau, n] = [counts.m, counts.tau, counts.n].map(|count| count as usize);
-    let hidden = hidden_parties(counts, h_star, message)
+    let hidden = hidden_parties(statement, counts, h_star)
         .into_iter()
         .flatten();
     let last_hidden = hidden.filter(|&p| usize::from(p) == n - 1).count();
     // The nodes on the way to a hidden leaf are not known.
     let nodes = m * (n - 1) - tau * n.ilog2() as usize;
     let leaves = of_leaves(sizes, nodes, m * n - tau, m - last_hidden);
-    let digests = of_digests(sizes, counts, message, tau);
+    let digests = of_digests(sizes, counts, statement, tau);
     [&leaves[..], &digests].concat()
 }
 
@@ -112,31 +126,54 @@ pub fn call_of(openssl: Option<&OpenSsl>, all: Vec<Hashes>) -> Call<'_> {
 #[cfg(test)]
 mod tests {
     use super::*;
-    use reference::proof::{longest, prove, Statement};
+    use reference::proof::{longest, prove};
 
     /// One AND of two inputs.
     const K: [u8; 18] = [2, 0, 1, 0, 1, 0, 1, 0, 2, 0, 2, 0, 0, 0, 1, 0, 0, 0];
 
-    fn times(all: Vec<Hashes>) -> usize {
-        all.iter().map(|hashes| hashes.times).sum()
-    }
+    const STATEMENT: Statement = Statement {
+        circuit: &K,
+        y: &[1],
+        message: b"order",
+    };
 
-    /// Four instances, one chosen, two parties: 4 trees of one node and 8 leaves,
-    /// of which a check has 3 trees and 7 leaves.
-    #[test]
-    fn calls_of_a_small_proof() {
+    /// What the prover hashes in a proof of four instances, one of them chosen, by
+    /// two parties, and what the check of that proof hashes.
+    fn small_proof() -> [Vec<Hashes>; 2] {
         let sizes = reference::circuit::read(&K).unwrap();
         let counts = Counts { m: 4, tau: 1, n: 2 };
-        let prover = 4 + 4 + 3 * 8 + 4 + 4 + 4;
-        assert_eq!(times(of_prove(sizes, counts, b"")), prover);
-        let statement = Statement {
-            circuit: &K,
-            y: &[1],
-            message: b"",
-        };
         let mut proof = vec![0; longest(sizes, counts)];
-        let len = prove(statement, &[3], &[7; 16], counts, &mut proof).unwrap();
-        let checker = 3 + 3 * 7 + 4 + 1 + 4;
-        assert_eq!(times(of_check(sizes, &proof[..len], b"")), checker);
+        let len = prove(STATEMENT, &[3], &[7; 16], counts, &mut proof).unwrap();
+        [
+            of_prove(sizes, counts, STATEMENT),
+            of_check(sizes, STATEMENT, &proof[..len]),
+        ]
+    }
+
+    /// 4 trees of one node and 8 leaves, of which a check has 3 trees and 7 leaves;
+    /// h_j and h'_j; h, h', h*, the circuit's digest and the challenge.
+    #[test]
+    fn calls_of_a_small_proof() {
+        let times = |all: &Vec<Hashes>| all.iter().map(|hashes| hashes.times).sum::<usize>();
+        let [prover, checker] = small_proof().each_ref().map(times);
+        assert_eq!(prover, 4 + 4 + 3 * 8 + 4 + 4 + 5);
+        assert_eq!(checker, 3 + 3 * 7 + 4 + 1 + 5);
+    }
+
+    /// The circuit file has 18 bytes. The challenge's input has 72, and those of y
+    /// and of the message; 9 bytes choose an instance and its party.
+    #[test]
+    fn both_hash_the_circuit_and_the_statement_once() {
+        for all in small_proof() {
+            let of = |is_it: fn(&Hashes) -> bool| {
+                let found = all.iter().copied().filter(is_it);
+                let lens = found.map(|hashes| (hashes.input, hashes.output, hashes.times));
+                lens.collect::<Vec<_>>()
+            };
+            let circuit = of(|hashes| matches!(hashes.function, Sha3) && hashes.input == 18);
+            assert_eq!(circuit, [(18, 32, 1)]);
+            let challenge = of(|hashes| matches!(hashes.function, Shake256));
+            assert_eq!(challenge, [(72 + 1 + 5, 9, 1)]);
+        }
     }
 }

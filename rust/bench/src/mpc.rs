@@ -3,7 +3,6 @@
 use crate::rows::{call, nanoseconds_each, Call, Row, Table, ROUNDS};
 use reference::bits::clear_rest;
 use reference::circuit::Sizes;
-use reference::seeds;
 use std::hint::black_box;
 
 const CIRCUIT: &[u8] = include_bytes!("../../../examples/worst.circuit");
@@ -184,16 +183,27 @@ pub fn challenge_table() -> Table<'static> {
     }
 }
 
+/// The same lines for both implementations. The statement is that of a circuit
+/// with one output.
+macro_rules! challenge_call {
+    ($module:path, $m:expr, $tau:expr) => {{
+        use $module as seeds;
+        call(3 * $tau as usize, move |out| {
+            let input = seeds::ChallengeInput {
+                h_star: black_box(&[0x5a; 32]),
+                circuit_digest: black_box(&[0xa5; 32]),
+                y: black_box(&[1]),
+                message: b"",
+            };
+            seeds::challenge($m, $tau, PARTIES, input, out).expect("no refusal");
+        })
+    }};
+}
+
 fn challenge_row(tau: u32) -> Row<'static> {
-    let (m, h_star) = (512, [0x5a; 32]);
-    let ours = call(3 * tau as usize, move |out| {
-        let h_star = black_box(&h_star);
-        wivulameno::seeds::challenge(m, tau, PARTIES, h_star, b"", out).expect("no refusal");
-    });
-    let second = call(0, move |_| {
-        let drawn = seeds::challenge(m, tau, PARTIES, black_box(&h_star), b"");
-        black_box(drawn).expect("no refusal");
-    });
+    let m = 512;
+    let ours = challenge_call!(wivulameno::seeds, m, tau);
+    let second = challenge_call!(reference::seeds, m, tau);
     Row {
         name: format!("challenge, M {m}, tau {tau}"),
         amount: tau as usize,

@@ -130,16 +130,16 @@ macro_rules! check_call {
 
 /// The rows of prove and of check for one circuit and these counts.
 fn rows<'a>(example: &'a Example, counts: Counts, openssl: Option<&'a OpenSsl>) -> [Row<'a>; 2] {
-    let proof = example.proof(counts);
+    let (statement, proof) = (example.statement(), example.proof(counts));
     let prove = [
         Some(prove_call!(wivulameno::proof, example, counts)),
         Some(prove_call!(reference::proof, example, counts)),
-        Some(call_of(openssl, of_prove(example.sizes, counts, MESSAGE))),
+        Some(call_of(openssl, of_prove(example.sizes, counts, statement))),
     ];
     let check = [
         Some(check_call!(wivulameno::proof, example, proof)),
         Some(check_call!(reference::proof, example, proof)),
-        Some(call_of(openssl, of_check(example.sizes, &proof, MESSAGE))),
+        Some(call_of(openssl, of_check(example.sizes, statement, &proof))),
     ];
     let Counts { m, tau, n } = counts;
     let row = |operation, calls| Row {

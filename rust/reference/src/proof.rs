@@ -2,8 +2,9 @@
 
 use crate::bits::rest_is_zero;
 use crate::circuit::{legal, Circuit, Sizes};
+use crate::fips202::sha3_256;
 use crate::mpc::{right_corrections, run_parties, run_shown, Showing};
-use crate::seeds::{self, Digest, Value};
+use crate::seeds::{self, ChallengeInput, Digest, Value};
 use crate::{u16_at, Refusal};
 
 const HEADER_LEN: usize = 38;
@@ -12,7 +13,7 @@ const DIGEST_LEN: usize = 32;
 const LONGEST_MESSAGE: usize = 4096;
 
 /// What is proved: that the prover knows a witness for which the circuit gives
-/// y. The message is bound to the proof.
+/// y. The challenge covers the circuit file, y and the message.
 #[derive(Clone, Copy)]
 pub struct Statement<'a> {
     pub circuit: &'a [u8],
@@ -62,7 +63,7 @@ pub fn prove(
         return Err(10);
     }
     let instances = all_instances(&circuit, witness, root, counts);
-    let file = written(&instances, counts, h_star(&instances), statement.message);
+    let file = written(&instances, statement, counts, h_star(&instances));
     proof[..file.len()].copy_from_slice(&file);
     Ok(file.len())
 }
@@ -76,17 +77,39 @@ pub fn check(statement: Statement, proof: &[u8]) -> Result<(), Refusal> {
         return Err(7);
     }
     let (counts, h_star) = header(proof).ok_or(11_u32)?;
-    let n = counts.n as usize;
-    let hidden = hidden_parties(counts, h_star, statement.message);
-    let received = received(sizes, n, &hidden, proof).ok_or(12_u32)?;
+    let hidden = hidden_parties(statement, counts, h_star);
+    answers(&circuit, statement.y, &hidden, proof)
+}
+
+/// Does the proof of a circuit file that is legal answer the challenge that hides
+/// these parties? Refusals 12, 7, 10 and 13.
+pub fn check_answers(
+    circuit: &[u8],
+    y: &[u8],
+    hidden: &[Option<u8>],
+    proof: &[u8],
+) -> Result<(), Refusal> {
+    let circuit = legal(circuit).expect("a legal circuit");
+    answers(&circuit, y, hidden, proof)
+}
+
+fn answers(
+    circuit: &Circuit,
+    y: &[u8],
+    hidden: &[Option<u8>],
+    proof: &[u8],
+) -> Result<(), Refusal> {
+    let (counts, h_star) = header(proof).expect("a header");
+    let (sizes, n) = (circuit.sizes(), counts.n as usize);
+    let received = received(sizes, n, hidden, proof).ok_or(12_u32)?;
     if !received.iter().all(|part| part.unused_is_zero(sizes)) {
         return Err(7);
     }
     let instances = (0..).zip(&received);
     let checked: Vec<Checked> = instances
-        .map(|(j, part)| part.checked(&circuit, j, n))
+        .map(|(j, part)| part.checked(circuit, j, n))
         .collect();
-    let other = |part: &Checked| part.output.as_ref().is_some_and(|y| y != statement.y);
+    let other = |part: &Checked| part.output.as_ref().is_some_and(|output| output != y);
     if checked.iter().any(other) {
         return Err(10);
     }
@@ -126,11 +149,21 @@ pub fn stretch_len(sizes: Sizes, n: u32, hidden: Option<u8>) -> usize {
 }
 
 /// For each instance its hidden party, if the challenge chooses it.
-pub fn hidden_parties(counts: Counts, h_star: Digest, message: &[u8]) -> Vec<Option<u8>> {
+pub fn hidden_parties(statement: Statement, counts: Counts, h_star: Digest) -> Vec<Option<u8>> {
     let Counts { m, tau, n } = counts;
-    let chosen = seeds::challenge(m, tau, n, &h_star, message).expect("counts in limits");
+    let input = ChallengeInput {
+        h_star: &h_star,
+        circuit_digest: &sha3_256(statement.circuit),
+        y: statement.y,
+        message: statement.message,
+    };
+    asked(m, &seeds::chosen([m, tau, n], input))
+}
+
+/// For each of m instances its hidden party, if it is among the chosen.
+pub fn asked(m: u32, chosen: &[(u16, u8)]) -> Vec<Option<u8>> {
     let mut hidden = vec![None; m as usize];
-    for (j, p) in chosen {
+    for &(j, p) in chosen {
         hidden[usize::from(j)] = Some(p);
     }
     hidden
@@ -287,13 +320,29 @@ pub fn h_star(instances: &[Instance]) -> Digest {
 }
 
 /// The proof file with this h*: the header, and what its challenge asks for.
-pub fn written(instances: &[Instance], counts: Counts, h_star: Digest, message: &[u8]) -> Vec<u8> {
+pub fn written(
+    instances: &[Instance],
+    statement: Statement,
+    counts: Counts,
+    h_star: Digest,
+) -> Vec<u8> {
+    let hidden = hidden_parties(statement, counts, h_star);
+    written_answers(instances, counts, h_star, &hidden)
+}
+
+/// The proof file with this h*: the header, and what a challenge asks for that
+/// hides these parties.
+pub fn written_answers(
+    instances: &[Instance],
+    counts: Counts,
+    h_star: Digest,
+    hidden: &[Option<u8>],
+) -> Vec<u8> {
     let Counts { m, tau, n } = counts;
     let mut file = [m as u16, tau as u16].map(u16::to_le_bytes).concat();
     file.extend([n as u8, 0]);
     file.extend(h_star);
-    let hidden = hidden_parties(counts, h_star, message);
-    for (instance, p) in instances.iter().zip(hidden) {
+    for (instance, &p) in instances.iter().zip(hidden) {
         file.extend(instance.stretch(p));
     }
     file
@@ -424,7 +473,6 @@ impl Opened<'_> {
 #[cfg(test)]
 mod tests {
     use super::*;
-    use crate::fips202::sha3_256;
 
     /// One AND of two inputs.
     const K: [u8; 18] = [2, 0, 1, 0, 1, 0, 1, 0, 2, 0, 2, 0, 0, 0, 1, 0, 0, 0];
@@ -477,28 +525,28 @@ mod tests {
         let known = [
             (
                 counts(4, 1, 2),
-                233,
-                "8b0f1513bad8598bed904aaf70f5780de33e32cf715ed722994f8ef913c3e15c",
+                232,
+                "93ac885fb74cac4607e7d39aa2363661b4b230b319c5e6b8262ef4992d15587d",
             ),
             (
                 counts(5, 2, 4),
-                315,
-                "6808da2de5e147e9c4d9254d7c6ff14d15b8cadccddc1c8139cda380fc8f0f14",
+                316,
+                "f7d9a722134dd049aa72c7f67f5e3a0b7d43e7c504e553db6061b7002cb24361",
             ),
             (
                 counts(6, 5, 8),
-                499,
-                "253faeef5064e38b67a89b4b3e13054cc9053dc93ffb6f6e1c10a1c69a352705",
+                498,
+                "a5a18afe79d3058f7a980f1d6e620f9d2a431f8648158879b2b5ac01543fa417",
             ),
             (
                 counts(20, 7, 16),
-                1354,
-                "ee08d9a78ca5adf607d99158c123ff5aafaeef7e963f93183efbc52dd105f64d",
+                1355,
+                "d0085da66b27f02fcf5055b57d1cdca79bc34919358047e7eb194369ab09e9eb",
             ),
             (
                 counts(300, 9, 16),
                 14897,
-                "79686d0a5fd65aa07215b2ae1864cd070345f0c7de6d3cebd29b88833a3803a7",
+                "d7ecd169a634a0ee406264561eb338e7e90d588066dc8f07692c564b5ed6697d",
             ),
         ];
         for (counts, len, digest) in known {
@@ -518,10 +566,10 @@ mod tests {
             y: &[1],
             message: b"message",
         };
-        for (root, p, len) in [(0, 0, 233), (1, 1, 232)] {
+        for (root, p, len) in [(1, 0, 233), (0, 1, 232)] {
             let proof = proved(statement, &[3], &[root; 16], counts(4, 1, 2), 0).unwrap();
             let (counts, h_star) = header(&proof).unwrap();
-            let hidden = hidden_parties(counts, h_star, statement.message);
+            let hidden = hidden_parties(statement, counts, h_star);
             let chosen: Vec<u8> = hidden.into_iter().flatten().collect();
             assert_eq!((chosen, proof.len()), (vec![p], len));
         }
@@ -577,6 +625,13 @@ mod tests {
             proof[place] = byte;
             proof
         };
+        let turned = |bits: &[(usize, u8)]| {
+            let mut proof = proof.clone();
+            for (place, bits) in bits {
+                proof[*place] ^= bits;
+            }
+            proof
+        };
         let long = Statement {
             message: &[0; 4097],
             ..FOUR_GIVES_6
@@ -594,12 +649,14 @@ mod tests {
         for (place, byte) in [(0, 1), (1, 2), (2, 0), (2, 5), (4, 3), (4, 32), (5, 1)] {
             assert_eq!(check(FOUR_GIVES_6, &with(place, byte)), Err(11));
         }
-        assert_eq!(check(FOUR_GIVES_6, &proof[..314]), Err(12));
-        // The last stretch but one is of instance 3, with its row at the end.
-        let row = 315 - 48 - 1;
-        assert_eq!(check(of_y(&[2]), &with(row, 0x20)), Err(7));
-        assert_eq!(check(of_y(&[2]), &with(314, !proof[314])), Err(10));
-        assert_eq!(check(FOUR_GIVES_6, &with(314, !proof[314])), Err(13));
+        assert_eq!(check(FOUR_GIVES_6, &proof[..315]), Err(12));
+        // The last stretch but one is of instance 3, which is chosen, with its row
+        // at the end: 2 bits of AND gates, 3 of outputs, 3 out of use.
+        let (row, last) = (316 - 48 - 1, 315);
+        assert_eq!(check(FOUR_GIVES_6, &turned(&[(row, 0x24)])), Err(7));
+        let output = turned(&[(row, 0x04), (last, 0xff)]);
+        assert_eq!(check(FOUR_GIVES_6, &output), Err(10));
+        assert_eq!(check(FOUR_GIVES_6, &turned(&[(last, 0xff)])), Err(13));
         assert_eq!(check(FOUR_GIVES_6, &proof), Ok(()));
     }
 
@@ -609,7 +666,7 @@ mod tests {
         let counts = counts(5, 2, 4);
         let instances = instances(&FOUR, &[5], ROOT, counts);
         let h_star = h_star(&instances);
-        let proof = written(&instances, counts, h_star, FOUR_GIVES_6.message);
+        let proof = written(&instances, FOUR_GIVES_6, counts, h_star);
         assert_eq!(check(FOUR_GIVES_6, &proof), Err(10));
     }
 }

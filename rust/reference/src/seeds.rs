@@ -35,32 +35,88 @@ pub fn open(j: u32, n: u32, p: u32, master: &[u8], siblings: &mut [u8]) -> Resul
     Ok(())
 }
 
-/// The chosen instances, ascending, each with its hidden party: refusals 8 and 6.
+/// What a challenge is drawn from, beside M, tau and n.
+#[derive(Clone, Copy, Debug)]
+pub struct ChallengeInput<'a> {
+    pub h_star: &'a [u8],
+    /// SHA3-256 of the circuit file.
+    pub circuit_digest: &'a [u8],
+    pub y: &'a [u8],
+    pub message: &'a [u8],
+}
+
+impl ChallengeInput<'_> {
+    fn lengths_are_good(&self) -> bool {
+        self.h_star.len() == 32
+            && self.circuit_digest.len() == 32
+            && (1..=32).contains(&self.y.len())
+            && self.message.len() <= 4096
+    }
+
+    /// Tag 6: what is hashed.
+    fn bytes(&self, [m, tau, n]: [u32; 3]) -> Vec<u8> {
+        let [m, tau] = [m, tau].map(|count| (count as u16).to_le_bytes());
+        let len = (self.message.len() as u16).to_le_bytes();
+        [
+            &[6],
+            self.h_star,
+            &m,
+            &tau,
+            &[n as u8],
+            self.circuit_digest,
+            self.y,
+            &len,
+            self.message,
+        ]
+        .concat()
+    }
+}
+
+/// Fills `out` with 3 bytes for each chosen instance, ascending: its number and
+/// its hidden party. Refusals 8 and 6.
 pub fn challenge(
     m: u32,
     tau: u32,
     n: u32,
-    h_star: &[u8],
-    message: &[u8],
-) -> Result<Vec<(u16, u8)>, Refusal> {
+    input: ChallengeInput,
+    out: &mut [u8],
+) -> Result<(), Refusal> {
     if !(2..=512).contains(&m) || !(1..m).contains(&tau) {
         return Err(8);
     }
-    let (m, tau, n) = (m as usize, tau as usize, parties(n)?);
-    if h_star.len() != 32 || message.len() > 4096 {
+    parties(n)?;
+    if !input.lengths_are_good() || out.len() != 3 * tau as usize {
         return Err(6);
     }
-    let len = message.len() as u16;
-    let input = [&[6], h_star, &len.to_le_bytes(), message].concat();
-    let mut stream = vec![0; 8 * tau + tau];
-    shake256(&input, &mut stream);
-    let (places, hidden) = stream.split_at(8 * tau);
+    let all = chosen([m, tau, n], input);
+    for (bytes, (j, p)) in out.chunks_mut(3).zip(all) {
+        let [low, high] = j.to_le_bytes();
+        bytes.copy_from_slice(&[low, high, p]);
+    }
+    Ok(())
+}
+
+/// The chosen instances, ascending, each with its hidden party. The counts are M,
+/// tau and n.
+pub(crate) fn chosen(counts: [u32; 3], input: ChallengeInput) -> Vec<(u16, u8)> {
+    let mut stream = vec![0; 9 * counts[1] as usize];
+    shake256(&input.bytes(counts), &mut stream);
+    drawn(counts, &stream)
+}
+
+/// What 9 tau bytes choose: tau instances by 8 bytes each, then a hidden party by
+/// one byte for each of them, ascending.
+pub fn drawn([m, tau, n]: [u32; 3], stream: &[u8]) -> Vec<(u16, u8)> {
+    let (places, hidden) = stream.split_at(8 * tau as usize);
     let parties = hidden.iter().map(|byte| byte % n as u8);
-    Ok(chosen(m, places).into_iter().zip(parties).collect())
+    instances(m as usize, places)
+        .into_iter()
+        .zip(parties)
+        .collect()
 }
 
 /// Each 8 bytes are a place among the instances not yet chosen, ascending.
-fn chosen(m: usize, places: &[u8]) -> Vec<u16> {
+fn instances(m: usize, places: &[u8]) -> Vec<u16> {
     let mut left: Vec<u16> = (0..m as u16).collect();
     let mut chosen = vec![];
     for bytes in places.chunks(8) {
@@ -280,10 +336,20 @@ mod tests {
     #[test]
     fn known_challenges() {
         let h_star: Digest = unhex(H_STAR);
-        let known = [(33, 15), (72, 12), (106, 11), (255, 10), (294, 12)];
-        let drawn = challenge(300, 5, 16, &h_star, b"message");
-        assert_eq!(drawn, Ok(known.to_vec()));
-        assert_eq!(challenge(2, 1, 2, &h_star, b""), Ok(vec![(0, 1)]));
+        let digest: Digest = std::array::from_fn(|i| 0x40 + i as u8);
+        let input = |y, message| ChallengeInput {
+            h_star: &h_star,
+            circuit_digest: &digest,
+            y,
+            message,
+        };
+        let short = chosen([300, 5, 16], input(&[0xf5, 1, 0], b"message"));
+        assert_eq!(short, [(50, 6), (109, 11), (115, 14), (153, 0), (245, 5)]);
+        let long = chosen([300, 5, 16], input(&[0xa5; 32], &[7; 4096]));
+        assert_eq!(long, [(2, 8), (4, 15), (35, 4), (100, 13), (245, 3)]);
+        let mut out = [0xee; 3];
+        assert_eq!(challenge(2, 1, 2, input(&[1], b""), &mut out), Ok(()));
+        assert_eq!(out, [1, 0, 1]);
     }
 
     #[test]
@@ -309,9 +375,37 @@ mod tests {
         assert_eq!(open(0, 1, 9, &[], &mut none), Err(8));
         assert_eq!(open(0, 2, 2, &[], &mut none), Err(9));
         assert_eq!(open(0, 2, 1, &[0; 16], &mut [0; 32]), Err(6));
-        assert_eq!(challenge(4, 4, 2, &[], &[]), Err(8));
-        assert_eq!(challenge(4, 3, 2, &[], &[]), Err(6));
-        assert_eq!(challenge(4, 3, 2, &[0; 32], &[0; 4097]), Err(6));
-        assert!(challenge(4, 3, 2, &[0; 32], &[0; 4096]).is_ok());
+    }
+
+    /// The lengths are those of h*, the digest, y, the message and the output.
+    #[test]
+    fn refusals_of_challenge_in_order() {
+        let of_lengths = |tau, lens: [usize; 5]| {
+            let bytes = [0xee; 4097];
+            let [h_star, circuit_digest, y, message] = [0, 1, 2, 3].map(|i| &bytes[..lens[i]]);
+            let input = ChallengeInput {
+                h_star,
+                circuit_digest,
+                y,
+                message,
+            };
+            let mut out = vec![0xee; lens[4]];
+            let answer = challenge(4, tau, 2, input, &mut out);
+            assert!(answer.is_ok() || out == vec![0xee; lens[4]]);
+            answer
+        };
+        let good = [32, 32, 1, 0, 9];
+        assert_eq!(of_lengths(3, good), Ok(()));
+        assert_eq!(of_lengths(3, [32, 32, 32, 4096, 9]), Ok(()));
+        assert_eq!(of_lengths(4, good), Err(8));
+        let bad: [&[usize]; 5] = [&[0, 31, 33], &[0, 31, 33], &[0, 33], &[4097], &[0, 8, 10]];
+        for (place, lens) in bad.into_iter().enumerate() {
+            for &len in lens {
+                let mut lens = good;
+                lens[place] = len;
+                assert_eq!(of_lengths(3, lens), Err(6), "{lens:?}");
+                assert_eq!(of_lengths(4, lens), Err(8), "{lens:?}");
+            }
+        }
     }
 }

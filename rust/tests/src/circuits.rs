@@ -48,6 +48,34 @@ impl File {
     }
 }
 
+impl File {
+    /// The same gates in the same order of the chain, which visits `slots`, with
+    /// slot k moved to slot `places[k - 1]`.
+    pub fn moved(&self, slots: &[usize], places: &[usize]) -> File {
+        let inputs = self.counts[0];
+        let wire = |wire: u16| match wire.checked_sub(inputs) {
+            Some(above) => inputs + places[usize::from(above)] as u16 - 1,
+            None => wire,
+        };
+        let mut file = self.clone();
+        for (gate, place) in self.gates.iter().zip(places) {
+            file.gates[place - 1] = Gate {
+                a: wire(gate.a),
+                b: wire(gate.b),
+                ..*gate
+            };
+        }
+        file.outputs = self.outputs.iter().map(|&output| wire(output)).collect();
+        file.link(
+            &slots
+                .iter()
+                .map(|slot| places[slot - 1])
+                .collect::<Vec<_>>(),
+        );
+        file
+    }
+}
+
 /// A legal file with the least I, O and G that have this number of gates, all
 /// INV of input 0, in slot order.
 pub fn row_of_gates(gates: usize) -> File {
@@ -360,6 +388,18 @@ mod tests {
             let read = reference::circuit::read(&file.bytes()).expect("a legal file");
             assert_eq!([read.inputs, read.outputs, read.gates], sizes);
         }
+    }
+
+    /// Slot 1 is NOT x, slot 2 reads it; moved to slots 2 and 1.
+    #[test]
+    fn a_moved_file() {
+        let mut file = row_of_gates(2);
+        file.gates[1].a = 1;
+        file.outputs = vec![2];
+        let moved = file.moved(&[1, 2], &[2, 1]);
+        let gates = moved.gates.iter().map(|gate| [gate.a, gate.next]);
+        assert_eq!(gates.collect::<Vec<_>>(), [[2, 0], [0, 1]]);
+        assert_eq!((moved.head, &moved.outputs[..]), (2, &[1][..]));
     }
 
     /// On a file with gates, each of these damages has its own refusal.

@@ -33,6 +33,11 @@ impl Guarded {
         buffer
     }
 
+    /// A buffer for each of these.
+    pub fn holding_each<const N: usize>(random: &mut Random, all: [&[u8]; N]) -> [Self; N] {
+        all.map(|bytes| Guarded::holding(random, bytes))
+    }
+
     pub fn lent(&mut self) -> &mut [u8] {
         &mut self.whole[self.middle.clone()]
     }

@@ -2,6 +2,7 @@
 //! files, pages and calls to try.
 
 pub mod calls;
+pub mod challenges;
 pub mod circuits;
 pub mod cut_disk;
 pub mod guarded;

@@ -6,7 +6,7 @@ use crate::guarded::Guarded;
 use crate::random::Random;
 use reference::bits::oct;
 use reference::circuit::Sizes;
-use reference::proof::{header, hidden_parties, stretches};
+use reference::proof::{header, hidden_parties, stretches, Statement};
 
 /// One call of prove. The counts are M, tau and n.
 #[derive(Clone, Debug)]
@@ -95,6 +95,15 @@ impl Prove {
         Ok(proof)
     }
 
+    /// What the reference is to prove.
+    pub fn statement(&self) -> Statement<'_> {
+        Statement {
+            circuit: &self.circuit,
+            y: &self.y,
+            message: &self.message,
+        }
+    }
+
     /// The check of a proof for this circuit, y and message.
     pub fn check(&self, proof: &[u8]) -> Check {
         Check {
@@ -120,6 +129,21 @@ impl Prove {
 impl Check {
     fn inputs(&self) -> [&[u8]; 4] {
         [&self.circuit, &self.y, &self.message, &self.proof]
+    }
+
+    /// What the reference is asked.
+    pub fn statement(&self) -> Statement<'_> {
+        Statement {
+            circuit: &self.circuit,
+            y: &self.y,
+            message: &self.message,
+        }
+    }
+
+    /// For each instance its hidden party, if the challenge chooses it.
+    pub fn hidden(&self) -> Vec<Option<u8>> {
+        let (counts, h_star) = header(&self.proof).expect("a header");
+        hidden_parties(self.statement(), counts, h_star)
     }
 
     /// The reference's answer, without guards.
@@ -152,15 +176,10 @@ pub fn longest(sizes: Sizes, [m, tau, n]: [u32; 3]) -> usize {
     38 + 48 * (m - tau) + tau * chosen
 }
 
-/// Each input in a guarded buffer.
-fn guarded<const N: usize>(random: &mut Random, inputs: [&[u8]; N]) -> [Guarded; N] {
-    inputs.map(|bytes| Guarded::holding(random, bytes))
-}
-
 /// Proves by both; gives the proof or the refusal. What is lent must be the same
 /// afterwards, and as before if it was not to be written.
 pub fn compare_prove(random: &mut Random, call: &Prove) -> Result<Vec<u8>, u32> {
-    let inputs = guarded(random, call.inputs());
+    let inputs = Guarded::holding_each(random, call.inputs());
     let lent = inputs.each_ref().map(Guarded::get);
     let shift = random.below(8);
     let mut proof = Guarded::new(random, shift, call.proof_len);
@@ -191,7 +210,7 @@ pub fn compare_prove(random: &mut Random, call: &Prove) -> Result<Vec<u8>, u32> 
 
 /// Checks by both; gives the answer. What is lent must be as before.
 pub fn compare_check(random: &mut Random, call: &Check) -> Result<(), u32> {
-    let inputs = guarded(random, call.inputs());
+    let inputs = Guarded::holding_each(random, call.inputs());
     let lent = inputs.each_ref().map(Guarded::get);
     let second = check_by!(reference::proof, lent);
     let ours = check_by!(wivulameno::proof, lent);
@@ -204,9 +223,9 @@ pub fn compare_check(random: &mut Random, call: &Check) -> Result<(), u32> {
 /// For each instance of a proof that is in form its hidden party, if chosen, and
 /// its place.
 pub fn places(sizes: Sizes, call: &Check) -> Vec<(Option<u8>, usize, usize)> {
-    let (counts, h_star) = header(&call.proof).expect("a header");
-    let hidden = hidden_parties(counts, h_star, &call.message);
-    let parts = stretches(sizes, counts.n, &hidden, &call.proof).expect("all parts");
+    let hidden = call.hidden();
+    let n = u32::from(call.proof[4]);
+    let parts = stretches(sizes, n, &hidden, &call.proof).expect("all parts");
     let mut start = 38;
     let places = hidden.into_iter().zip(parts).map(|(p, part)| {
         start += part.len();

@@ -6,6 +6,7 @@ use std::os::unix::process::ExitStatusExt;
 use std::process::Command;
 use std::slice::from_ref;
 use tests::calls::{damage, Setting, NOT_A_COUNT};
+use tests::challenges::Challenge;
 use tests::circuits::{any_sizes, any_slots, damaged, legal};
 use tests::outcomes::Outcomes;
 use tests::paged::{lend, Edge, Paged};
@@ -208,16 +209,20 @@ fn challenge(random: &mut Random) -> Result<(), u32> {
     let m = random.pick(&[2, 3, 20, 512, 512, 1, 513]);
     let tau = random.pick(&[1, 1, m / 2, m - 1, m]);
     let n = parties(random);
-    let (len, out_len) = (near(random, 32), near(random, 3 * tau as usize));
-    let message_len = random.pick(&[0, 1, 100, 4096, 4097]);
-    let (h_star, message) = (random.bytes(len), random.bytes(message_len));
-    let out = random.bytes(out_len);
-    let inputs = [&h_star[..], &message[..]];
-    let (answer, filled) = lend(random, &inputs, from_ref(&out), |inputs, mut out| {
-        seeds::challenge(m, tau, n, inputs[0], inputs[1], out[0])
+    let lens = [
+        near(random, 32),
+        near(random, 32),
+        random.pick(&[1, 1, 3, 17, 32, 32, 0, 33]),
+        random.pick(&[0, 1, 100, 4096, 4097]),
+        near(random, 3 * tau as usize),
+    ];
+    let call = Challenge::of_lengths(random, [m, tau, n], lens);
+    let out = random.bytes(call.out_len);
+    let (answer, filled) = lend(random, &call.inputs(), from_ref(&out), |inputs, mut out| {
+        call.with(inputs.try_into().expect("four inputs"), out[0])
     });
     let mut expected = out;
-    let plain = seeds::challenge(m, tau, n, &h_star, &message, &mut expected);
+    let plain = call.with(call.inputs(), &mut expected);
     assert_eq!(answer, plain.map_err(|refusal| refusal.number()));
     assert_eq!(filled[0], expected);
     answer

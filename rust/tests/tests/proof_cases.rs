@@ -378,8 +378,8 @@ fn faults_of_stretches() -> [Vec<Fault<Check>>; 3] {
             set(chosen + 66, 0x40),
         ],
         vec![
-            in_check(10, |call| call.y[0] ^= 1),
             turn(10, chosen + 66, 1 << FIVE_SIZES.ands),
+            turn(10, chosen + 66, 4 << FIVE_SIZES.ands),
         ],
         vec![
             turn(13, chosen + 33, 1),

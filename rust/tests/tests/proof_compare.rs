@@ -8,7 +8,7 @@ use tests::proofs::{compare_check, compare_prove, longest, Prove};
 use tests::random::Random;
 use wivulameno::circuit::sizes;
 use wivulameno::proof::{longest_proof, proof_len, Counts};
-use wivulameno::seeds::challenge;
+use wivulameno::seeds::{challenge, ChallengeInput};
 
 const SETTINGS: usize = 120;
 
@@ -37,7 +37,13 @@ fn compare_lengths(call: &Prove, proof: &[u8]) {
     let longest = longest_proof(sizes, counts);
     assert_eq!(longest, Some(call.proof_len), "{}", call.shown());
     let mut chosen = vec![0; 3 * tau as usize];
-    let drawn = challenge(m, tau, n, &proof[6..38], &call.message, &mut chosen);
+    let input = ChallengeInput {
+        h_star: &proof[6..38],
+        circuit_digest: &wivulameno::sha3_256(&call.circuit),
+        y: &call.y,
+        message: &call.message,
+    };
+    let drawn = challenge(m, tau, n, input, &mut chosen);
     assert_eq!(drawn, Ok(()));
     let is_last = |instance: &&[u8]| u32::from(instance[2]) == n - 1;
     let hiding_last = chosen.chunks(3).filter(is_last).count() as u32;
@@ -107,11 +113,12 @@ fn any_settings() {
     }
 }
 
-/// Every length about the ends of the challenge's blocks, and both ends.
+/// Every length about the ends of the challenge's blocks of 136 bytes, of which 72
+/// and those of y come before the message, and both ends.
 #[test]
 fn message_lengths() {
     let mut random = Random::new(75);
-    let near_rate = (95..=105).chain(232..=240);
+    let near_rate = (58..=66).chain(194..=202);
     let ends = [0, 1, 2, 255, 256, 257, 2048, 4000, 4095, 4096];
     for message in near_rate.chain(ends) {
         for n in COUNTS {

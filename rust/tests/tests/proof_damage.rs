@@ -263,9 +263,12 @@ fn another_message() {
     }
 }
 
+/// Another y has another challenge; where that asks for the same, its output is
+/// not this y.
 #[test]
 fn another_y() {
     let mut random = Random::new(88);
+    let mut outcomes = Outcomes::default();
     let mut proofs = small_proofs(&mut random);
     proofs.extend(large_proofs(&mut random));
     for proved in proofs {
@@ -273,11 +276,13 @@ fn another_y() {
         for bit in 0..8 * y.len() {
             let mut call = proved.call.clone();
             call.y[bit / 8] ^= 1 << (bit % 8);
-            let expected = match bit < proved.setting.sizes.outputs {
-                true => 10,
-                false => 7,
+            let allowed: &[u32] = match bit < proved.setting.sizes.outputs {
+                true => &[7, 10, 12, 13],
+                false => &[7],
             };
-            assert_eq!(compare_check(&mut random, &call), Err(expected));
+            let refusal = compare_check(&mut random, &call).expect_err("another y");
+            assert!(allowed.contains(&refusal), "{refusal}, bit {bit}");
+            outcomes.add(refusal);
         }
         for len in [0, y.len() - 1, y.len() + 1, y.len() + 256] {
             let mut call = proved.call.clone();
@@ -285,34 +290,62 @@ fn another_y() {
             assert_eq!(compare_check(&mut random, &call), Err(6), "{len}");
         }
     }
+    outcomes.expect(&[7, 10, 12], 5);
 }
 
-/// A circuit with one change, or any other one. A change that no replay meets
-/// is accepted.
+/// The check of a proof for its circuit with one change, or for any other one.
+fn with_another_circuit(random: &mut Random, proved: &Proved) -> Check {
+    let Setting { file, slots, n, .. } = &proved.setting;
+    let circuit = match random.below(4) {
+        0 => {
+            let Sizes {
+                inputs,
+                outputs,
+                gates,
+                ..
+            } = proved.setting.sizes;
+            let outputs = random.pick(&[outputs, outputs, outputs + 8]);
+            Setting::of_sizes(random, [inputs, outputs, gates], *n).circuit
+        }
+        _ => damaged(random, file, slots),
+    };
+    Check {
+        circuit,
+        ..proved.call.clone()
+    }
+}
+
+/// A change that no replay meets is accepted, where the challenge of the other
+/// file happens to be the same.
 #[test]
 fn another_circuit() {
     let mut random = Random::new(89);
     let proofs = small_proofs(&mut random);
     let mut outcomes = Outcomes::default();
     for proved in proofs.iter().cycle().take(CIRCUITS) {
-        let mut call = proved.call.clone();
-        let Setting { file, slots, n, .. } = &proved.setting;
-        call.circuit = match random.below(4) {
-            0 => {
-                let Sizes {
-                    inputs,
-                    outputs,
-                    gates,
-                    ..
-                } = proved.setting.sizes;
-                let outputs = random.pick(&[outputs, outputs, outputs + 8]);
-                Setting::of_sizes(&mut random, [inputs, outputs, gates], *n).circuit
-            }
-            _ => damaged(&mut random, file, slots),
-        };
-        outcomes.add_answer(&compare_check(&mut random, &call));
+        let call = with_another_circuit(&mut random, proved);
+        let answer = compare_check(&mut random, &call);
+        let same_challenge = || call.hidden() == proved.call.hidden();
+        assert!(answer.is_err() || same_challenge(), "{}", call.shown());
+        outcomes.add_answer(&answer);
     }
     outcomes.expect(&[0, 1, 2, 3, 4, 5, 6, 7, 10, 12, 13], 3);
+}
+
+/// Where no challenge can be expected to be the same, every other file is refused.
+#[test]
+fn another_circuit_for_a_large_proof() {
+    let mut random = Random::new(93);
+    let proofs = large_proofs(&mut random);
+    let mut outcomes = Outcomes::default();
+    for proved in proofs.iter().cycle().take(CIRCUITS / 2) {
+        let call = with_another_circuit(&mut random, proved);
+        let answer = compare_check(&mut random, &call);
+        let same_file = call.circuit == proved.call.circuit;
+        assert_eq!(answer.is_ok(), same_file, "{}", call.shown());
+        outcomes.add_answer(&answer);
+    }
+    outcomes.expect(&[0, 1, 2, 3, 4, 5, 6, 7, 12], 3);
 }
 
 /// Any M, tau and n in the header of a proof.

@@ -2,7 +2,7 @@
 //! those of what it made, so the check has to find each fault itself; a fault
 //! that the challenge does not meet is accepted, as it must be.
 
-use reference::proof::{h_star, header, hidden_parties, instances, Counts, Instance};
+use reference::proof::{h_star, instances, Counts, Instance, Statement};
 use reference::seeds::Value;
 use tests::calls::{any_bits, Setting, COUNTS};
 use tests::circuits::{File, Gate, AND};
@@ -154,14 +154,8 @@ fn any_root(random: &mut Random) -> Value {
 }
 
 /// The proof file that these instances lead to.
-fn written(instances: &[Instance], counts: Counts, message: &[u8]) -> Vec<u8> {
-    reference::proof::written(instances, counts, h_star(instances), message)
-}
-
-/// The hidden party of each instance, if chosen.
-fn hidden(call: &Check) -> Vec<Option<u8>> {
-    let (counts, h_star) = header(&call.proof).expect("a header");
-    hidden_parties(counts, h_star, &call.message)
+fn written(instances: &[Instance], counts: Counts, statement: Statement) -> Vec<u8> {
+    reference::proof::written(instances, statement, counts, h_star(instances))
 }
 
 /// Each instance is good or has any fault.
@@ -186,9 +180,9 @@ fn any_faults() {
             message: random.bytes(5),
             proof: vec![],
         };
-        let proof = written(&forged, counts, &call.message);
+        let proof = written(&forged, counts, call.statement());
         let call = Check { proof, ..call };
-        let hidden = hidden(&call);
+        let hidden = call.hidden();
         let each = faults.iter().zip(&hidden);
         let each: Vec<u32> = each.map(|(fault, p)| found(*fault, n, *p)).collect();
         let answer = compare_check(&mut random, &call);
@@ -208,7 +202,7 @@ fn no_faults() {
         let counts = Counts { m: 7, tau: 3, n };
         let root = call.root[..].try_into().expect("16 bytes");
         let made = instances(&call.circuit, &call.witness, root, counts);
-        let proof = written(&made, counts, &call.message);
+        let proof = written(&made, counts, call.statement());
         assert!(Ok(&proof) == call.by_reference().as_ref(), "n {n}");
     }
 }
@@ -253,9 +247,9 @@ fn guessed_parties() {
                 row[place / 8] ^= 1 << (place % 8);
             }
         }
-        let proof = written(&made, counts, &call.message);
+        let proof = written(&made, counts, call.statement());
         let check = call.check(&proof);
-        let each = hidden(&check).into_iter().zip(guesses);
+        let each = check.hidden().into_iter().zip(guesses);
         let mut met = each.filter_map(|(p, guess)| p.map(|p| usize::from(p) == guess));
         let expected = if met.all(|right| right) {
             Ok(())
@@ -297,8 +291,8 @@ fn repeated_broadcasts() {
             instance.masked_inputs.clone_from(&inputs);
             instance.rows.clone_from(&rows);
         }
-        let check = call.check(&written(&made, counts, &call.message));
-        let chosen = hidden(&check);
+        let check = call.check(&written(&made, counts, call.statement()));
+        let chosen = check.hidden();
         let answer = compare_check(&mut random, &check);
         let only_0 = chosen[1..].iter().all(Option::is_none);
         assert_eq!(answer.is_ok(), only_0, "{counts:?}, {chosen:?}");
@@ -321,7 +315,7 @@ fn another_h_star() {
         for bit in 0..256 {
             let mut turned = h_star(&made);
             turned[bit / 8] ^= 1 << (bit % 8);
-            let proof = reference::proof::written(&made, counts, turned, &call.message);
+            let proof = reference::proof::written(&made, call.statement(), counts, turned);
             let answer = compare_check(&mut random, &call.check(&proof));
             assert_eq!(answer, Err(13), "n {n}, bit {bit}");
         }

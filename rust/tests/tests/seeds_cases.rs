@@ -2,6 +2,7 @@
 //! implementations must give the number that stands here.
 
 use reference::seeds;
+use tests::challenges::{compare_challenge, Challenge};
 use tests::guarded::Guarded;
 use tests::random::Random;
 
@@ -55,20 +56,18 @@ fn check_open(j: u32, n: u32, p: u32, lens: [usize; 2], number: u32) {
     });
 }
 
-/// The lengths are those of h*, the message and the output. The reference has
-/// no lent output; its length is the last test.
-fn check_challenge(counts: [u32; 3], lens: [usize; 3], number: u32) {
-    let [m, tau, n] = counts;
-    let (hstar, message) = (vec![7; lens[0]], vec![8; lens[1]]);
-    refused(lens[2], number, |out| {
-        wivulameno::seeds::challenge(m, tau, n, &hstar, &message, out)
-    });
-    let mut second = seeds::challenge(m, tau, n, &hstar, &message).map(|_| ());
-    if second.is_ok() && lens[2] != 3 * tau as usize {
-        second = Err(6);
-    }
-    assert_eq!(second, Err(number), "{counts:?}, {lens:?}");
+/// The lengths are those of h*, the circuit's digest, y, the message and the
+/// output.
+fn check_challenge(counts: [u32; 3], lens: [usize; 5], number: u32) {
+    let mut random = Random::new(1);
+    let call = Challenge::of_lengths(&mut random, counts, lens);
+    let answer = compare_challenge(&mut random, &call);
+    assert_eq!(answer, Err(number), "{}", call.shown());
 }
+
+/// Lengths that are good for tau = 1, and lengths of which none is.
+const GOOD: [usize; 5] = [32, 32, 2, 5, 3];
+const BAD: [usize; 5] = [31, 33, 0, 4097, 2];
 
 #[test]
 fn refusals_of_expand() {
@@ -115,32 +114,57 @@ fn refusals_of_open() {
 
 #[test]
 fn refusals_of_challenge_for_counts() {
+    let check = |counts| {
+        check_challenge(counts, GOOD, 8);
+        check_challenge(counts, BAD, 8);
+        for (place, len) in BAD.into_iter().enumerate() {
+            let mut lens = GOOD;
+            lens[place] = len;
+            check_challenge(counts, lens, 8);
+        }
+    };
     for m in [0, 1, 513, 514, 1024, 65_536 + 4, 1 << 31, u32::MAX] {
-        check_challenge([m, 1, 2], [32, 5, 3], 8);
-        check_challenge([m, 1, 2], [0, 4097, 0], 8);
+        check([m, 1, 2]);
     }
     for tau in [0, 4, 5, 256 + 1, 65_536 + 1, 1 << 31, u32::MAX] {
-        check_challenge([4, tau, 2], [32, 5, 3], 8);
-        check_challenge([4, tau, 2], [0, 4097, 0], 8);
+        check([4, tau, 2]);
     }
     for m in [2, 3, 17, 512] {
-        check_challenge([m, m, 2], [32, 5, 3 * m as usize], 8);
+        check([m, m, 2]);
+        check_challenge([m, m, 2], [32, 32, 2, 5, 3 * m as usize], 8);
     }
     for n in NOT_A_COUNT {
-        check_challenge([4, 1, n], [32, 5, 3], 8);
-        check_challenge([4, 1, n], [0, 4097, 0], 8);
+        check([4, 1, n]);
     }
 }
 
 #[test]
 fn refusals_of_challenge_for_lengths() {
     for len in [0, 1, 31, 33, 64, 256 + 32] {
-        check_challenge([4, 1, 2], [len, 5, 3], 6);
+        check_challenge([4, 1, 2], [len, 32, 2, 5, 3], 6);
+        check_challenge([4, 1, 2], [32, len, 2, 5, 3], 6);
+    }
+    // A y of 256 + 1 bytes, or of 65,536 + 1, is not one of 1 byte.
+    for len in [0, 33, 34, 64, 256, 256 + 1, 65_536 + 1] {
+        check_challenge([4, 1, 2], [32, 32, len, 5, 3], 6);
     }
     for len in [4097, 4098, 65_536, 65_536 + 5] {
-        check_challenge([4, 1, 2], [32, len, 3], 6);
+        check_challenge([4, 1, 2], [32, 32, 2, len, 3], 6);
     }
     for len in [0, 1, 2, 3, 5, 7, 8, 9, 12, 256 + 6] {
-        check_challenge([4, 2, 2], [32, 5, len], 6);
+        check_challenge([4, 2, 2], [32, 32, 2, 5, len], 6);
+    }
+    check_challenge([4, 1, 2], BAD, 6);
+}
+
+/// Lengths at both ends, and a y whose unused bits are set: nothing is refused.
+#[test]
+fn lengths_that_a_challenge_accepts() {
+    let mut random = Random::new(2);
+    for (y, message) in [(1, 0), (32, 4096), (1, 4096), (32, 0)] {
+        let mut call = Challenge::any(&mut random, [4, 2, 2], y, message);
+        call.y.fill(0xff);
+        let answer = compare_challenge(&mut random, &call);
+        assert_eq!(answer.map(|out| out.len()), Ok(6), "{}", call.shown());
     }
 }

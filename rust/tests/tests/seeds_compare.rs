@@ -1,6 +1,7 @@
 //! The library and the reference give the same leaves, openings and challenges.
 
 use reference::seeds::{self, Value};
+use tests::challenges::{compare_challenge, Challenge};
 use tests::guarded::Guarded;
 use tests::random::Random;
 
@@ -84,27 +85,15 @@ fn instances_differ() {
     }
 }
 
-fn compare_challenge(random: &mut Random, counts: [u32; 3], message_len: usize) {
-    let [m, tau, n] = counts;
-    let hstar = Guarded::new(random, 2, 32);
-    let message = Guarded::new(random, 7, message_len);
-    let mut out = Guarded::new(random, 5, 3 * tau as usize);
-    let ours = wivulameno::seeds::challenge(m, tau, n, hstar.get(), message.get(), out.lent());
-    assert_eq!(ours, Ok(()), "{counts:?}, message of {message_len}");
-
-    let chosen = seeds::challenge(m, tau, n, hstar.get(), message.get());
-    let chosen = chosen.expect("no refusal");
-    let packed = chosen.iter().flat_map(|&(instance, party)| {
-        let [low, high] = instance.to_le_bytes();
-        [low, high, party]
+/// A good call by both, whose answer is in form.
+fn compare(random: &mut Random, counts: [u32; 3], y: usize, message: usize) {
+    let call = Challenge::any(random, counts, y, message);
+    let out = compare_challenge(random, &call).expect("no refusal");
+    let chosen = out.chunks(3).map(|bytes| {
+        let [low, high, party] = bytes.try_into().expect("three bytes");
+        (u16::from_le_bytes([low, high]), party)
     });
-    let expected: Vec<u8> = packed.collect();
-    assert!(
-        out.get() == expected,
-        "{counts:?}, message of {message_len}"
-    );
-    assert!(out.outside_unchanged() && hstar.unchanged() && message.unchanged());
-    check_form(counts, &chosen);
+    check_form(counts, &chosen.collect::<Vec<_>>());
 }
 
 /// A challenge is tau instances below m, ascending, with parties below n.
@@ -124,8 +113,8 @@ fn challenges_for_every_m() {
         let between = random.from_to(1, m - 1);
         for tau in [1, m - 1, between] {
             let n = random.pick(&COUNTS);
-            let message_len = random.below(300);
-            compare_challenge(&mut random, [m as u32, tau as u32, n], message_len);
+            let (y, message) = (random.from_to(1, 32), random.below(300));
+            compare(&mut random, [m as u32, tau as u32, n], y, message);
         }
     }
 }
@@ -136,19 +125,35 @@ fn challenges_for_every_tau() {
     for m in 2..=12 {
         for tau in 1..m {
             for n in COUNTS {
-                compare_challenge(&mut random, [m, tau, n], 10);
+                compare(&mut random, [m, tau, n], 3, 10);
+            }
+        }
+    }
+}
+
+/// Both ends, and every length about the ends of the blocks of 136 bytes, of which
+/// 72 and those of y come before the message.
+#[test]
+fn challenges_for_message_lengths() {
+    let mut random = Random::new(55);
+    for y in [1, 2, 17, 32] {
+        let near_rate = [136, 272].map(|rate| (rate - 72 - y - 3)..=(rate - 72 - y + 3));
+        for message in MESSAGES.into_iter().chain(near_rate.into_iter().flatten()) {
+            for n in COUNTS {
+                compare(&mut random, [40, 11, n], y, message);
             }
         }
     }
 }
 
 #[test]
-fn challenges_for_message_lengths() {
-    let mut random = Random::new(55);
-    let near_rate = (90..=110).chain(230..=245);
-    for message_len in MESSAGES.into_iter().chain(near_rate) {
+fn challenges_for_y_lengths() {
+    let mut random = Random::new(56);
+    for y in 1..=32 {
         for n in COUNTS {
-            compare_challenge(&mut random, [40, 11, n], message_len);
+            for message in [0, 1, 300] {
+                compare(&mut random, [40, 11, n], y, message);
+            }
         }
     }
 }

@@ -50,8 +50,13 @@ fn trees_challenges_and_shelves() {
         let (mut leaves, mut out) = ([0; 256], [0; 3 * 511]);
         let expanded = wivulameno::seeds::expand(0, 16, &[1; 16], &mut leaves);
         assert_eq!(expanded, Ok(()));
-        let message = [0; 4096];
-        let drawn = wivulameno::seeds::challenge(512, 511, 16, &[1; 32], &message, &mut out);
+        let input = wivulameno::seeds::ChallengeInput {
+            h_star: &[1; 32],
+            circuit_digest: &[2; 32],
+            y: &[3; 32],
+            message: &[0; 4096],
+        };
+        let drawn = wivulameno::seeds::challenge(512, 511, 16, input, &mut out);
         assert_eq!(drawn, Ok(()));
         let slots: Vec<usize> = (1..=255).collect();
         let mut page = tests::pages::page(&slots, &[], 0);

@@ -15,7 +15,7 @@
 //! ```
 //! use wivulameno::circuit::sizes;
 //! use wivulameno::proof::{check, longest_proof, prove, Counts, Statement};
-//! use wivulameno::{Refusal, Shelf};
+//! use wivulameno::Shelf;
 //!
 //! # let folder = std::env::temp_dir().join(format!("wivulameno-lib-{}", std::process::id()));
 //! # std::fs::create_dir_all(&folder)?;
@@ -37,8 +37,8 @@
 //! check(statement, &proof)?;
 //! let bits = Counts::of_proof(&proof).and_then(Counts::soundness_bits);
 //! assert!(bits >= Some(128.0));
-//! let other = Statement { y: &[0], ..statement };
-//! assert_eq!(check(other, &proof), Err(Refusal::Output));
+//! let other = Statement { message: b"order 4712", ..statement };
+//! assert!(check(other, &proof).is_err());
 //! # std::fs::remove_dir_all(&folder)?;
 //! # Ok::<(), Box<dyn std::error::Error>>(())
 //! ```

@@ -42,7 +42,8 @@ extern "C" {
 }
 
 /// What is proved: that the prover knows a witness for which the circuit gives
-/// y. The message is bound to the proof.
+/// y. A proof is bound to all three: the challenge covers the circuit file, y and
+/// the message.
 #[derive(Clone, Copy, Debug, PartialEq, Eq)]
 pub struct Statement<'a> {
     /// The circuit file.
@@ -115,9 +116,10 @@ pub fn prove(
 /// Is this a proof of the statement? Any legal counts are accepted: a caller who
 /// wants so many bits asks [`Counts::of_proof`] and [`Counts::soundness_bits`].
 ///
-/// Refuses with 1 to 5 for the circuit, 6 or 7 for y and the message, 11 or 12
-/// for what is no proof of such a circuit, and 7, 10 or 13 for a proof that does
-/// not hold.
+/// Refuses with 1 to 5 for the circuit, 6 or 7 for y and the message, 11 for what
+/// does not begin as a proof, and 12, 7, 10 or 13 for a proof that does not hold.
+/// With another circuit file, y, message, M, tau or n than the prover's, the
+/// challenge is another one, and the first of these four that is met is given.
 pub fn check(statement: Statement, proof: &[u8]) -> Result<(), Refusal> {
     let Statement {
         circuit,

@@ -27,6 +27,10 @@ extern "C" {
         n: u32,
         hstar: *const u8,
         hstar_len: usize,
+        digest: *const u8,
+        digest_len: usize,
+        y: *const u8,
+        y_len: usize,
         message: *const u8,
         message_len: usize,
         out: *mut u8,
@@ -68,24 +72,52 @@ pub fn open(j: u32, n: u32, p: u32, master: &[u8], siblings: &mut [u8]) -> Resul
     })
 }
 
-/// Fills `out` with 3 bytes for each chosen instance: its number and its hidden
-/// party. Refuses with 8, 6.
+/// What a challenge covers beside M, tau and n: the first message of the proof,
+/// h*, and the statement.
+#[derive(Clone, Copy, Debug)]
+pub struct ChallengeInput<'a> {
+    /// 32 bytes.
+    pub h_star: &'a [u8],
+    /// SHA3-256 of the circuit file, 32 bytes.
+    pub circuit_digest: &'a [u8],
+    /// The claimed outputs, packed into 1 to 32 bytes. Unused bits are not tested.
+    pub y: &'a [u8],
+    /// Up to [`MAX_MESSAGE`](crate::limits::MAX_MESSAGE) bytes.
+    pub message: &'a [u8],
+}
+
+/// Fills `out` with 3 bytes for each chosen instance, ascending: its number (two
+/// bytes, the lower first) and its hidden party. They are drawn from SHAKE256 of
+/// 6, h*, M, tau (two bytes each), n, the circuit's digest, y, the message's length
+/// (two bytes) and the message.
+///
+/// Refuses with 8 for M, tau or n, 6 for a length that is not as in
+/// [`ChallengeInput`], or an `out` that is not of 3 tau bytes.
 pub fn challenge(
     m: u32,
     tau: u32,
     n: u32,
-    hstar: &[u8],
-    message: &[u8],
+    input: ChallengeInput,
     out: &mut [u8],
 ) -> Result<(), Refusal> {
+    let ChallengeInput {
+        h_star,
+        circuit_digest,
+        y,
+        message,
+    } = input;
     // SAFETY: the slices are valid for their lengths and `out` overlaps no other.
     answer(unsafe {
         wv_challenge(
             m,
             tau,
             n,
-            hstar.as_ptr(),
-            hstar.len(),
+            h_star.as_ptr(),
+            h_star.len(),
+            circuit_digest.as_ptr(),
+            circuit_digest.len(),
+            y.as_ptr(),
+            y.len(),
             message.as_ptr(),
             message.len(),
             out.as_mut_ptr(),

@@ -4,8 +4,8 @@
 use wivulameno::circuit::{read, sizes, Sizes};
 use wivulameno::limits::*;
 use wivulameno::proof::{check, longest_proof, proof_len, prove, Counts, Statement};
-use wivulameno::seeds::{challenge, expand};
-use wivulameno::{shelf, Refusal};
+use wivulameno::seeds::{challenge, expand, ChallengeInput};
+use wivulameno::{sha3_256, shelf, Refusal};
 
 /// A circuit whose gates are INV, one after the other from wire 0; all outputs
 /// are wire 0.
@@ -64,7 +64,13 @@ fn of_counts() {
         for tau in taus {
             for n in ns {
                 let mut out = vec![0; 3 * tau.min(600) as usize];
-                let answer = challenge(m, tau, n, &[7; DIGEST_LEN], b"", &mut out);
+                let input = ChallengeInput {
+                    h_star: &[7; DIGEST_LEN],
+                    circuit_digest: &[8; DIGEST_LEN],
+                    y: &[1],
+                    message: b"",
+                };
+                let answer = challenge(m, tau, n, input, &mut out);
                 let legal = Counts { m, tau, n }.are_legal();
                 assert_eq!(answer != Err(Refusal::Counts), legal, "{m} {tau} {n}");
             }
@@ -119,10 +125,15 @@ fn of_messages() {
 }
 
 /// How many chosen instances of a proof hide the last party.
-fn hiding_last(proof: &[u8], Counts { m, tau, n }: Counts, message: &[u8]) -> u32 {
+fn hiding_last(proof: &[u8], Counts { m, tau, n }: Counts, statement: Statement) -> u32 {
     let mut chosen = vec![0; 3 * tau as usize];
-    let hstar = &proof[PROOF_HEADER_LEN - DIGEST_LEN..PROOF_HEADER_LEN];
-    challenge(m, tau, n, hstar, message, &mut chosen).expect("no refusal");
+    let input = ChallengeInput {
+        h_star: &proof[PROOF_HEADER_LEN - DIGEST_LEN..PROOF_HEADER_LEN],
+        circuit_digest: &sha3_256(statement.circuit),
+        y: statement.y,
+        message: statement.message,
+    };
+    challenge(m, tau, n, input, &mut chosen).expect("no refusal");
     let is_last = |instance: &&[u8]| u32::from(instance[2]) == n - 1;
     chosen.chunks(3).filter(is_last).count() as u32
 }
@@ -142,7 +153,7 @@ fn lengths_of_proofs() {
             proof.truncate(len);
             assert_eq!(check(k(&message), &proof), Ok(()));
             assert_eq!(Counts::of_proof(&proof), Some(counts));
-            let last = hiding_last(&proof, counts, &message);
+            let last = hiding_last(&proof, counts, k(&message));
             assert_eq!(proof_len(sizes, counts, last), Some(len), "{counts:?}");
         }
     }

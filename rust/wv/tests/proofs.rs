@@ -79,15 +79,17 @@ fn two_proofs_take_two_roots() {
     ready(&folder, 1);
 }
 
-/// The challenge follows from h* and the message. With another message it asks
-/// for other instances: then the length differs (12), or an unused bit is set
-/// (7), or an output (10), or the digest (13), whatever comes first.
+/// The challenge follows from h* and the statement. With another circuit file, y
+/// or message it asks for other instances: then the length differs (12), or an
+/// unused bit is set (7), or an output (10), or the digest (13), whatever comes
+/// first.
 fn assert_does_not_hold(ended: &common::Ended) {
     let numbers = [7, 10, 12, 13];
     let starts = numbers.map(|number| format!("wv: refused {number}: "));
     let found = starts.iter().any(|start| ended.err.starts_with(start));
     assert!(ended.status == 1 && found, "{ended:?}");
-    assert!(ended.err.contains("than the prover's"), "{ended:?}");
+    let cause = "another y, message or circuit than the prover's";
+    assert!(ended.err.contains(cause), "{ended:?}");
     assert_eq!(ended.out, b"", "{ended:?}");
 }
 
@@ -104,7 +106,13 @@ fn refused_proofs() {
     accepted.says("accepted, M 12, tau 4, n 4, soundness 7.4 bits\n");
     assert_does_not_hold(&check("hex:f50100", "order 8", &proof));
     assert_does_not_hold(&folder.wv(&format!("{CHECK} --message text:other")));
-    check("hex:f40100", "order 7", &proof).refused(10, "another y, message or circuit");
+    assert_does_not_hold(&check("hex:f40100", "order 7", &proof));
+    // With the 17 outputs in another order it is another circuit of the same sizes.
+    let mut circuit = covers16();
+    circuit[8..8 + 2 * 17].rotate_left(2);
+    folder.write("other.circuit", &circuit);
+    let line = CHECK.replace("covers16", "other");
+    assert_does_not_hold(&folder.wv(&format!("{line} {ORDER} --bits 0")));
     check("hex:f501", "a", &proof).refused(6, "--y has 2 bytes, the circuit asks for 3");
     check("hex:f50102", "a", &proof).refused(7, "--y has bits set behind its 17");
     check("hex:f50100", "a", &proof[..37]).refused(11, "standard input is no proof");
@@ -124,7 +132,7 @@ fn changed_proofs() {
         let line = CHECK.replace("proof", name);
         folder.wv(&format!("{line} {ORDER}"))
     };
-    let cut = "cut: another message or circuit than the prover's, or a proof that was cut";
+    let cut = "cut: another y, message or circuit than the prover's, or a proof that was cut";
     check("cut", &proof[..proof.len() - 1]).refused(12, cut);
     check("long", &[&proof[..], &[0]].concat()).refused(12, "long: ");
     for place in [6, 37, 38, proof.len() - 1] {

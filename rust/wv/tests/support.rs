@@ -257,11 +257,14 @@ fn checks_for_programs() {
     let start = "{\"accepted\":false,\"m\":145,\"tau\":66,\"n\":8,\"bits\":128.0,\
                  \"refused\":null,\"message\":\"refused: proof: the proof holds";
     assert!(few.text().starts_with(start), "{few:?}");
-    let other = folder.wv(&format!("{check} hex:f40100"));
-    other.refused(10, "another y, message or circuit than the prover's");
-    let start = "{\"accepted\":false,\"refused\":10,\"message\":\"refused 10: ";
-    assert!(other.text().starts_with(start), "{other:?}");
-    assert!(other.text().ends_with("\"}\n"), "{other:?}");
+    let proof = folder.read("proof");
+    folder.write("cut", &proof[..proof.len() - 1]);
+    let check = check.replace("proof", "cut");
+    let cut = folder.wv(&format!("{check} hex:f50100"));
+    cut.refused(12, "another y, message or circuit than the prover's");
+    let start = "{\"accepted\":false,\"refused\":12,\"message\":\"refused 12: ";
+    assert!(cut.text().starts_with(start), "{cut:?}");
+    assert!(cut.text().ends_with("\"}\n"), "{cut:?}");
 }
 
 #[test]

@@ -2,7 +2,7 @@
 -- Assumes nothing.
 use mathlib.Core.Path.{_∙_}
 use borrow.Author.Needs.{needs}
-use Rattle.mpc.proofs.Opened.{opened}
+use Rattle.mpc.proofs.Opened.{opened, opened-legal}
 use Rattle.checking.proofs.Outcomes.{check-refused, check-read}
 use Rattle.checking.proofs.check.Statement.{statement}
 use Rattle.checking.proofs.check.Tie as tie
@@ -17,7 +17,7 @@ enum-known-answer-2 : tie.Need-enum-known-answer-2
 enum-known-answer-2 c = search needs
 
 check-lent-requires : tie.Need-check-lent-requires
-check-lent-requires c κs = opened _ _ _ (c .before .answer2 .given .1) (c .before .before .before .read .ensures)
+check-lent-requires c κs = (opened-legal _ _ _ (c .before .answer2 .given .1) (c .before .before .before .read .ensures), opened _ _ _ (c .before .answer2 .given .1) (c .before .before .before .read .ensures))
 
 returns : tie.Need-returns
 returns c = check-refused _ _ _ _ _ (c .before .before .before .read .ensures) _ (c .before .answer .given .1)

@@ -2,65 +2,67 @@
 -- Assumes nothing.
 use native.Mathlib.Omega.{arith}
 use Rattle.checking.proofs.Headers.{header-long, headed-few}
-use Rattle.checking.proofs.Checks.{choices-asking, check-length, check-sized, check-unused, check-zero, check-output, check-digest, check-accepted}
+use Rattle.checking.proofs.Checks.{header-drawable, choices-asking, check-length, check-sized, check-unused, check-zero, check-output, check-digest, check-accepted}
 use Rattle.checking.proofs.check_in.Statement.{statement}
 use Rattle.checking.proofs.check_in.Tie as tie
 
-sub-challenge : tie.Need-sub-challenge
-sub-challenge c = omega arith
+sub-draw-challenge : tie.Need-sub-draw-challenge
+sub-draw-challenge c = omega arith
 
-part-challenge-start : tie.Need-part-challenge-start
-part-challenge-start c = omega arith
+part-draw-challenge-start : tie.Need-part-draw-challenge-start
+part-draw-challenge-start c = omega arith
 
-part-challenge-end : tie.Need-part-challenge-end
-part-challenge-end c = omega (arith, header-long (c .before .before .before .before .before .before .before .args .proof .now) (c .before .before .before .before .before .before .before .pre .1 .0 .good))
+part-draw-challenge-end : tie.Need-part-draw-challenge-end
+part-draw-challenge-end c = omega (arith, header-long (c .before .before .before .before .before .before .before .args .proof .now) (c .before .before .before .before .before .before .before .pre .1 .0 .good))
 
-challenge-requires : tie.Need-challenge-requires
-challenge-requires c κs = tt
+draw-challenge-requires : tie.Need-draw-challenge-requires
+draw-challenge-requires c κs =
+    let p = c .before .before .before .before .before .before .before .before .before .pre in
+    header-drawable _ _ _ _ _ _ _ (p .1 .0) (p .1 .1)
 
 proof-bytes-requires : tie.Need-proof-bytes-requires
 proof-bytes-requires c κs =
     let x = c .before .before .before .before .before .before .before .before .before .before .before .before .before .args in
     let p = c .before .before .before .before .before .before .before .before .before .before .before .before .before .pre in
-    let q = c .before .before .before .challenge in
-    (p .0 .known, (p .0 .tree, (headed-few _ _ _ _ _ (p .1 .0), choices-asking (x .s .now) (x .m) (x .tau) (x .n) (x .message .now) (x .proof .now) (x .choices .now) (q .last .1 .1 .1 .1 .1 .0) (q .result) (p .1 .0) (p .1 .1) (q .ensures))))
+    let q = c .before .before .before .draw-challenge in
+    (p .0 .known, (p .0 .tree, (headed-few _ _ _ _ _ _ (p .1 .0), choices-asking (x .s .now) (x .m) (x .tau) (x .n) (x .y .now) (x .message .now) (x .proof .now) _ (p .1 .0) (q .ensures))))
 
 same-length : tie.Need-same-length
-same-length c = c .before .before .before .before .before .challenge .kept .1 .1 .1 .1 .1 .0
+same-length c = c .before .before .before .before .before .draw-challenge .kept .1 .1 .1 .1 .1 .1 .1 .0
 
 returns : tie.Need-returns
 returns c =
     let x = c .before .before .before .before .before .before .before .before .before .before .before .before .before .before .before .args in
     let p = c .before .before .before .before .before .before .before .before .before .before .before .before .before .before .before .pre in
-    let q = c .before .before .before .before .before .challenge in
-    check-length (x .s .now) (x .m) (x .tau) (x .n) (x .message .now) (x .proof .now) (x .choices .now) (q .last .1 .1 .1 .1 .1 .0) (q .result) (p .1 .0) (p .1 .1) (q .ensures) (x .y .now) _ (c .before .proof-bytes .ensures) (c .if1 .taken)
+    let q = c .before .before .before .before .before .draw-challenge in
+    check-length (x .s .now) (x .m) (x .tau) (x .n) (x .y .now) (x .message .now) (x .proof .now) _ (p .1 .0) (q .ensures) _ (c .before .proof-bytes .ensures) (c .if1 .taken)
 
 all-unused-requires : tie.Need-all-unused-requires
 all-unused-requires c κs =
     let x = c .before .before .before .before .before .before .before .before .before .before .before .before .before .before .before .before .args in
     let p = c .before .before .before .before .before .before .before .before .before .before .before .before .before .before .before .before .pre in
-    let q = c .before .before .before .before .before .before .challenge in
-    (p .0 .known, (p .0 .tree, check-sized (x .s .now) (x .m) (x .tau) (x .n) (x .message .now) (x .proof .now) (x .choices .now) (q .last .1 .1 .1 .1 .1 .0) (q .result) (p .1 .0) (p .1 .1) (q .ensures) (x .y .now) _ (c .before .before .proof-bytes .ensures) (c .before .if1 .left)))
+    let q = c .before .before .before .before .before .before .draw-challenge in
+    (p .0 .known, (p .0 .tree, check-sized (x .s .now) (x .m) (x .tau) (x .n) (x .y .now) (x .message .now) (x .proof .now) _ (p .1 .0) (q .ensures) _ (c .before .before .proof-bytes .ensures) (c .before .if1 .left)))
 
 same-length-2 : tie.Need-same-length-2
-same-length-2 c = c .before .before .before .before .before .before .before .before .challenge .kept .1 .1 .1 .1 .1 .0
+same-length-2 c = c .before .before .before .before .before .before .before .before .draw-challenge .kept .1 .1 .1 .1 .1 .1 .1 .0
 
 returns-2 : tie.Need-returns-2
 returns-2 c =
     let x = c .before .before .before .before .before .before .before .before .before .before .before .before .before .before .before .before .before .before .args in
     let p = c .before .before .before .before .before .before .before .before .before .before .before .before .before .before .before .before .before .before .pre in
-    let q = c .before .before .before .before .before .before .before .before .challenge in
-    check-unused (x .s .now) (x .m) (x .tau) (x .n) (x .message .now) (x .proof .now) (x .choices .now) (q .last .1 .1 .1 .1 .1 .0) (q .result) (p .1 .0) (p .1 .1) (q .ensures) (x .y .now) _ (c .before .before .before .before .proof-bytes .ensures) (c .before .before .before .if1 .left) _ (c .before .all-unused .ensures) (c .if2 .taken)
+    let q = c .before .before .before .before .before .before .before .before .draw-challenge in
+    check-unused (x .s .now) (x .m) (x .tau) (x .n) (x .y .now) (x .message .now) (x .proof .now) _ (p .1 .0) (q .ensures) _ (c .before .before .before .before .proof-bytes .ensures) (c .before .before .before .if1 .left) _ (c .before .all-unused .ensures) (c .if2 .taken)
 
 recompute-requires : tie.Need-recompute-requires
 recompute-requires c κs =
     let x = c .before .before .before .before .before .before .before .before .before .before .before .before .before .before .before .before .before .before .before .before .before .args in
     let p = c .before .before .before .before .before .before .before .before .before .before .before .before .before .before .before .before .before .before .before .before .before .pre in
-    let q = c .before .before .before .before .before .before .before .before .before .before .before .challenge in
-    (p .0, (check-sized (x .s .now) (x .m) (x .tau) (x .n) (x .message .now) (x .proof .now) (x .choices .now) (q .last .1 .1 .1 .1 .1 .0) (q .result) (p .1 .0) (p .1 .1) (q .ensures) (x .y .now) _ (c .before .before .before .before .before .before .before .proof-bytes .ensures) (c .before .before .before .before .before .before .if1 .left), check-zero (x .s .now) (x .m) (x .tau) (x .n) (x .message .now) (x .proof .now) (x .choices .now) (q .last .1 .1 .1 .1 .1 .0) (q .result) (p .1 .0) (p .1 .1) (q .ensures) (x .y .now) _ (c .before .before .before .before .before .before .before .proof-bytes .ensures) (c .before .before .before .before .before .before .if1 .left) _ (c .before .before .before .before .all-unused .ensures) (c .before .before .before .if2 .left)))
+    let q = c .before .before .before .before .before .before .before .before .before .before .before .draw-challenge in
+    (p .0, (check-sized (x .s .now) (x .m) (x .tau) (x .n) (x .y .now) (x .message .now) (x .proof .now) _ (p .1 .0) (q .ensures) _ (c .before .before .before .before .before .before .before .proof-bytes .ensures) (c .before .before .before .before .before .before .if1 .left), check-zero (x .s .now) (x .m) (x .tau) (x .n) (x .y .now) (x .message .now) (x .proof .now) _ (p .1 .0) (q .ensures) _ (c .before .before .before .before .before .before .before .proof-bytes .ensures) (c .before .before .before .before .before .before .if1 .left) _ (c .before .before .before .before .all-unused .ensures) (c .before .before .before .if2 .left)))
 
 same-length-3 : tie.Need-same-length-3
-same-length-3 c = c .before .before .before .before .before .before .before .before .before .before .before .before .before .before .before .before .before .challenge .kept .1 .1 .1 .1 .1 .0
+same-length-3 c = c .before .before .before .before .before .before .before .before .before .before .before .before .before .before .before .before .before .draw-challenge .kept .1 .1 .1 .1 .1 .1 .1 .0
 
 same-length-4 : tie.Need-same-length-4
 same-length-4 c = c .before .before .before .before .before .recompute .kept .1 .1 .1 .1 .1 .1 .1 .1 .0
@@ -72,9 +74,9 @@ returns-3 : tie.Need-returns-3
 returns-3 c =
     let x = c .before .before .before .before .before .before .before .before .before .before .before .before .before .before .before .before .before .before .before .before .before .before .before .before .before .before .before .args in
     let p = c .before .before .before .before .before .before .before .before .before .before .before .before .before .before .before .before .before .before .before .before .before .before .before .before .before .before .before .pre in
-    let q = c .before .before .before .before .before .before .before .before .before .before .before .before .before .before .before .before .before .challenge in
+    let q = c .before .before .before .before .before .before .before .before .before .before .before .before .before .before .before .before .before .draw-challenge in
     let r = c .before .before .before .before .before .recompute in
-    check-output (x .s .now) (x .m) (x .tau) (x .n) (x .message .now) (x .proof .now) (x .choices .now) (q .last .1 .1 .1 .1 .1 .0) (q .result) (p .1 .0) (p .1 .1) (q .ensures) (x .y .now) _ (c .before .before .before .before .before .before .before .before .before .before .before .before .before .proof-bytes .ensures) (c .before .before .before .before .before .before .before .before .before .before .before .before .if1 .left) _ (c .before .before .before .before .before .before .before .before .before .before .all-unused .ensures) (c .before .before .before .before .before .before .before .before .before .if2 .left) _ (r .ensures .0) (c .if3 .taken)
+    check-output (x .s .now) (x .m) (x .tau) (x .n) (x .y .now) (x .message .now) (x .proof .now) _ (p .1 .0) (q .ensures) _ (c .before .before .before .before .before .before .before .before .before .before .before .before .before .proof-bytes .ensures) (c .before .before .before .before .before .before .before .before .before .before .before .before .if1 .left) _ (c .before .before .before .before .before .before .before .before .before .before .all-unused .ensures) (c .before .before .before .before .before .before .before .before .before .if2 .left) _ (r .ensures .0) (c .if3 .taken)
 
 sub-same : tie.Need-sub-same
 sub-same c = omega arith
@@ -89,7 +91,7 @@ same-requires : tie.Need-same-requires
 same-requires c κs = tt
 
 same-length-6 : tie.Need-same-length-6
-same-length-6 c = c .before .before .before .before .before .before .before .before .before .before .before .before .before .before .before .before .before .before .before .before .before .before .before .challenge .kept .1 .1 .1 .1 .1 .0
+same-length-6 c = c .before .before .before .before .before .before .before .before .before .before .before .before .before .before .before .before .before .before .before .before .before .before .before .draw-challenge .kept .1 .1 .1 .1 .1 .1 .1 .0
 
 same-length-7 : tie.Need-same-length-7
 same-length-7 c = c .before .before .before .before .before .before .before .before .before .before .before .recompute .kept .1 .1 .1 .1 .1 .1 .1 .1 .0
@@ -101,12 +103,12 @@ returns-4 : tie.Need-returns-4
 returns-4 c =
     let x = c .before .before .before .before .before .before .before .before .before .before .before .before .before .before .before .before .before .before .before .before .before .before .before .before .before .before .before .before .before .before .before .before .before .args in
     let p = c .before .before .before .before .before .before .before .before .before .before .before .before .before .before .before .before .before .before .before .before .before .before .before .before .before .before .before .before .before .before .before .before .before .pre in
-    let q = c .before .before .before .before .before .before .before .before .before .before .before .before .before .before .before .before .before .before .before .before .before .before .before .challenge in
+    let q = c .before .before .before .before .before .before .before .before .before .before .before .before .before .before .before .before .before .before .before .before .before .before .before .draw-challenge in
     let r = c .before .before .before .before .before .before .before .before .before .before .before .recompute in
-    check-digest (x .s .now) (x .m) (x .tau) (x .n) (x .message .now) (x .proof .now) (x .choices .now) (q .last .1 .1 .1 .1 .1 .0) (q .result) (p .1 .0) (p .1 .1) (q .ensures) (x .y .now) _ (c .before .before .before .before .before .before .before .before .before .before .before .before .before .before .before .before .before .before .before .proof-bytes .ensures) (c .before .before .before .before .before .before .before .before .before .before .before .before .before .before .before .before .before .before .if1 .left) _ (c .before .before .before .before .before .before .before .before .before .before .before .before .before .before .before .before .all-unused .ensures) (c .before .before .before .before .before .before .before .before .before .before .before .before .before .before .before .if2 .left) _ (r .ensures .0) (c .before .before .before .before .before .before .if3 .left) _ (r .ensures .1) _ (c .before .same .ensures) (c .if4 .taken)
+    check-digest (x .s .now) (x .m) (x .tau) (x .n) (x .y .now) (x .message .now) (x .proof .now) _ (p .1 .0) (q .ensures) _ (c .before .before .before .before .before .before .before .before .before .before .before .before .before .before .before .before .before .before .before .proof-bytes .ensures) (c .before .before .before .before .before .before .before .before .before .before .before .before .before .before .before .before .before .before .if1 .left) _ (c .before .before .before .before .before .before .before .before .before .before .before .before .before .before .before .before .all-unused .ensures) (c .before .before .before .before .before .before .before .before .before .before .before .before .before .before .before .if2 .left) _ (r .ensures .0) (c .before .before .before .before .before .before .if3 .left) _ (r .ensures .1) _ (c .before .same .ensures) (c .if4 .taken)
 
 same-length-9 : tie.Need-same-length-9
-same-length-9 c = c .before .before .before .before .before .before .before .before .before .before .before .before .before .before .before .before .before .before .before .before .before .before .before .challenge .kept .1 .1 .1 .1 .1 .0
+same-length-9 c = c .before .before .before .before .before .before .before .before .before .before .before .before .before .before .before .before .before .before .before .before .before .before .before .draw-challenge .kept .1 .1 .1 .1 .1 .1 .1 .0
 
 same-length-10 : tie.Need-same-length-10
 same-length-10 c = c .before .before .before .before .before .before .before .before .before .before .before .recompute .kept .1 .1 .1 .1 .1 .1 .1 .1 .0
@@ -118,18 +120,18 @@ returns-5 : tie.Need-returns-5
 returns-5 c =
     let x = c .before .before .before .before .before .before .before .before .before .before .before .before .before .before .before .before .before .before .before .before .before .before .before .before .before .before .before .before .before .before .before .before .before .args in
     let p = c .before .before .before .before .before .before .before .before .before .before .before .before .before .before .before .before .before .before .before .before .before .before .before .before .before .before .before .before .before .before .before .before .before .pre in
-    let q = c .before .before .before .before .before .before .before .before .before .before .before .before .before .before .before .before .before .before .before .before .before .before .before .challenge in
+    let q = c .before .before .before .before .before .before .before .before .before .before .before .before .before .before .before .before .before .before .before .before .before .before .before .draw-challenge in
     let r = c .before .before .before .before .before .before .before .before .before .before .before .recompute in
-    check-accepted (x .s .now) (x .m) (x .tau) (x .n) (x .message .now) (x .proof .now) (x .choices .now) (q .last .1 .1 .1 .1 .1 .0) (q .result) (p .1 .0) (p .1 .1) (q .ensures) (x .y .now) _ (c .before .before .before .before .before .before .before .before .before .before .before .before .before .before .before .before .before .before .before .proof-bytes .ensures) (c .before .before .before .before .before .before .before .before .before .before .before .before .before .before .before .before .before .before .if1 .left) _ (c .before .before .before .before .before .before .before .before .before .before .before .before .before .before .before .before .all-unused .ensures) (c .before .before .before .before .before .before .before .before .before .before .before .before .before .before .before .if2 .left) _ (r .ensures .0) (c .before .before .before .before .before .before .if3 .left) _ (r .ensures .1) _ (c .before .same .ensures) (c .if4 .left)
+    check-accepted (x .s .now) (x .m) (x .tau) (x .n) (x .y .now) (x .message .now) (x .proof .now) _ (p .1 .0) (q .ensures) _ (c .before .before .before .before .before .before .before .before .before .before .before .before .before .before .before .before .before .before .before .proof-bytes .ensures) (c .before .before .before .before .before .before .before .before .before .before .before .before .before .before .before .before .before .before .if1 .left) _ (c .before .before .before .before .before .before .before .before .before .before .before .before .before .before .before .before .all-unused .ensures) (c .before .before .before .before .before .before .before .before .before .before .before .before .before .before .before .if2 .left) _ (r .ensures .0) (c .before .before .before .before .before .before .if3 .left) _ (r .ensures .1) _ (c .before .same .ensures) (c .if4 .left)
 
 pub check-in-spec : {M : Type 1} → statement M
 check-in-spec =
     tie.close
     (tie.spec
-    sub-challenge
-    part-challenge-start
-    part-challenge-end
-    challenge-requires
+    sub-draw-challenge
+    part-draw-challenge-start
+    part-draw-challenge-end
+    draw-challenge-requires
     proof-bytes-requires
     same-length
     returns

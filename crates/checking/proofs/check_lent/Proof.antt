@@ -17,7 +17,7 @@ both-requires c κs = tt
 returns : tie.Need-returns
 returns c =
     let x = c .before .before .before .before .before .before .before .args in
-    let p = c .before .before .before .before .before .before .before .pre in
+    let p = c .before .before .before .before .before .before .before .pre .1 in
     legal-length _ _ _ _ _ p (x .y .now) (x .message .now) (x .proof .now) _ _ (c .before .before .holds .ensures) (c .before .both .ensures) (c .if1 .taken)
 
 unused-zero-requires : tie.Need-unused-zero-requires
@@ -26,7 +26,7 @@ unused-zero-requires c κs = tt
 returns-2 : tie.Need-returns-2
 returns-2 c =
     let x = c .before .before .before .before .before .before .before .before .before .args in
-    let p = c .before .before .before .before .before .before .before .before .before .pre in
+    let p = c .before .before .before .before .before .before .before .before .before .pre .1 in
     legal-unused _ _ _ _ _ p (x .y .now) (x .message .now) (x .proof .now) _ _ (c .before .before .before .before .holds .ensures) (c .before .before .before .both .ensures) (c .before .before .if1 .left) _ (c .before .unused-zero .ensures) (c .if2 .taken)
 
 good-header-requires : tie.Need-good-header-requires
@@ -35,7 +35,7 @@ good-header-requires c κs = tt
 returns-3 : tie.Need-returns-3
 returns-3 c =
     let x = c .before .before .before .before .before .before .before .before .before .before .before .args in
-    let p = c .before .before .before .before .before .before .before .before .before .before .before .pre in
+    let p = c .before .before .before .before .before .before .before .before .before .before .before .pre .1 in
     legal-header _ _ _ _ _ p (x .y .now) (x .message .now) (x .proof .now) _ _ (c .before .before .before .before .before .before .holds .ensures) (c .before .before .before .before .before .both .ensures) (c .before .before .before .before .if1 .left) _ (c .before .before .before .unused-zero .ensures) (c .before .before .if2 .left) _ (c .before .good-header .ensures) (c .if3 .taken)
 
 read-u16-requires : tie.Need-read-u16-requires
@@ -62,13 +62,14 @@ height-requires c κs = tt
 check-with-requires : tie.Need-check-with-requires
 check-with-requires c κs =
     let x = c .before .before .before .before .before .before .before .before .before .before .before .before .before .before .before .args in
-    let p = c .before .before .before .before .before .before .before .before .before .before .before .before .before .before .before .pre in
-    (p, (legal-tree _ _ _ _ _ p (x .y .now) (x .message .now) (x .proof .now) _ _ (c .before .before .before .before .before .before .before .before .before .before .holds .ensures) (c .before .before .before .before .before .before .before .before .before .both .ensures) (c .before .before .before .before .before .before .before .before .if1 .left) _ (c .before .before .before .before .before .before .before .unused-zero .ensures) (c .before .before .before .before .before .before .if2 .left) _ (c .before .before .before .before .before .good-header .ensures) (c .before .before .before .before .if3 .left) _ _ _ (c .before .before .before .read-u16 .ensures) (c .before .before .read-u162 .ensures) refl _ (c .height .ensures), legal-headed _ _ _ _ _ p (x .y .now) (x .message .now) (x .proof .now) _ _ (c .before .before .before .before .before .before .before .before .before .before .holds .ensures) (c .before .before .before .before .before .before .before .before .before .both .ensures) (c .before .before .before .before .before .before .before .before .if1 .left) _ (c .before .before .before .before .before .before .before .unused-zero .ensures) (c .before .before .before .before .before .before .if2 .left) _ (c .before .before .before .before .before .good-header .ensures) (c .before .before .before .before .if3 .left) _ _ _ (c .before .before .before .read-u16 .ensures) (c .before .before .read-u162 .ensures) refl))
+    let r = c .before .before .before .before .before .before .before .before .before .before .before .before .before .before .before .pre .0 in
+    let p = c .before .before .before .before .before .before .before .before .before .before .before .before .before .before .before .pre .1 in
+    (p, (legal-tree _ _ _ _ _ p (x .y .now) (x .message .now) (x .proof .now) _ _ (c .before .before .before .before .before .before .before .before .before .before .holds .ensures) (c .before .before .before .before .before .before .before .before .before .both .ensures) (c .before .before .before .before .before .before .before .before .if1 .left) _ (c .before .before .before .before .before .before .before .unused-zero .ensures) (c .before .before .before .before .before .before .if2 .left) _ (c .before .before .before .before .before .good-header .ensures) (c .before .before .before .before .if3 .left) _ _ _ (c .before .before .before .read-u16 .ensures) (c .before .before .read-u162 .ensures) refl _ (c .height .ensures), legal-headed _ _ _ _ _ p (x .y .now) (x .message .now) (x .proof .now) _ _ (c .before .before .before .before .before .before .before .before .before .before .holds .ensures) (c .before .before .before .before .before .before .before .before .before .both .ensures) (c .before .before .before .before .before .before .before .before .if1 .left) _ (c .before .before .before .before .before .before .before .unused-zero .ensures) (c .before .before .before .before .before .before .if2 .left) _ (c .before .before .before .before .before .good-header .ensures) (c .before .before .before .before .if3 .left) _ _ _ (c .before .before .before .read-u16 .ensures) (c .before .before .read-u162 .ensures) refl r))
 
 returns-4 : tie.Need-returns-4
 returns-4 c =
     let x = c .before .before .before .before .before .before .before .before .before .before .before .before .before .before .before .before .args in
-    let p = c .before .before .before .before .before .before .before .before .before .before .before .before .before .before .before .before .pre in
+    let p = c .before .before .before .before .before .before .before .before .before .before .before .before .before .before .before .before .pre .1 in
     legal-done _ _ _ _ _ p (x .y .now) (x .message .now) (x .proof .now) _ _ (c .before .before .before .before .before .before .before .before .before .before .before .holds .ensures) (c .before .before .before .before .before .before .before .before .before .before .both .ensures) (c .before .before .before .before .before .before .before .before .before .if1 .left) _ (c .before .before .before .before .before .before .before .before .unused-zero .ensures) (c .before .before .before .before .before .before .before .if2 .left) _ (c .before .before .before .before .before .before .good-header .ensures) (c .before .before .before .before .before .if3 .left) _ _ _ (c .before .before .before .before .read-u16 .ensures) (c .before .before .before .read-u162 .ensures) refl _ (c .check-with .ensures)
 
 pub check-lent-spec : {M : Type 1} → statement M

@@ -10,7 +10,7 @@ use Rattle.checking.proofs.check_with.Statement.{statement}
 use Rattle.checking.proofs.check_with.Tie as tie
 
 mul-c : tie.Need-mul-c
-mul-c c = omega (arith, headed-choices _ _ _ _ _ (c .before .before .before .before .pre .1 .1))
+mul-c c = omega (arith, headed-choices _ _ _ _ _ _ (c .before .before .before .before .pre .1 .1))
 
 mul-oct : tie.Need-mul-oct
 mul-oct c = double-fits _ _ _ _ _ (c .before .before .before .before .pre .0)
@@ -36,13 +36,13 @@ add-w-2 : tie.Need-add-w-2
 add-w-2 c = work-fits _ _ _ _ _ (c .before .before .before .before .before .pre .0)
 
 array-borrow-prefix-choices : tie.Need-array-borrow-prefix-choices
-array-borrow-prefix-choices c = headed-choices _ _ _ _ _ (c .before .before .before .before .before .pre .1 .1)
+array-borrow-prefix-choices c = headed-choices _ _ _ _ _ _ (c .before .before .before .before .before .pre .1 .1)
 
 slice-aggregate-check-in : tie.Need-slice-aggregate-check-in
 slice-aggregate-check-in c =
     let x = c .before .before .before .before .before .before .args in
     let p = c .before .before .before .before .before .before .pre in
-    sym (prefix-length (3 * x .tau) 1533 (headed-choices _ _ _ _ _ (p .1 .1)))
+    sym (prefix-length (3 * x .tau) 1533 (headed-choices _ _ _ _ _ _ (p .1 .1)))
 
 array-borrow-prefix-tapes : tie.Need-array-borrow-prefix-tapes
 array-borrow-prefix-tapes c =
@@ -67,7 +67,7 @@ check-in-requires : tie.Need-check-in-requires
 check-in-requires c κs =
     let x = c .before .before .before .before .before .before .before .before .args in
     let p = c .before .before .before .before .before .before .before .before .pre in
-    (fronts-lent _ _ _ _ _ (p .0) _ _ (c .before .before .before .oct .result) (p .1 .0) (c .before .before .before .oct .ensures), (p .1 .1, prefix-length (3 * x .tau) 1533 (headed-choices _ _ _ _ _ (p .1 .1))))
+    (fronts-lent _ _ _ _ _ (p .0) _ _ (c .before .before .before .oct .result) (p .1 .0) (c .before .before .before .oct .ensures), (p .1 .1, prefix-length (3 * x .tau) 1533 (headed-choices _ _ _ _ _ _ (p .1 .1))))
 
 returns : tie.Need-returns
 returns c = c .before .before .before .check-in .ensures

@@ -1,22 +1,30 @@
--- `choice::absorb_bound` meets its contract: the length and the message taken in one after the other are the bound.
+-- `choice::absorb_bound` meets its contract: the parts taken in one after the other are the bound.
 -- Assumes nothing.
 use Rattle.bits.specs.Bytes.{leBytes}
-use Rattle.keccak.specs.declared.sponge.Sponge.{Sponge}
-use Rattle.keccak.specs.Steps.{absorbs}
-use Rattle.keccak.proofs.Steps.{absorbs-append, absorbs-room}
-use Rattle.hashing.specs.Inputs.{boundOf}
+use Rattle.choice.proofs.Bounds.{part-room, bound-taken}
 use native.Mathlib.Omega.{arith}
-use mathlib.Core.Path.{refl, sym, ap, _∙_}
-use lib.ListN.{length}
+use mathlib.Core.Path.{refl}
 use borrow.Author.Needs.{needs}
 use Rattle.choice.proofs.absorb_bound.Statement.{statement}
 use Rattle.choice.proofs.absorb_bound.Tie as tie
 
-cast-t6 : tie.Need-cast-t6
-cast-t6 c = search needs
+cast-t12 : tie.Need-cast-t12
+cast-t12 c = search needs
 
-cast-t9 : tie.Need-cast-t9
-cast-t9 c = search needs
+cast-t15 : tie.Need-cast-t15
+cast-t15 c = search needs
+
+cast-t17 : tie.Need-cast-t17
+cast-t17 c = search needs
+
+cast-t20 : tie.Need-cast-t20
+cast-t20 c = search needs
+
+cast-t20-2 : tie.Need-cast-t20-2
+cast-t20-2 c = search needs
+
+cast-t17-2 : tie.Need-cast-t17-2
+cast-t17-2 c = search needs
 
 slice-aggregate-absorb : tie.Need-slice-aggregate-absorb
 slice-aggregate-absorb c = search needs
@@ -25,15 +33,41 @@ absorb-requires : tie.Need-absorb-requires
 absorb-requires c κs = search needs
 
 absorb-requires-2 : tie.Need-absorb-requires-2
-absorb-requires-2 c κs = (omega arith, (refl, rw (c .absorb .ensures) (absorbs-room 136 (omega arith) _ _ (c .before .before .before .pre))))
+absorb-requires-2 c κs = (omega arith, (refl, part-room _ _ _ (c .before .before .before .before .before .pre) (c .absorb .ensures)))
+
+absorb-requires-3 : tie.Need-absorb-requires-3
+absorb-requires-3 c κs = (omega arith, (refl, (part-room _ _ _ (part-room _ _ _ (c .before .before .before .before .before .before .pre) (c .before .absorb .ensures)) (c .absorb2 .ensures))))
+
+slice-aggregate-absorb-2 : tie.Need-slice-aggregate-absorb-2
+slice-aggregate-absorb-2 c = search needs
+
+absorb-requires-4 : tie.Need-absorb-requires-4
+absorb-requires-4 c κs = (omega arith, (refl, (part-room _ _ _ (part-room _ _ _ (part-room _ _ _ (c .before .before .before .before .before .before .before .before .pre) (c .before .before .before .absorb .ensures)) (c .before .before .absorb2 .ensures)) (c .before .absorb3 .ensures))))
+
+absorb-requires-5 : tie.Need-absorb-requires-5
+absorb-requires-5 c κs = (omega arith, (refl, (part-room _ _ _ (part-room _ _ _ (part-room _ _ _ (part-room _ _ _ (c .before .before .before .before .before .before .before .before .before .pre) (c .before .before .before .before .absorb .ensures)) (c .before .before .before .absorb2 .ensures)) (c .before .before .absorb3 .ensures)) (c .absorb4 .ensures))))
 
 returns : tie.Need-returns
-unfolding boundOf leBytes
+unfolding leBytes
 returns c =
-    let x = c .before .before .before .before .args in
-    c .absorb2 .ensures ∙ (ap (λ (s : Sponge). absorbs 136 s (x .message .now)) (c .before .absorb .ensures) ∙ sym (absorbs-append 136 (leBytes 2 (length (x .message .now))) (x .message .now) (x .sponge)))
+    let x = c .before .before .before .before .before .before .before .before .before .before .args in
+    bound-taken (x .sponge) (x .m) (x .tau) (x .n) (x .digest .now) (x .y .now) (x .message .now) _ _ _ _ _ (c .before .before .before .before .before .before .before .before .before .before .fits .n .fits) (c .before .before .before .before .before .absorb .ensures) (c .before .before .before .before .absorb2 .ensures) (c .before .before .before .absorb3 .ensures) (c .before .absorb4 .ensures) (c .absorb5 .ensures)
 
 pub absorb-bound-spec : {M : Type 1} → statement M
 absorb-bound-spec =
     tie.close
-    (tie.spec cast-t6 cast-t9 slice-aggregate-absorb absorb-requires absorb-requires-2 returns)
+    (tie.spec
+    cast-t12
+    cast-t15
+    cast-t17
+    cast-t20
+    cast-t20-2
+    cast-t17-2
+    slice-aggregate-absorb
+    absorb-requires
+    absorb-requires-2
+    absorb-requires-3
+    slice-aggregate-absorb-2
+    absorb-requires-4
+    absorb-requires-5
+    returns)

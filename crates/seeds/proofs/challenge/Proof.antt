@@ -1,7 +1,7 @@
 -- `seeds::challenge` meets its contract: each refusal in order, and the challenge.
 -- Assumes nothing.
 use mathlib.Core.List.{List, [], _∷_}
-use borrow.Author.Tests.{lt-leb, le-leb, eq-eqb, ne-eqb, not-true, not-false}
+use borrow.Author.Tests.{eq-eqb, ne-eqb, not-true, not-false}
 use Rattle.refusal.specs.Outcome.{done}
 use Rattle.seeds.specs.Operations.{challengeOp}
 use Rattle.parties.proofs.Counts.{sizes, count-yes, count-no}
@@ -19,9 +19,7 @@ counts-requires c κs = search needs
 
 returns : tie.Need-returns
 unfolding challengeOp
-returns c =
-    let x = c .before .before .before .before .before .args in
-    rw ((sym (c .before .counts .ensures) ∙ not-true _ (c .if1 .taken)))
+returns c = rw ((sym (c .before .counts .ensures) ∙ not-true _ (c .if1 .taken)))
 
 height-requires : tie.Need-height-requires
 height-requires c κs = search needs
@@ -29,50 +27,47 @@ height-requires c κs = search needs
 returns-2 : tie.Need-returns-2
 unfolding challengeOp
 returns-2 c =
-    let x = c .before .before .before .before .before .before .before .args in
+    let x = c .before .before .before .before .before .before .before .before .before .args in
     rw ((sym (c .before .before .before .counts .ensures) ∙ not-false _ (c .before .before .if1 .left)), count-no (x .n) (sym (c .before .height .ensures) ∙ c .if2 .taken))
+
+statement-fits-requires : tie.Need-statement-fits-requires
+statement-fits-requires c κs = search needs
 
 returns-3 : tie.Need-returns-3
 unfolding challengeOp
 returns-3 c =
-    let x = c .before .before .before .before .before .before .before .before .args in
-    rw ((sym (c .before .before .before .before .counts .ensures) ∙ not-false _ (c .before .before .before .if1 .left)), count-yes (x .n) (λ e. c .before .if2 .left (c .before .before .height .ensures ∙ e)), ne-eqb (length (x .hstar .now)) 32 (c .if3 .taken))
+    let x = c .before .before .before .before .before .before .before .before .before .before .before .args in
+    rw ((sym (c .before .before .before .before .before .counts .ensures) ∙ not-false _ (c .before .before .before .before .if1 .left)), count-yes (x .n) (λ e. c .before .before .if2 .left (c .before .before .before .height .ensures ∙ e)), (sym (c .before .statement-fits .ensures) ∙ not-true _ (c .if3 .taken)))
+
+mul-if4 : tie.Need-mul-if4
+mul-if4 c = search needs
 
 returns-4 : tie.Need-returns-4
 unfolding challengeOp
 returns-4 c =
-    let x = c .before .before .before .before .before .before .before .before .before .args in
-    rw ((sym (c .before .before .before .before .before .counts .ensures) ∙ not-false _ (c .before .before .before .before .if1 .left)), count-yes (x .n) (λ e. c .before .before .if2 .left (c .before .before .before .height .ensures ∙ e)), eq-eqb (length (x .hstar .now)) 32 (omega (arith, c .before .if3 .left)), lt-leb (length (x .message .now)) 4096 (c .if4 .taken))
-
-mul-if5 : tie.Need-mul-if5
-mul-if5 c = search needs
-
-returns-5 : tie.Need-returns-5
-unfolding challengeOp
-returns-5 c =
-    let x = c .before .before .before .before .before .before .before .before .before .before .args in
-    rw ((sym (c .before .before .before .before .before .before .counts .ensures) ∙ not-false _ (c .before .before .before .before .before .if1 .left)), count-yes (x .n) (λ e. c .before .before .before .if2 .left (c .before .before .before .before .height .ensures ∙ e)), eq-eqb (length (x .hstar .now)) 32 (omega (arith, c .before .before .if3 .left)), le-leb (length (x .message .now)) 4096 (omega (arith, c .before .if4 .left)), ne-eqb (length (x .out .now)) (3 * x .tau) (c .if5 .taken))
+    let x = c .before .before .before .before .before .before .before .before .before .before .before .before .args in
+    rw ((sym (c .before .before .before .before .before .before .counts .ensures) ∙ not-false _ (c .before .before .before .before .before .if1 .left)), count-yes (x .n) (λ e. c .before .before .before .if2 .left (c .before .before .before .before .height .ensures ∙ e)), (sym (c .before .before .statement-fits .ensures) ∙ not-false _ (c .before .if3 .left)), ne-eqb (length (x .out .now)) (3 * x .tau) (c .if4 .taken))
 
 cast-derive : tie.Need-cast-derive
 cast-derive c =
-    let z = sizes (c .before .before .before .before .before .before .before .before .before .before .args .n) (λ e. c .before .before .before .if2 .left (c .before .before .before .before .height .ensures ∙ e)) in
+    let z = sizes (c .before .before .before .before .before .before .before .before .before .before .before .before .args .n) (λ e. c .before .before .before .if2 .left (c .before .before .before .before .height .ensures ∙ e)) in
     record { fits = omega arith }
 
 derive-requires : tie.Need-derive-requires
 derive-requires c κs =
-    let x = c .before .before .before .before .before .before .before .before .before .before .before .args in
+    let x = c .before .before .before .before .before .before .before .before .before .before .before .before .before .args in
     let z = sizes (x .n) (λ e. c .before .before .before .before .if2 .left (c .before .before .before .before .before .height .ensures ∙ e)) in
     let f = counts-fit (x .m) (x .tau) (sym (c .before .before .before .before .before .before .before .counts .ensures) ∙ not-false _ (c .before .before .before .before .before .before .if1 .left)) in
-    (f .most, (f .below, (omega arith, omega (arith, c .before .if5 .left))))
+    (f .most, (f .below, (omega arith, omega (arith, c .before .if4 .left))))
 
 same-length : tie.Need-same-length
 same-length c = search needs
 
-returns-6 : tie.Need-returns-6
+returns-5 : tie.Need-returns-5
 unfolding challengeOp
-returns-6 c =
-    let x = c .before .before .before .before .before .before .before .before .before .before .before .before .before .before .args in
-    rw ((sym (c .before .before .before .before .before .before .before .before .before .before .counts .ensures) ∙ not-false _ (c .before .before .before .before .before .before .before .before .before .if1 .left)), count-yes (x .n) (λ e. c .before .before .before .before .before .before .before .if2 .left (c .before .before .before .before .before .before .before .before .height .ensures ∙ e)), eq-eqb (length (x .hstar .now)) 32 (omega (arith, c .before .before .before .before .before .before .if3 .left)), le-leb (length (x .message .now)) 4096 (omega (arith, c .before .before .before .before .before .if4 .left)), eq-eqb (length (x .out .now)) (3 * x .tau) (omega (arith, c .before .before .before .before .if5 .left)))
+returns-5 c =
+    let x = c .before .before .before .before .before .before .before .before .before .before .before .before .before .before .before .before .args in
+    rw ((sym (c .before .before .before .before .before .before .before .before .before .before .counts .ensures) ∙ not-false _ (c .before .before .before .before .before .before .before .before .before .if1 .left)), count-yes (x .n) (λ e. c .before .before .before .before .before .before .before .if2 .left (c .before .before .before .before .before .before .before .before .height .ensures ∙ e)), (sym (c .before .before .before .before .before .before .statement-fits .ensures) ∙ not-false _ (c .before .before .before .before .before .if3 .left)), eq-eqb (length (x .out .now)) (3 * x .tau) (omega (arith, c .before .before .before .before .if4 .left)))
     (ap (λ (o : List ℕ). done (o ∷ [])) (c .before .before .derive .ensures))
 
 pub challenge-spec : {M : Type 1} → statement M
@@ -83,11 +78,11 @@ challenge-spec =
     returns
     height-requires
     returns-2
+    statement-fits-requires
     returns-3
+    mul-if4
     returns-4
-    mul-if5
-    returns-5
     cast-derive
     derive-requires
     same-length
-    returns-6)
+    returns-5)

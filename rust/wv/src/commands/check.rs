@@ -22,19 +22,20 @@ pub const CHECK: Command = Command {
     help: "\
 Accepts a proof that its maker has a witness for which the circuit gives y,
 bound to this message. Prints `accepted` with the numbers M, tau and n of the
-proof, and its soundness in bits.
+proof, and its soundness in bits. The circuit file, y and the message have to be
+the prover's, byte for byte.
 
   --y Y              the claimed output
-  --message MESSAGE  what the proof is bound to
+  --message MESSAGE  the message that the proof is bound to
   --bits B           refuse a proof whose soundness is below B bits, usually
                      128. The maker chooses M, tau and n: with small ones a
                      proof can be guessed. 0 accepts any
   --json             print an object with the keys accepted, m, tau, n, bits,
                      refused and message; the last two are null when all is well
 
-Refused with 1 to 5 for the circuit, 6 or 7 for y and the message, 11 or 12 for
-a proof that is none, 7, 10 or 13 for one that does not hold, and without a
-number for too few bits.
+Refused with 1 to 5 for the circuit, 6 or 7 for y and the message, 11 for a
+proof that is none, 12, 7, 10 or 13 for one that does not hold for this circuit,
+y and message, and without a number for too few bits.
 ",
     example: "  \
   wv check covers16.circuit order.proof --y hex:f50100 \\
@@ -120,8 +121,8 @@ impl Claim {
                 format!("{proof} is no proof, or was cut or changed at its start")
             }
             Refusal::ProofLength => format!(
-                "{proof}: another message or circuit than the prover's, or a proof that was cut \
-                 or changed"
+                "{proof}: another y, message or circuit than the prover's, or a proof that was \
+                 cut or changed"
             ),
             _ => format!(
                 "{proof}: another y, message or circuit than the prover's, or a proof that was \

@@ -23,11 +23,12 @@ pub const PROVE: Command = Command {
     help: "\
 Proves that the circuit gives y for the witness, without showing more of it.
 One root is drawn from the shelf for the proof. A call that would be refused
-draws none.
+draws none. The proof is bound to the circuit file, y and the message: whoever
+checks it needs the same bytes of all three.
 
   --shelf PAGE       the shelf, and
   --log LOG          the file that counts its draws
-  --message MESSAGE  what the proof is bound to, up to 4096 bytes
+  --message MESSAGE  up to 4096 bytes
   --out PROOF        where the proof goes
   --y Y              the claimed output; without it, what the circuit gives
   --instances M      2 to 512, usually 145
