@@ -2,8 +2,9 @@
  * wivulameno: functions over lent buffers, in the static library
  * libwivulameno.a, for x86-64 Linux.
  *
- * Every function returns 0 (WV_ACCEPTED) for success, or the number of a
- * refusal. A refused call leaves every lent byte as it was.
+ * Every function but wv_fault_slot, which tells a slot, returns 0 (WV_ACCEPTED)
+ * for success, or the number of a refusal. A refused call leaves every lent
+ * byte as it was.
  *
  * A lent buffer is a pointer and its length in bytes. The pointer is valid for
  * that length and is never NULL, not even for length 0. A const buffer is only
@@ -26,7 +27,7 @@ extern "C" {
 #define WV_VERSION_PATCH 0
 #define WV_VERSION "0.1.0"
 
-/* What a function returns. A number means the same in all of them. */
+/* What a function returns. A number means the same in all; there is no 4. */
 enum wv_answer {
     /* done; from wv_check: the proof is accepted */
     WV_ACCEPTED = 0,
@@ -36,8 +37,6 @@ enum wv_answer {
     WV_REFUSED_CIRCUIT_SIZES = 2,
     /* a gate record has an unknown kind or a field that should be zero */
     WV_REFUSED_GATE = 3,
-    /* the chain does not visit every gate exactly once and then end */
-    WV_REFUSED_CHAIN = 4,
     /* a gate reads a wire not written by then, or an output is no wire */
     WV_REFUSED_WIRE = 5,
     /* an input or a buffer has not the length that is asked for */
@@ -65,7 +64,13 @@ enum wv_answer {
     /* the shelf has no room for another root */
     WV_REFUSED_FULL = 17,
     /* the shelf has counted as many draws as it can */
-    WV_REFUSED_SPENT = 18
+    WV_REFUSED_SPENT = 18,
+    /* a link of the chain leads beyond the last slot; see wv_fault_slot */
+    WV_REFUSED_CHAIN_BEYOND = 19,
+    /* the chain ends before every slot is visited; see wv_fault_slot */
+    WV_REFUSED_CHAIN_SHORT = 20,
+    /* the chain does not end after as many slots as there are; see there too */
+    WV_REFUSED_CHAIN_LONG = 21
 };
 
 /* The limits. Those of circuit, message and proof, and each _LEN, are bytes. */
@@ -115,28 +120,41 @@ uint32_t wv_shake256(const uint8_t *data, size_t len,
  * are the inputs; slot k writes wire I + k - 1.
  *
  * Every function that is lent a circuit refuses it in this order:
- *   1  it is shorter than 8 bytes
- *   2  I, O or G is out of its limits
- *   1  its length is not 8 + 2 O + 8 G
- *   3  a record with another kind, a nonzero second byte, or INV with b not 0
- *   4  the chain from the first slot does not meet every slot exactly once
- *      and then end
- *   5  a gate reads a wire that is not written by then, or an output is no wire
+ *    1  it is shorter than 8 bytes
+ *    2  I, O or G is out of its limits
+ *    1  its length is not 8 + 2 O + 8 G
+ *    3  a record with another kind, a nonzero second byte, or INV with b not 0
+ *   19  a link leads beyond slot G
+ *   20  a link is 0 before G slots are visited
+ *   21  a link is not 0 after G slots
+ *    5  a gate reads a wire that is not written by then, or an output is no
+ *       wire
+ *
+ * The links are the one in the head and then that of each slot as the chain
+ * leads to it. Of 19, 20 and 21 the first on this way is given, 19 where a link
+ * is wrong by 19 and by 21. A slot that is visited twice counts twice.
  *
  * Bits are packed lowest first. The unused bits of a last byte are zero.
  */
 
 /*
  * Reads a circuit and writes I, O, G and the number of its AND gates to sizes,
- * in this order. Refuses with 1 to 5.
+ * in this order. Refuses a circuit as above.
  */
 uint32_t wv_read(const uint8_t *circuit, size_t circuit_len,
                  uint32_t sizes[4]);
 
 /*
+ * Tells where the chain of a circuit goes wrong: if wv_read refuses it with 19,
+ * 20 or 21, returns the slot that holds the offending link, 0 for the head. For
+ * every other circuit it returns 0.
+ */
+uint32_t wv_fault_slot(const uint8_t *circuit, size_t circuit_len);
+
+/*
  * Writes the outputs of the circuit for the witness to y. The witness is I bits
- * in I / 8 bytes, rounded up; y is O bits in O / 8 bytes, rounded up. Refuses
- * with 1 to 5, then:
+ * in I / 8 bytes, rounded up; y is O bits in O / 8 bytes, rounded up. Refuses a
+ * circuit as above, then:
  *   6  the length of the witness or of y is not that
  *   7  an unused bit of the witness is not zero
  */
@@ -167,8 +185,8 @@ uint32_t wv_evaluate(const uint8_t *circuit, size_t circuit_len,
  */
 
 /*
- * Writes the corrections of the tapes of n parties to corrections. Refuses with
- * 1 to 5, then:
+ * Writes the corrections of the tapes of n parties to corrections. Refuses a
+ * circuit as above, then:
  *   8  n is not 2, 4, 8 or 16
  *   6  the length of the tapes or of corrections is not as above
  *   7  an unused bit of the tapes is not zero
@@ -180,7 +198,7 @@ uint32_t wv_prepare(const uint8_t *circuit, size_t circuit_len, uint32_t n,
 /*
  * Runs the circuit for the witness, with the corrections as lent, right or
  * wrong. Writes the masked inputs, the n broadcast rows, and the outputs of the
- * run to y. Refuses with 1 to 5, then:
+ * run to y. Refuses a circuit as above, then:
  *   8  n is not 2, 4, 8 or 16
  *   6  the length of the witness, the tapes, the corrections, masked_inputs,
  *      rows or y is not as above
@@ -198,7 +216,8 @@ uint32_t wv_run(const uint8_t *circuit, size_t circuit_len, uint32_t n,
  * Writes the showing of a run that hides party p, cut after the first gates of
  * the chain, as many as cut says. The corrections are made from the tapes. The
  * cut G shows the whole row of p; a lower one shows the bits of the AND gates
- * that were passed, and the rest of the row is zero. Refuses with 1 to 5, then:
+ * that were passed, and the rest of the row is zero. Refuses a circuit as
+ * above, then:
  *   8  n is not 2, 4, 8 or 16
  *   9  p is not below n, or cut is above G
  *   6  the length of the witness, the tapes, shown_tapes (as tapes),
@@ -216,8 +235,8 @@ uint32_t wv_show(const uint8_t *circuit, size_t circuit_len,
 
 /*
  * Replays a run from the four parts of its showing that hides party p, and
- * writes the n broadcast rows to rows; row p is as lent. Refuses with 1 to 5,
- * then:
+ * writes the n broadcast rows to rows; row p is as lent. Refuses a circuit as
+ * above, then:
  *    8  n is not 2, 4, 8 or 16
  *    9  p is not below n
  *    6  the length of the tapes, the corrections, the masked inputs, the row
@@ -434,7 +453,7 @@ static inline size_t wv_proof_len(uint32_t inputs, uint32_t outputs,
  * drawn from a shelf: a new root for each call, also after a refused one. Two
  * proofs from one root can show the witness. Writes the proof to the start of
  * proof, and its length to written; the bytes of proof beyond that length stay
- * as they were. Refuses with 1 to 5, then:
+ * as they were. Refuses a circuit as above, then:
  *    8  m is not 2 to 512, tau is not 1 to m - 1, or n is not 2, 4, 8 or 16
  *    6  the witness is not of I bits or y not of O bits, the message is longer
  *       than 4096 bytes, the root is not of 16 bytes, or proof has fewer bytes
@@ -456,8 +475,9 @@ uint32_t wv_prove(const uint8_t *circuit, size_t circuit_len,
  * limits are accepted: a caller who asks for certain ones compares these bytes.
  * With m 2 and tau 1, every second guess passes. The challenge is that of the
  * proof's first bytes, the circuit file, y and the message: with another one of
- * these than the prover's it asks for other parts, and the proof is refused
- * with 12, 7, 10 or 13, whichever comes first. Refuses with 1 to 5, then:
+ * these than the prover's it is drawn anew, and a proof that does not answer it
+ * is refused with 12, 7, 10 or 13, whichever comes first. Refuses a circuit as
+ * above, then:
  *    6  y is not of O bits, or the message is longer than 4096 bytes
  *    7  an unused bit of y is not zero
  *   11  the proof is shorter than 38 bytes, its m, tau or n is out of the

@@ -131,6 +131,28 @@ static void challenge_input(void)
           WV_REFUSED_LENGTH);
 }
 
+/* K with another head and another link, and where its chain goes wrong. */
+static void chain(uint8_t head, uint8_t link, uint32_t answer, uint32_t slot)
+{
+    uint8_t changed[sizeof k];
+    uint32_t sizes[4];
+
+    memcpy(changed, k, sizeof k);
+    changed[6] = head;
+    changed[16] = link;
+    equal("read a chain", wv_read(changed, sizeof k, sizes), answer);
+    equal("its slot", wv_fault_slot(changed, sizeof k), slot);
+}
+
+static void chains(void)
+{
+    chain(1, 0, WV_ACCEPTED, 0);
+    chain(2, 0, WV_REFUSED_CHAIN_BEYOND, 0);
+    chain(1, 2, WV_REFUSED_CHAIN_BEYOND, 1);
+    chain(0, 0, WV_REFUSED_CHAIN_SHORT, 0);
+    chain(1, 1, WV_REFUSED_CHAIN_LONG, 1);
+}
+
 int main(void)
 {
     char version[40];
@@ -150,5 +172,6 @@ int main(void)
     prove_in(wv_proof_len(2, 1, 1, 4, 1, 2) - 1, WV_REFUSED_LENGTH);
     read_buffers_overlap();
     challenge_input();
+    chains();
     return failures == 0 ? 0 : 1;
 }

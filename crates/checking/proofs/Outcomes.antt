@@ -92,7 +92,7 @@ module _ (s : List ℕ) (i o g a : ℕ) (k : Known s (sized i o g a)) (y message
 -- the file is read first
 module _ (s y message proof : List ℕ) (r : ReadAnswer) (e : readPaper r ≡ readOp s) where
   -- a refused file
-  pub check-refused : (k : Refusal) → r ≡ readAnswer.Refused k → refuses (numberOf k) [] ≡ checkOp s y message proof
+  pub check-refused : (k : Refusal) {slot : ℕ} → r ≡ readAnswer.Refused k slot → refuses (numberOf k) [] ≡ checkOp s y message proof
   unfolding checkOp
   check-refused k p = sym (ap (λ (x : Reading). onLegal x [] (checkLegal s y message proof)) (opened-refused s k r p e))
 

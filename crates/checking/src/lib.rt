@@ -149,7 +149,7 @@ pub fn check(s: &[u8], y: &[u8], message: &[u8], proof: &[u8]) -> Answer
 {
     let answer = read(s);
     match answer {
-        ReadAnswer::Refused(k) => Answer::Refused(k),
+        ReadAnswer::Refused(k, _) => Answer::Refused(k),
         ReadAnswer::Legal(z) => check_lent(s, z, y, message, proof),
     }
 }

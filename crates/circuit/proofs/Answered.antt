@@ -8,13 +8,19 @@ use native.Mathlib.Omega.{arith}
 use borrow.Author.Tests.{lt-ltb, le-ltb, ltb-false, not-false, not-true, leb-true, eq-eqb, ne-eqb}
 use lib.Dec.{leb, ltb}
 use lib.ListN.{length, length-map}
-use Rattle.circuit.specs.Steps.{inputsFirst, gatesFrom, limits, Framed}
+use Rattle.circuit.specs.Steps.{walks, walkPaper, inputsFirst, gatesFrom, limits, Framed}
 use Rattle.bits.proofs.Tests.{and-true-left, and-true-right}
 use Rattle.bits.proofs.Tabulate.{length-tabulate}
-use Rattle.refusal.specs.Outcome.{refusal, success}
+use Rattle.refusal.specs.Outcome.{refusalAt, refusal, success}
 use Rattle.circuit.specs.Circuit.{Circuit, Gate, ands}
-use Rattle.circuit.specs.File.{maxInputs, maxOutputs, maxGates, inputsOf, outputsOf, gatesOf, headOf, outputWire, withinLimits, rightLength, goodRecords, goodChain, goodWires, goodOutputs, readsWritten, walks, chainFrom, gateAt, gatesInOrder, circuitOf, Reading, refused, legal, readCircuit}
+use Rattle.circuit.specs.File.{maxInputs, maxOutputs, maxGates, inputsOf, outputsOf, gatesOf, headOf, outputWire, withinLimits, rightLength, goodRecords, goodChain, goodWires, goodOutputs, readsWritten, chainWalk, chainFrom, gateAt, gatesInOrder, circuitOf, Reading, refused, legal, onWalk, readCircuit}
+use Rattle.circuit.specs.Chain.{Walk, ends, fault, endsWell}
 use Rattle.circuit.specs.Operations.{readAnswer, readOp}
+use Rattle.refusal.specs.Refusal.{numberOf}
+use Rattle.refusal.specs.declared.Refusal.{Refusal}
+use Rattle.circuit.specs.declared.Walk.{Walk as Walked}
+use Rattle.circuit.specs.declared.Walk.the-variants.{Ends, Fault}
+use Rattle.circuit.proofs.Walking.{well-ends, chain-walks}
 use Rattle.circuit.proofs.Visits.{length-chain}
 
 -- a file of 8 bytes or more, with its limits and its length good
@@ -47,18 +53,23 @@ module _ (s : List ℕ) where
   unfolding readOp readCircuit readAnswer
   read-records f a = rw (le-ltb (length s) 8 (f .enough), f .limited, f .sized, a)
 
-  pub read-chain : Front s → goodRecords s (gatesOf s) ≡ true → goodChain s ≡ false → readOp s ≡ refusal 4
-  unfolding readOp readCircuit readAnswer
-  read-chain f a b = rw (le-ltb (length s) 8 (f .enough), f .limited, f .sized, a, b)
+  -- a good chain is walked to its end
+  good-ends : goodChain s ≡ true → chainWalk s ≡ ends
+  unfolding goodChain
+  good-ends t = well-ends (chainWalk s) t
+
+  pub read-chain : Front s → goodRecords s (gatesOf s) ≡ true → (k x : ℕ) → chainWalk s ≡ fault k x → readOp s ≡ refusalAt k x
+  unfolding readOp readCircuit readAnswer onWalk
+  read-chain f a k x b = rw (le-ltb (length s) 8 (f .enough), f .limited, f .sized, a, b)
 
   pub read-wires : Front s → goodRecords s (gatesOf s) ≡ true → goodChain s ≡ true → goodWires s ≡ false → readOp s ≡ refusal 5
-  unfolding readOp readCircuit readAnswer
-  read-wires f a b d = rw (le-ltb (length s) 8 (f .enough), f .limited, f .sized, a, b, d)
+  unfolding readOp readCircuit readAnswer onWalk
+  read-wires f a b d = rw (le-ltb (length s) 8 (f .enough), f .limited, f .sized, a, good-ends b, d)
 
   -- a file that passes every test is the circuit it holds
   pub read-legal : Passed s → readCircuit s ≡ legal (circuitOf s)
-  unfolding readCircuit
-  read-legal p = rw (le-ltb (length s) 8 (p .front .enough), p .front .limited, p .front .sized, p .records, p .chain, p .wires)
+  unfolding readCircuit onWalk
+  read-legal p = rw (le-ltb (length s) 8 (p .front .enough), p .front .limited, p .front .sized, p .records, good-ends (p .chain), p .wires)
 
 -- the circuit has G gates
 pub gates-count : (s : List ℕ) → length (gatesInOrder s) ≡ gatesOf s
@@ -71,24 +82,30 @@ unfolding readOp readAnswer circuitOf
 read-success s p = rw (read-legal s p) (rw (length-tabulate (outputsOf s) (outputWire s), gates-count s))
 
 -- a test that stands before a legal reading has not refused
-not-refused : (a : Bool) (k : ℕ) (x : Reading) (c : Circuit) → cond a (refused k) x ≡ legal c → (a ≡ false) × (x ≡ legal c)
+not-refused : (a : Bool) (k : ℕ) (x : Reading) (c : Circuit) → cond a (refused k 0) x ≡ legal c → (a ≡ false) × (x ≡ legal c)
 not-refused true k x c e = absurd (let z : _≡_ {A = ℕ} 0 1 = cc in omega arith)
 not-refused false k x c e = (refl, e)
 
+-- nor has the walk met a fault
+not-faulty : (w : Walk) (x : Reading) (c : Circuit) → onWalk w x ≡ legal c → (endsWell w ≡ true) × (x ≡ legal c)
+unfolding onWalk endsWell
+not-faulty ends x c e = (refl, e)
+not-faulty (fault k y) x c e = absurd (let z : _≡_ {A = ℕ} 0 1 = cc in omega arith)
+
 -- a legal file has passed every test
 pub passed : (s : List ℕ) (c : Circuit) → readCircuit s ≡ legal c → Passed s
-unfolding readCircuit
+unfolding readCircuit goodChain
 passed s c e =
     let a = not-refused (ltb (length s) 8) _ _ c e in
     let b = not-refused (not (withinLimits s)) _ _ c (a .1) in
     let d = not-refused (not (rightLength s)) _ _ c (b .1) in
     let f = not-refused (not (goodRecords s (gatesOf s))) _ _ c (d .1) in
-    let g = not-refused (not (goodChain s)) _ _ c (f .1) in
+    let g = not-faulty (chainWalk s) _ c (f .1) in
     let h = not-refused (not (goodWires s)) _ _ c (g .1) in
     record {
       front = record { enough = ltb-false (length s) 8 (a .0); limited = not-false _ (b .0); sized = not-false _ (d .0) };
       records = not-false _ (f .0);
-      chain = not-false _ (g .0);
+      chain = g .0;
       wires = not-false _ (h .0);
     }
 
@@ -105,16 +122,16 @@ unfolding readOp readAnswer
 success-passed s l e = take (readCircuit s) refl e
   where
     take : (x : Reading) → readCircuit s ≡ x → success l ≡ readAnswer x → Passed s
-    take (refused k) p q = absurd (let z : _≡_ {A = ℕ} 0 1 = cc in omega arith)
+    take (refused k x) p q = absurd (let z : _≡_ {A = ℕ} 0 1 = cc in omega arith)
     take (legal c) p q = passed s c p
 
 -- an answer that is a refusal is that of a refused file
-pub refusal-refused : (s : List ℕ) (k : ℕ) → refusal k ≡ readOp s → readCircuit s ≡ refused k
+pub refusal-refused : (s : List ℕ) (k x : ℕ) → refusalAt k x ≡ readOp s → readCircuit s ≡ refused k x
 unfolding readOp readAnswer
-refusal-refused s k e = take (readCircuit s) refl e
+refusal-refused s k x e = take (readCircuit s) refl e
   where
-    take : (x : Reading) → readCircuit s ≡ x → refusal k ≡ readAnswer x → readCircuit s ≡ refused k
-    take (refused j) p q = cc
+    take : (r : Reading) → readCircuit s ≡ r → refusalAt k x ≡ readAnswer r → readCircuit s ≡ refused k x
+    take (refused j y) p q = cc
     take (legal c) p q = absurd (let z : _≡_ {A = ℕ} 0 1 = cc in omega arith)
 
 -- what a test that was asked for says, where it failed and where it passed
@@ -123,6 +140,11 @@ fell b r e h = sym e ∙ not-true r h
 
 pub held : (b r : Bool) → r ≡ b → not r ≡ false → b ≡ true
 held b r e h = sym e ∙ not-false r h
+
+-- a walk that came to its end
+pub walked-well : (s : List ℕ) (r : Walked) → r ≡ Ends → walkPaper r ≡ chainWalk s → goodChain s ≡ true
+unfolding goodChain endsWell
+walked-well s r p e = ap endsWell (sym e ∙ ap walkPaper p)
 
 -- the numbers that the code carries are the file's
 module _ (s : List ℕ) (i o g h : ℕ) (f : Framed s i o g h) where
@@ -133,8 +155,7 @@ module _ (s : List ℕ) (i o g h : ℕ) (f : Framed s i o g h) where
   records-same = ap (goodRecords s) (f .laid .gates)
 
   pub chain-same : walks s g h ≡ goodChain s
-  unfolding goodChain
-  chain-same = ap₂ (walks s) (f .laid .gates) (f .head)
+  chain-same = ap₂ (walks s) (f .laid .gates) (f .head) ∙ sym (chain-walks s)
 
   pub gates-same : gatesFrom s g h ≡ gatesInOrder s
   unfolding gatesFrom gatesInOrder
@@ -148,24 +169,24 @@ module _ (s : List ℕ) (i o g h : ℕ) (f : Framed s i o g h) where
   pub refuse-records : goodRecords s g ≡ false → refusal 3 ≡ readOp s
   refuse-records a = sym (read-records s front (sym records-same ∙ a))
 
-  pub refuse-chain : goodRecords s g ≡ true → walks s g h ≡ false → refusal 4 ≡ readOp s
-  refuse-chain a b = sym (read-chain s front (sym records-same ∙ a) (sym chain-same ∙ b))
+  pub refuse-chain : (k : Refusal) (x : ℕ) (r : Walked) → goodRecords s g ≡ true → r ≡ Fault k x → walkPaper r ≡ chainWalk s → refusalAt (numberOf k) x ≡ readOp s
+  refuse-chain k x r a p e = sym (read-chain s front (sym records-same ∙ a) (numberOf k) x (sym e ∙ ap walkPaper p))
 
-  pub refuse-reads : goodRecords s g ≡ true → walks s g h ≡ true → inputsFirst s g h ≡ false → refusal 5 ≡ readOp s
+  pub refuse-reads : goodRecords s g ≡ true → goodChain s ≡ true → inputsFirst s g h ≡ false → refusal 5 ≡ readOp s
   refuse-reads a b d =
-      sym (read-wires s front (sym records-same ∙ a) (sym chain-same ∙ b) (sym wires-same ∙ ap (λ (x : Bool). x && goodOutputs s o) d))
+      sym (read-wires s front (sym records-same ∙ a) b (sym wires-same ∙ ap (λ (x : Bool). x && goodOutputs s o) d))
 
-  pub refuse-outputs : goodRecords s g ≡ true → walks s g h ≡ true → inputsFirst s g h ≡ true → goodOutputs s o ≡ false → refusal 5 ≡ readOp s
+  pub refuse-outputs : goodRecords s g ≡ true → goodChain s ≡ true → inputsFirst s g h ≡ true → goodOutputs s o ≡ false → refusal 5 ≡ readOp s
   refuse-outputs a b d e =
-      sym (read-wires s front (sym records-same ∙ a) (sym chain-same ∙ b) (sym wires-same ∙ ap₂ _&&_ d e))
+      sym (read-wires s front (sym records-same ∙ a) b (sym wires-same ∙ ap₂ _&&_ d e))
 
-  pub accept : (n : ℕ) → goodRecords s g ≡ true → walks s g h ≡ true → inputsFirst s g h ≡ true → goodOutputs s o ≡ true
+  pub accept : (n : ℕ) → goodRecords s g ≡ true → goodChain s ≡ true → inputsFirst s g h ≡ true → goodOutputs s o ≡ true
       → n ≡ ands (gatesFrom s g h) → success (i ∷ o ∷ g ∷ n ∷ []) ≡ readOp s
   accept n a b d e q =
       let p : Passed s = record {
         front = front;
         records = sym records-same ∙ a;
-        chain = sym chain-same ∙ b;
+        chain = b;
         wires = sym wires-same ∙ ap₂ _&&_ d e;
       } in
       let m : n ≡ ands (gatesInOrder s) = q ∙ ap ands gates-same in

@@ -14,8 +14,8 @@ use lib.Seq.{getD-set-same, getD-set-other}
 use Rattle.bits.proofs.Tests.{and-true-left, and-true-right}
 use Rattle.bits.proofs.Numbers.{lt-or-le, eq-or-ne}
 use Rattle.circuit.specs.Circuit as paper
-use Rattle.circuit.specs.File.{inputsOf, gatesOf, nextOf, kindOf, wireA, wireB, walks, chainFrom, gateAt, readsWritten, goodRecord, goodRecords, goodOutputs, outputWire}
-use Rattle.circuit.specs.Steps.{gateOf, recordOf, placed, Inside, Laid, andOne, readable, seen, gatesFrom}
+use Rattle.circuit.specs.File.{inputsOf, gatesOf, nextOf, kindOf, wireA, wireB, chainFrom, gateAt, readsWritten, goodRecord, goodRecords, goodOutputs, outputWire}
+use Rattle.circuit.specs.Steps.{gateOf, recordOf, placed, Inside, Laid, andOne, readable, seen, gatesFrom, walks}
 use Rattle.circuit.specs.declared.Gate.{Gate}
 use Rattle.circuit.specs.declared.Gate.the-variants.{Xor, And, Inv}
 use Rattle.circuit.specs.declared.Record.{Record}
@@ -41,29 +41,6 @@ here s (suc n) k h e =
       low = leb-true k (gatesOf s) (and-true-right (leb 1 k) (leb k (gatesOf s)) t);
       rest = rw q (and-true-right (leb 1 k && leb k (gatesOf s)) (walks s n (nextOf s k)) e);
     }
-
--- the chain fails at slot 0 and at a slot above G, and else goes on
-pub walks-low : (s : List ℕ) (n k : ℕ) → 0 < n → k < 1 → walks s n k ≡ false
-unfolding walks
-walks-low s zero k h l = absurd (omega arith)
-walks-low s (suc n) k h l = rw (lt-leb 1 k l)
-
-pub walks-high : (s : List ℕ) (n k : ℕ) → 0 < n → 1 ≤ k → gatesOf s < k → walks s n k ≡ false
-unfolding walks
-walks-high s zero k h a l = absurd (omega arith)
-walks-high s (suc n) k h a l = rw (le-leb 1 k a, lt-leb k (gatesOf s) l)
-
-pub walks-on : (s : List ℕ) (n k : ℕ) → 0 < n → 1 ≤ k → k ≤ gatesOf s → walks s n k ≡ walks s (n - 1) (nextOf s k)
-unfolding walks
-walks-on s zero k h a l = absurd (omega arith)
-walks-on s (suc n) k h a l =
-    let q : suc n - 1 ≡ n = omega arith in
-    rw (le-leb 1 k a, le-leb k (gatesOf s) l, q)
-
-pub walks-end : (s : List ℕ) (n k : ℕ) → n ≤ 0 → walks s n k ≡ eqb k 0
-unfolding walks
-walks-end s zero k h = refl
-walks-end s (suc n) k h = absurd (omega arith)
 
 placed-cond : (a b : Bool) (x y z : Gate) (c : ℕ) → placed (cond a x (cond b y z)) c ≡ cond a (placed x c) (cond b (placed y c) (placed z c))
 placed-cond true b x y z c = refl

@@ -1,7 +1,9 @@
 pub mod Answered
 pub mod Chain
+pub mod Faults
 pub mod Outcomes
 pub mod Run
 pub mod Visits
 pub mod Wires
 pub mod Small
+pub mod Walking

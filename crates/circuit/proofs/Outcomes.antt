@@ -8,16 +8,16 @@ use native.Mathlib.Omega.{arith}
 use borrow.Author.Tests.{eq-eqb, ne-eqb, eqb-true, ltb-true, not-true, not-false}
 use lib.Dec.{ltb}
 use lib.ListN.{length, set, length-set, replicate, length-replicate}
-use Rattle.circuit.specs.Steps.{gateOf, Legal, Ended, Ready, outBits, walked, loaded, gateByte, gatesFrom, limits}
+use Rattle.circuit.specs.Steps.{gateOf, Legal, Ended, Ready, outBits, walked, loaded, gateByte, gatesFrom, limits, walks}
 use Rattle.bits.specs.Bits.{bitAt, oct, pack, unusedZero}
 use Rattle.bits.proofs.Tabulate.{length-tabulate}
 use Rattle.bits.proofs.Tests.{and-true-left, and-true-right}
-use Rattle.refusal.specs.Outcome.{refusal, success, done as filled, unless}
+use Rattle.refusal.specs.Outcome.{refusalAt, success, done as filled, unless}
 use Rattle.refusal.specs.Refusal.{numberOf}
 use Rattle.refusal.specs.declared.Refusal.{Refusal}
 use Rattle.refusal.specs.declared.Refusal.the-variants.{BufferLength, UnusedBits}
 use Rattle.circuit.specs.Circuit.{ands, evaluate}
-use Rattle.circuit.specs.File.{maxWires, inputsOf, outputsOf, gatesOf, headOf, nextOf, outputWire, withinLimits, rightLength, walks, goodWires, goodOutputs, readsWritten, gatesInOrder, circuitOf}
+use Rattle.circuit.specs.File.{maxWires, inputsOf, outputsOf, gatesOf, headOf, nextOf, outputWire, withinLimits, rightLength, goodWires, goodOutputs, readsWritten, gatesInOrder, circuitOf}
 use Rattle.circuit.specs.Operations.{readOp, evaluateLegal, evaluateOp, holds}
 use Rattle.circuit.specs.Answers.{readPaper, outcome}
 use Rattle.circuit.specs.declared.Sizes.{Sizes}
@@ -98,12 +98,12 @@ module _ (s : List ℕ) (i o g : ℕ) (f : Legal s i o g) where
       ∙ sym (lent-form w y ∙ rw (eq-eqb (length w) (oct i) (a ∙ e), eq-eqb (length y) (oct o) (h ∙ d), sym q ∙ not-false b n))
 
 -- a refused file
-pub evaluate-refused : (s w y : List ℕ) (k : Refusal) (r : ReadAnswer) → r ≡ readAnswer.Refused k → readPaper r ≡ readOp s
+pub evaluate-refused : (s w y : List ℕ) (k : Refusal) {x : ℕ} (r : ReadAnswer) → r ≡ readAnswer.Refused k x → readPaper r ≡ readOp s
     → outcome (evaluateAnswer.Refused k) y ≡ evaluateOp s w y
 unfolding evaluateOp
-evaluate-refused s w y k r p e =
-    let q : refusal (numberOf k) ≡ readOp s = sym (ap readPaper p) ∙ e in
-    rw (refusal-refused s (numberOf k) q)
+evaluate-refused s w y k {x} r p e =
+    let q : refusalAt (numberOf k) x ≡ readOp s = sym (ap readPaper p) ∙ e in
+    rw (refusal-refused s (numberOf k) x q)
 
 -- what the right length says
 sized-whole : (s : List ℕ) → rightLength s ≡ true → length s ≡ 8 + 2 * outputsOf s + 8 * gatesOf s

@@ -21,11 +21,12 @@ use Rattle.bits.proofs.Packing.{length-pack, unused-all}
 use Rattle.bits.proofs.Tabulate.{length-tabulate, getD-tabulate, getD-tabulate-end}
 use Rattle.bits.proofs.Tests.{and-true-left, and-true-right}
 use Rattle.circuit.specs.Circuit as paper
-use Rattle.circuit.specs.File.{maxWires, inputsOf, gatesOf, headOf, nextOf, outputWire, walks, goodChain, goodOutputs, readsWritten, gatesInOrder, circuitOf}
-use Rattle.circuit.specs.Steps.{gateOf, recordOf, placed, readable, gatesFrom, gateByte, bitsOf, loaded, walked, outBits, outByte, within, wired, Legal}
+use Rattle.circuit.specs.File.{maxWires, inputsOf, gatesOf, headOf, nextOf, outputWire, goodChain, goodOutputs, readsWritten, gatesInOrder, circuitOf}
+use Rattle.circuit.specs.Steps.{gateOf, recordOf, placed, readable, gatesFrom, gateByte, bitsOf, loaded, walked, outBits, outByte, within, wired, Legal, walks}
 use Rattle.circuit.specs.declared.Gate.{Gate}
 use Rattle.circuit.specs.declared.Gate.the-variants.{Xor, And, Inv}
 use Rattle.circuit.specs.declared.Record.{Record}
+use Rattle.circuit.proofs.Walking.{chain-walks}
 use Rattle.circuit.proofs.Chain.{here, gates-on, gates-end, reads-on, put-same, put-other, zeros-at, next-read, gate-read}
 
 -- loading the witness
@@ -227,8 +228,7 @@ unfolding fromBits
 byte-turn f t sum weight b p q r = rw (add-one, p, q, r)
 
 pub goodChain-walks : (s : List ℕ) → goodChain s ≡ true → walks s (gatesOf s) (headOf s) ≡ true
-unfolding goodChain
-goodChain-walks s e = e
+goodChain-walks s e = sym (chain-walks s) ∙ e
 
 pub gates-order : (s : List ℕ) → gatesFrom s (gatesOf s) (headOf s) ≡ gatesInOrder s
 unfolding gatesFrom gatesInOrder
@@ -246,13 +246,13 @@ unfolding outBits paper.evaluate circuitOf
 evaluated s i o g h w f p few all u =
     let z : List ℕ = replicate maxWires 0 in
     let l : length (loaded w i z) ≡ maxWires = length-loaded w z i ∙ length-replicate {A = ℕ} maxWires 0 in
-    let c : walks s g h ≡ true = ap₂ (walks s) (f .laid .gates) p ∙ chain-walks in
+    let c : walks s g h ≡ true = ap₂ (walks s) (f .laid .gates) p ∙ chain-good in
     let q : bitsOf (walked s g h (loaded w i z)) ≡ paper.evalGates (gatesInOrder s) (bitAt w)
     = bits-walked s g h (loaded w i z) c (omega arith) ∙ ap₂ paper.evalGates gates-all (bits-loaded w i maxWires few u) in
     ap₂ (λ (x : ℕ → Bool) (n : ℕ). map x (tabulate n (outputWire s))) q (f .laid .outputs)
   where
-    chain-walks : walks s (gatesOf s) (headOf s) ≡ true
-    chain-walks = goodChain-walks s (f .chain)
+    chain-good : walks s (gatesOf s) (headOf s) ≡ true
+    chain-good = goodChain-walks s (f .chain)
 
     gates-all : gatesFrom s g h ≡ gatesInOrder s
     gates-all = ap₂ (gatesFrom s) (f .laid .gates) p ∙ gates-order s

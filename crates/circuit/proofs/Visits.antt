@@ -13,8 +13,10 @@ use Rattle.bits.proofs.Numbers.{eq-or-ne}
 use Rattle.bits.proofs.Tests.{and-true-left, and-true-right}
 use Rattle.bits.specs.Counting.{count}
 use Rattle.bits.proofs.Counting.{Within, count-here, count-other, within-first, within-rest, each-once, once-length}
-use Rattle.circuit.specs.File.{gatesOf, headOf, nextOf, walks, goodChain, chainFrom}
+use Rattle.circuit.specs.File.{gatesOf, headOf, nextOf, goodChain, chainFrom}
+use Rattle.circuit.specs.Steps.{walks}
 use Rattle.circuit.specs.Meaning.{Follows, VisitsAllOnce, ChainTheorem}
+use Rattle.circuit.proofs.Walking.{chain-walks}
 
 module _ (s : List ℕ) where
   -- a way of no links starts at the end
@@ -91,8 +93,8 @@ module _ (s : List ℕ) where
 
   -- a chain that passes the test visits each slot once and ends
   pub chain-sound : goodChain s ≡ true → VisitsAllOnce s (chainFrom s (gatesOf s) (headOf s))
-  unfolding goodChain
-  chain-sound t =
+  chain-sound good =
+      let t : walks s (gatesOf s) (headOf s) ≡ true = sym (chain-walks s) ∙ good in
       let g : ℕ = gatesOf s in
       let h : ℕ = headOf s in
       let only : Within g (chainFrom s g h) = slots-only g h t in
@@ -104,10 +106,9 @@ module _ (s : List ℕ) where
 
   -- a chain that visits each slot once and ends passes the test
   pub chain-complete : (slots : List ℕ) → VisitsAllOnce s slots → goodChain s ≡ true
-  unfolding goodChain
   chain-complete slots v =
       let e : length slots ≡ gatesOf s = once-length (gatesOf s) slots (v .only) (v .once) in
-      ap (λ (n : ℕ). walks s n (headOf s)) (sym e) ∙ follows-walks (headOf s) slots (v .only) (v .follows)
+      chain-walks s ∙ ap (λ (n : ℕ). walks s n (headOf s)) (sym e) ∙ follows-walks (headOf s) slots (v .only) (v .follows)
 
 -- Theorem, chain
 pub chain-theorem : ChainTheorem

@@ -3,16 +3,16 @@
 use mathlib.Core.List.{List, [], _∷_}
 use Prim.Native.Nat.{ℕ}
 use Rattle.refusal.specs.Refusal.{numberOf}
-use Rattle.refusal.specs.Outcome.{Answer, refusal, success, Outcome}
+use Rattle.refusal.specs.Outcome.{Answer, refusalAt, refusal, success, Outcome}
 use Rattle.circuit.specs.declared.ReadAnswer.{ReadAnswer}
 use Rattle.circuit.specs.declared.ReadAnswer.the-variants as readAnswer
 use Rattle.circuit.specs.declared.EvaluateAnswer.{EvaluateAnswer}
 use Rattle.circuit.specs.declared.EvaluateAnswer.the-variants as evaluateAnswer
 
--- "Success gives I, O, G, A"
+-- "Success gives I, O, G, A"; a refusal is told with its slot
 abbrev pub readPaper : ReadAnswer → Answer
 readPaper (readAnswer.Legal z) = success (z .inputs ∷ z .outputs ∷ z .gates ∷ z .ands ∷ [])
-readPaper (readAnswer.Refused k) = refusal (numberOf k)
+readPaper (readAnswer.Refused k x) = refusalAt (numberOf k) x
 
 -- a success of evaluate has no values
 abbrev pub evaluatePaper : EvaluateAnswer → Answer

@@ -8,6 +8,7 @@ use lib.ListN.{length, getD}
 use Rattle.bits.specs.Bits.{tabulate}
 use Rattle.bits.specs.Bytes.{leAt}
 use Rattle.circuit.specs.Circuit.{Gate, xor, and, inv, Circuit, put}
+use Rattle.circuit.specs.Chain.{Walk, ends, fault, walk, endsWell}
 
 -- "Header: I, O, G, head (u16 each)"
 abbrev pub inputsOf : List ℕ → ℕ
@@ -80,14 +81,17 @@ unfoldable pub goodRecords : List ℕ → ℕ → Bool
 goodRecords s zero = true
 goodRecords s (suc n) = goodRecords s n && goodRecord s (suc n)
 
--- refusal 4: from slot k, n links that each lead to a slot, and then the end
-unfoldable pub walks : List ℕ → ℕ → ℕ → Bool
-walks s zero k = eqb k 0
-walks s (suc n) k = leb 1 k && leb k (gatesOf s) && walks s n (nextOf s k)
+-- the link that slot k holds; that of slot 0 is the head
+unfoldable pub linkOf : List ℕ → ℕ → ℕ
+linkOf s k = cond (eqb k 0) (headOf s) (nextOf s k)
+
+-- refusals 19, 20 and 21: the walk from head along the links
+unfoldable pub chainWalk : List ℕ → Walk
+chainWalk s = walk (gatesOf s) (linkOf s)
 
 -- "Evaluation follows the chain from head. It must visit each slot exactly once and end" (what this means: Meaning.antt)
 unfoldable pub goodChain : List ℕ → Bool
-goodChain s = walks s (gatesOf s) (headOf s)
+goodChain s = endsWell (chainWalk s)
 
 -- the slots on the way of n links from slot k
 unfoldable pub chainFrom : List ℕ → ℕ → ℕ → List ℕ
@@ -124,18 +128,23 @@ goodWires s = readsWritten (λ w. ltb w (inputsOf s)) (gatesInOrder s) && goodOu
 unfoldable pub circuitOf : List ℕ → Circuit
 circuitOf s = record { inputs = inputsOf s; outputs = tabulate (outputsOf s) (outputWire s); gates = gatesInOrder s }
 
--- what reading gives: a refusal's number, or the circuit
+-- what reading gives: a refusal, by its number and the slot that it tells, 0 where it tells none; or the circuit
 pub data Reading : Type 0 where
-  refused : ℕ → Reading
+  refused : ℕ → ℕ → Reading
   legal : Circuit → Reading
 
--- "Read a circuit: 1 under 8 bytes; 2 I, O or G beyond limits; 1 total not 8 + 2O + 8G; 3 ..; 4 ..; 5 .."
+-- the rest of reading where the chain ends well, else the fault that the walk met first
+unfoldable pub onWalk : Walk → Reading → Reading
+onWalk ends rest = rest
+onWalk (fault k x) rest = refused k x
+
+-- "Read a circuit: 1 under 8 bytes; 2 I, O or G beyond limits; 1 total not 8 + 2O + 8G; 3 ..; [19, 20, 21 in place of] 4 ..; 5 .."
 unfoldable pub readCircuit : List ℕ → Reading
 readCircuit s =
-    cond (ltb (length s) 8) (refused 1)
-    (cond (not (withinLimits s)) (refused 2)
-    (cond (not (rightLength s)) (refused 1)
-    (cond (not (goodRecords s (gatesOf s))) (refused 3)
-    (cond (not (goodChain s)) (refused 4)
-    (cond (not (goodWires s)) (refused 5)
+    cond (ltb (length s) 8) (refused 1 0)
+    (cond (not (withinLimits s)) (refused 2 0)
+    (cond (not (rightLength s)) (refused 1 0)
+    (cond (not (goodRecords s (gatesOf s))) (refused 3 0)
+    (onWalk (chainWalk s)
+    (cond (not (goodWires s)) (refused 5 0)
     (legal (circuitOf s)))))))

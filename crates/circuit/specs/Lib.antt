@@ -1,4 +1,5 @@
 pub mod Answers
+pub mod Chain
 pub mod Circuit
 pub mod File
 pub mod Meaning

@@ -8,7 +8,8 @@ use Prim.Native.Nat.{ℕ, _+_, _≤_, _<_}
 use lib.ListN.{length, getD}
 use Rattle.bits.specs.Counting.{count}
 use Rattle.circuit.specs.Circuit.{Gate, xor, and, inv, Circuit}
-use Rattle.circuit.specs.File.{inputsOf, outputsOf, gatesOf, headOf, outputWire, nextOf, goodChain, chainFrom, gatesInOrder, goodWires, legal, readCircuit}
+use Rattle.circuit.specs.Chain.{fault, walk}
+use Rattle.circuit.specs.File.{inputsOf, outputsOf, gatesOf, headOf, outputWire, nextOf, withinLimits, rightLength, goodRecords, chainWalk, goodChain, chainFrom, gatesInOrder, goodWires, refused, legal, readCircuit}
 
 -- the slots of a list follow each other by their links: from k on, and after the last one the chain ends
 unfoldable pub Follows : List ℕ → ℕ → List ℕ → Type 0
@@ -25,6 +26,53 @@ pub record VisitsAllOnce (s : List ℕ) (slots : List ℕ) : Type 0 where
 pub record ChainTheorem : Type 0 where
   pub sound : (s : List ℕ) → goodChain s ≡ true → VisitsAllOnce s (chainFrom s (gatesOf s) (headOf s))
   pub complete : (s : List ℕ) (slots : List ℕ) → VisitsAllOnce s slots → goodChain s ≡ true
+
+-- the slots of a list are visited from slot x on, and slot y is the last (x itself where the list is empty): each is the link of
+-- the one before, and is in 1..G
+unfoldable pub Passes : ℕ → (ℕ → ℕ) → ℕ → List ℕ → ℕ → Type 0
+Passes G link x [] y = x ≡ y
+Passes G link x (k ∷ ks) y = (link x ≡ k) × ((1 ≤ k) × ((k ≤ G) × Passes G link k ks y))
+
+-- the walk from head meets at slot x what `Fault` says of the number of visits and of the link; all links before are good
+pub record Meets (G : ℕ) (link : ℕ → ℕ) (Fault : ℕ → ℕ → Type 0) (x : ℕ) : Type 0 where
+  pub slots : List ℕ
+  pub passes : Passes G link 0 slots x
+  pub fault : Fault (length slots) (link x)
+
+-- "a link beyond G"
+abbrev pub BeyondGates : ℕ → ℕ → ℕ → Type 0
+BeyondGates G visits l = (visits ≤ G) × (G < l)
+
+-- "an end before all G slots are visited"
+abbrev pub EndsEarly : ℕ → ℕ → ℕ → Type 0
+EndsEarly G visits l = (visits < G) × (l ≡ 0)
+
+-- "a link other than 0 after G slots", which is not beyond G
+abbrev pub GoesOn : ℕ → ℕ → ℕ → Type 0
+GoesOn G visits l = (visits ≡ G) × ((1 ≤ l) × (l ≤ G))
+
+-- the one holds exactly if the other does
+abbrev pub Exactly : Type 0 → Type 0 → Type 0
+Exactly A B = (A → B) × (B → A)
+
+-- Theorem, first-fault: the walk gives 19, 20 or 21 at slot x exactly if it meets that fault there, all links before being good
+pub record FirstFaultTheorem : Type 0 where
+  pub beyond : (G : ℕ) (link : ℕ → ℕ) (x : ℕ) → Exactly (walk G link ≡ fault 19 x) (Meets G link (BeyondGates G) x)
+  pub early : (G : ℕ) (link : ℕ → ℕ) (x : ℕ) → Exactly (walk G link ≡ fault 20 x) (Meets G link (EndsEarly G) x)
+  pub onward : (G : ℕ) (link : ℕ → ℕ) (x : ℕ) → Exactly (walk G link ≡ fault 21 x) (Meets G link (GoesOn G) x)
+
+-- a file that passes the tests before the chain: 1, 2, 1 and 3
+pub record Recorded (s : List ℕ) : Type 0 where
+  pub enough : 8 ≤ length s
+  pub limited : withinLimits s ≡ true
+  pub sized : rightLength s ≡ true
+  pub records : goodRecords s (gatesOf s) ≡ true
+
+-- Theorem, read-fault: reading gives a number from 19 on, with slot x, exactly if the tests before the chain pass and the walk gives
+-- that fault; and every other refusal of reading tells no slot
+pub record ReadFaultTheorem : Type 0 where
+  pub chain : (s : List ℕ) (k x : ℕ) → 19 ≤ k → Exactly (readCircuit s ≡ refused k x) (Recorded s × (chainWalk s ≡ fault k x))
+  pub slotless : (s : List ℕ) (k x : ℕ) → k < 19 → readCircuit s ≡ refused k x → x ≡ 0
 
 -- the wires that a gate reads, and the one it writes
 unfoldable pub reads : Gate → List ℕ

@@ -6,22 +6,22 @@ use Prim.Native.Nat.{ℕ}
 use lib.Dec.{eqb}
 use lib.ListN.{length}
 use Rattle.bits.specs.Bits.{oct, pack, bitAt, unusedZero}
-use Rattle.refusal.specs.Outcome.{Answer, refusal, success, Outcome, refuses, done, unless}
+use Rattle.refusal.specs.Outcome.{Answer, refusalAt, success, Outcome, refuses, done, unless}
 use Rattle.circuit.specs.Circuit.{Circuit, ands, evaluate}
 use Rattle.circuit.specs.File.{Reading, refused, legal, readCircuit}
 
--- "Success gives I, O, G, A"
+-- "Success gives I, O, G, A"; a refusal is told with its slot
 unfoldable pub readAnswer : Reading → Answer
-readAnswer (refused k) = refusal k
+readAnswer (refused k x) = refusalAt k x
 readAnswer (legal c) = success (c .inputs ∷ length (c .outputs) ∷ length (c .gates) ∷ ands (c .gates) ∷ [])
 
 -- reading a circuit
 unfoldable pub readOp : List ℕ → Answer
 readOp s = readAnswer (readCircuit s)
 
--- the circuit is read first: 1 to 5
+-- the circuit is read first: its refusals, by "its number alone"
 abbrev pub onLegal : Reading → List (List ℕ) → (Circuit → Outcome) → Outcome
-onLegal (refused k) lent f = refuses k lent
+onLegal (refused k x) lent f = refuses k lent
 onLegal (legal c) lent f = f c
 
 -- a lent length as stated: k bits
@@ -36,6 +36,6 @@ evaluateLegal w y c =
     (unless (unusedZero (c .inputs) w) 7 lent
     (done (pack (evaluate c (bitAt w)) ∷ [])))
 
--- evaluating: 1 to 5 first
+-- evaluating: the circuit is read first
 unfoldable pub evaluateOp : List ℕ → List ℕ → List ℕ → Outcome
 evaluateOp s w y = onLegal (readCircuit s) (y ∷ []) (evaluateLegal w y)

@@ -7,10 +7,14 @@ use Prim.Native.Nat.{ℕ, zero, suc, _+_, _-_, _*_, _<_, _≤_}
 use lib.ListN.{length, getD, set}
 use lib.Bits.{bitXor, bitAnd}
 use Rattle.bits.specs.Bits.{tabulate, odd, bitVal, bitAt, fromBits, oct, unusedZero}
-use Rattle.circuit.specs.File.{kindOf, wireA, wireB, inputsOf, outputWire, nextOf, goodChain, goodWires, goodOutputs, outputsOf, gatesOf, recordAt, headOf, maxInputs, maxOutputs, maxGates, maxWires, withinLimits, rightLength, walks, chainFrom, gateAt, readsWritten}
+use Rattle.circuit.specs.File.{kindOf, wireA, wireB, inputsOf, outputWire, nextOf, goodChain, goodWires, goodOutputs, outputsOf, gatesOf, recordAt, headOf, maxInputs, maxOutputs, maxGates, maxWires, withinLimits, rightLength, chainFrom, gateAt, readsWritten, goodRecords}
 use Rattle.circuit.specs.declared.Gate.{Gate}
 use Rattle.circuit.specs.declared.Gate.the-variants.{Xor, And, Inv}
 use Rattle.circuit.specs.declared.Record.{Record}
+use Rattle.refusal.specs.Refusal.{numberOf}
+use Rattle.circuit.specs.Chain as chain
+use Rattle.circuit.specs.declared.Walk.{Walk}
+use Rattle.circuit.specs.declared.Walk.the-variants.{Ends, Fault}
 use lib.Dec.{eqb, leb, ltb}
 use Rattle.circuit.specs.Circuit as paper
 
@@ -102,6 +106,11 @@ pub record Legal (s : List ℕ) (i o g : ℕ) : Type 0 where
   pub chain : goodChain s ≡ true
   pub wires : goodWires s ≡ true
 
+-- from slot k, n links that each lead to a slot, and then the end
+unfoldable pub walks : List ℕ → ℕ → ℕ → Bool
+walks s zero k = eqb k 0
+walks s (suc n) k = leb 1 k && leb k (gatesOf s) && walks s n (nextOf s k)
+
 -- the file is so laid, and its chain from h visits each slot
 pub record Chained (s : List ℕ) (i o g h : ℕ) : Type 0 where
   pub laid : Laid s i o g
@@ -119,6 +128,17 @@ pub record Framed (s : List ℕ) (i o g h : ℕ) : Type 0 where
   pub head : h ≡ headOf s
   pub limited : withinLimits s ≡ true
   pub sized : rightLength s ≡ true
+
+-- and its records and its chain are good too
+pub record Linked (s : List ℕ) (i o g h : ℕ) : Type 0 where
+  pub framed : Framed s i o g h
+  pub records : goodRecords s g ≡ true
+  pub chain : goodChain s ≡ true
+
+-- what the walk along the chain comes to, in the paper's terms
+abbrev pub walkPaper : Walk → chain.Walk
+walkPaper Ends = chain.ends
+walkPaper (Fault k x) = chain.fault (numberOf k) x
 
 -- the limits on I, O and G
 unfoldable pub limits : ℕ → ℕ → ℕ → Bool

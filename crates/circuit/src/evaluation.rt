@@ -177,7 +177,7 @@ pub fn evaluate(s: &[u8], witness: &[u8], y: &mut [u8]) -> EvaluateAnswer
 {
     let answer = read(s);
     match answer {
-        ReadAnswer::Refused(k) => EvaluateAnswer::Refused(k),
+        ReadAnswer::Refused(k, _) => EvaluateAnswer::Refused(k),
         ReadAnswer::Legal(z) => evaluate_lent(s, z.inputs, z.outputs, z.gates, witness, y),
     }
 }

@@ -36,10 +36,16 @@ pub struct Sizes {
     pub ands: usize,
 }
 
-// What reading a circuit answers.
+// What the walk along the chain comes to: a good end, or a fault and the slot that holds the offending link (0 for the head).
+pub(crate) enum Walk {
+    Ends,
+    Fault(Refusal, usize),
+}
+
+// What reading a circuit answers: a refusal goes with the slot that it tells, 0 where it tells none.
 pub enum ReadAnswer {
     Legal(Sizes),
-    Refused(Refusal),
+    Refused(Refusal, usize),
 }
 
 // What evaluating a circuit answers.

@@ -2,16 +2,19 @@
 ghost use mathlib.Core.Path.{_≡_};
 ghost use mathlib.Core.Bool.{_&&_, _||_};
 ghost use lib.ListN.{length};
+ghost use Rattle.circuit.specs.Chain.{walkFrom};
 ghost use Rattle.circuit.specs.Circuit.{ands};
-ghost use Rattle.circuit.specs.File.{maxWires, goodRecord, goodRecords, goodOutputs, walks};
-ghost use Rattle.circuit.specs.Steps.{Inside, Laid, Chained, limits, readable, seen, gatesFrom, inputsFirst};
+ghost use Rattle.circuit.specs.File.{maxWires, goodRecord, goodRecords, goodOutputs, chainWalk};
+ghost use Rattle.circuit.specs.Steps.{Inside, Laid, Chained, Framed, walkPaper, limits, readable, seen, gatesFrom, inputsFirst};
 use crate::Gate;
 use crate::MAX_GATES;
 use crate::MAX_INPUTS;
 use crate::MAX_OUTPUTS;
 use crate::MAX_WIRES;
+use crate::Walk;
 use crate::records::and_one;
 use crate::records::record;
+use refusal::Refusal;
 
 // Both of two tests.
 fn both(a: bool, b: bool) -> bool
@@ -63,25 +66,40 @@ pub(crate) fn good_records(s: &[u8], inputs: usize, outputs: usize, gates: usize
     good
 }
 
-// Refusal 4: from the head, G links that each lead to a slot, and then the end.
-pub(crate) fn good_chain(s: &[u8], inputs: usize, outputs: usize, gates: usize, head: usize) -> bool
-    requires { ⌜ Laid (now s) inputs outputs gates ⌝ }
-    ensures { λ r. ⌜ r ≡ walks (now (s .entry)) gates head ⌝ }
+// Refusals 19, 20 and 21: the walk from the head along the links, up to its end or to the first fault.
+pub(crate) fn walk_chain(s: &[u8], inputs: usize, outputs: usize, gates: usize, head: usize) -> Walk
+    requires { ⌜ Framed (now s) inputs outputs gates head ⌝ }
+    ensures { λ r. ⌜ walkPaper r ≡ chainWalk (now (s .entry)) ⌝ }
 {
     let mut left = gates;
-    let mut slot = head;
+    let mut holder = 0;
+    let mut link = head;
     while 0 < left {
-        if slot == 0 {
-            return false;
+        if gates < link {
+            return Walk::Fault(Refusal::BeyondGates, holder);
         }
-        if gates < slot {
-            return false;
+        if link == 0 {
+            return Walk::Fault(Refusal::EndsEarly, holder);
         }
-        let r = record(s, outputs, slot);
-        slot = r.next;
+        let r = record(s, outputs, link);
+        holder = link;
+        link = r.next;
         left -= 1;
     }
-    slot == 0
+    last_link(gates, holder, link)
+}
+
+// Refusals 19 and 21, after G visits: what the walk comes to by the last link, which slot `at` holds.
+fn last_link(gates: usize, at: usize, last: usize) -> Walk
+    ensures { λ r. ⌜ walkPaper r ≡ walkFrom gates (λ _. last) 0 at ⌝ }
+{
+    if gates < last {
+        return Walk::Fault(Refusal::BeyondGates, at);
+    }
+    if last == 0 {
+        return Walk::Ends;
+    }
+    Walk::Fault(Refusal::GoesOn, at)
 }
 
 // Refusal 5, the outputs: each wire below I + G.

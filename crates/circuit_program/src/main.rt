@@ -1,4 +1,4 @@
-// Reads a circuit from standard input and prints `ok I O G A`, or `no K` with the refusal's number.
+// Reads a circuit from standard input and prints `ok I O G A`, or `no K` with the refusal's number; after 19, 20 and 21 the slot too.
 use circuit::ReadAnswer;
 use circuit::Sizes;
 use circuit::reading::read;
@@ -21,10 +21,14 @@ fn print_sizes(z: Sizes) {
     io::write_all(STDOUT_FILENO, &[b'\n']);
 }
 
-// Prints the number of a refusal.
-fn print_refusal(k: u32) {
+// Prints the number of a refusal, and after 19, 20 and 21 the slot that it tells.
+fn print_refusal(k: u32, slot: usize) {
     io::write_all(STDOUT_FILENO, &[b'n', b'o']);
     print_number(k as u64);
+    match k {
+        19..=21 => print_number(slot as u64),
+        _ => (),
+    }
     io::write_all(STDOUT_FILENO, &[b'\n']);
 }
 
@@ -33,7 +37,7 @@ fn print_answer(s: &[u8]) {
     let answer = read(s);
     match answer {
         ReadAnswer::Legal(z) => print_sizes(z),
-        ReadAnswer::Refused(k) => print_refusal(refusal::number(k)),
+        ReadAnswer::Refused(k, slot) => print_refusal(refusal::number(k), slot),
     }
 }
 
@@ -42,7 +46,7 @@ fn main() {
     let mut buffer = [0u8; 33289];
     let n = io::read_full(STDIN_FILENO, &mut buffer);
     if n == 33289 {
-        print_refusal(1);
+        print_refusal(1, 0);
         return;
     }
     print_answer(&buffer[..n]);

@@ -105,7 +105,7 @@ module _ (s witness y message root buffer left : List ℕ) (M tau n k : ℕ) whe
   -- of what was read
   proved-read : (r : Reading) → readCircuit s ≡ r
       → onLegal r (buffer ∷ []) (proveLegal s witness y message root M tau n buffer) ≡ succeeded (k ∷ []) (left ∷ []) → Proved
-  proved-read (refused x) r e = absurd (refused-not x (buffer ∷ []) (k ∷ []) (left ∷ []) e)
+  proved-read (refused x slot) r e = absurd (refused-not x (buffer ∷ []) (k ∷ []) (left ∷ []) e)
   proved-read (legal c) r e = proved-legal c r e
 
   -- all of it follows from the outcome

@@ -142,7 +142,7 @@ module _ (s y message proof : List ℕ) (c : Circuit) where
 
 -- whatever was read
 read-passed : (s y message proof : List ℕ) (r : Reading) → readCircuit s ≡ r → onLegal r [] (checkLegal s y message proof) ≡ done [] → CheckTests s y message proof
-read-passed s y message proof (refused k) r e = absurd (refused-not k [] [] [] e)
+read-passed s y message proof (refused k slot) r e = absurd (refused-not k [] [] [] e)
 read-passed s y message proof (legal c) r e = legal-passed s y message proof c r e
 
 -- all tests pass where check accepts

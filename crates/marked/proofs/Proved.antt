@@ -10,7 +10,8 @@ use Rattle.bits.proofs.Tabulate.{getD-tabulate}
 use Rattle.refusal.specs.Outcome.{success}
 use Rattle.parties.specs.Parties.{heightOf, isPartyCount}
 use Rattle.circuit.specs.Circuit.{ands}
-use Rattle.circuit.specs.File.{legal, withinLimits, rightLength, goodRecord, goodRecords, walks, goodChain, chainFrom, gateAt, gatesInOrder, readsWritten, goodOutputs, goodWires, circuitOf, readCircuit}
+use Rattle.circuit.specs.Chain.{walkFrom}
+use Rattle.circuit.specs.File.{legal, withinLimits, rightLength, goodRecord, goodRecords, linkOf, chainWalk, onWalk, chainFrom, gateAt, gatesInOrder, readsWritten, goodOutputs, goodWires, circuitOf, readCircuit}
 use Rattle.choice.specs.Challenge.{streamOf, instances, hiddenParties, Ascending, more, Sound}
 use Rattle.seeds.specs.Operations.{areCounts}
 use Rattle.choice.proofs.Challenges.{challenge-sound}
@@ -23,7 +24,7 @@ use Rattle.marked.proofs.Table.{marked-cases}
 
 -- K is legal; its numbers, and the room for its proof
 read-K : readCircuit circuitK ≡ legal (circuitOf circuitK)
-unfolding readCircuit withinLimits rightLength goodRecord goodRecords walks goodChain chainFrom gateAt readsWritten goodOutputs goodWires leAt gatesInOrder
+unfolding readCircuit withinLimits rightLength goodRecord goodRecords walkFrom linkOf chainWalk onWalk chainFrom gateAt readsWritten goodOutputs goodWires leAt gatesInOrder
 read-K = refl
 
 inputs-K : circuitOf circuitK .inputs ≡ 2
@@ -31,7 +32,7 @@ unfolding circuitOf leAt
 inputs-K = refl
 
 room-K : proofRoom (circuitOf circuitK) 4 1 2 ≡ 233
-unfolding proofRoom circuitOf leAt gatesInOrder walks chainFrom gateAt ands heightOf
+unfolding proofRoom circuitOf leAt gatesInOrder chainFrom gateAt ands heightOf
 room-K = refl
 
 -- the two rows of the table

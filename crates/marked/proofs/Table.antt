@@ -13,9 +13,10 @@ use Rattle.bits.specs.Bytes.{leAt, sameBytes, rowOf}
 use Rattle.bits.specs.Xor.{xors}
 use Rattle.bits.proofs.Equal.{same-eq}
 use Rattle.bits.proofs.Tests.{and-true-left, and-true-right}
-use Rattle.refusal.specs.Outcome.{Answer, refusal, success, Outcome}
+use Rattle.refusal.specs.Outcome.{Answer, refusalAt, success, Outcome}
 use Rattle.circuit.specs.Circuit.{put, ands}
-use Rattle.circuit.specs.File.{withinLimits, rightLength, goodRecord, goodRecords, walks, goodChain, chainFrom, gateAt, gatesInOrder, readsWritten, goodOutputs, goodWires, circuitOf, readCircuit}
+use Rattle.circuit.specs.File.{withinLimits, rightLength, goodRecord, goodRecords, linkOf, chainWalk, onWalk, chainFrom, gateAt, gatesInOrder, readsWritten, goodOutputs, goodWires, circuitOf, readCircuit}
+use Rattle.circuit.specs.Chain.{walkFrom}
 use Rattle.circuit.specs.Operations.{readAnswer, readOp}
 use Rattle.parties.specs.Parties.{heightOf, isPartyCount}
 use Rattle.mpc.specs.Run.{corrections, corrected, broadcast, outputs, run}
@@ -29,9 +30,9 @@ use Rattle.marked.specs.Marked.{Case, reading, working, counting, Right,
 
 -- whether two answers are the same
 unfoldable sameAnswer : Answer → Answer → Bool
-sameAnswer (refusal j) (refusal k) = eqb j k
-sameAnswer (refusal j) (success ys) = false
-sameAnswer (success xs) (refusal k) = false
+sameAnswer (refusalAt j x) (refusalAt k y) = eqb j k && eqb x y
+sameAnswer (refusalAt j x) (success ys) = false
+sameAnswer (success xs) (refusalAt k y) = false
 sameAnswer (success xs) (success ys) = sameBytes xs ys
 
 -- whether two lists of buffers are the same
@@ -54,9 +55,10 @@ holds (counting a b) = sameBytes a b
 -- answers that pass the test are equal
 same-answer : (a b : Answer) → sameAnswer a b ≡ true → a ≡ b
 unfolding sameAnswer
-same-answer (refusal j) (refusal k) t = ap refusal (eqb-true j k t)
-same-answer (refusal j) (success ys) t = let z : _≡_ {A = ℕ} 0 1 = cc in absurd (omega arith)
-same-answer (success xs) (refusal k) t = let z : _≡_ {A = ℕ} 0 1 = cc in absurd (omega arith)
+same-answer (refusalAt j x) (refusalAt k y) t =
+    ap₂ refusalAt (eqb-true j k (and-true-left (eqb j k) (eqb x y) t)) (eqb-true x y (and-true-right (eqb j k) (eqb x y) t))
+same-answer (refusalAt j x) (success ys) t = let z : _≡_ {A = ℕ} 0 1 = cc in absurd (omega arith)
+same-answer (success xs) (refusalAt k y) t = let z : _≡_ {A = ℕ} 0 1 = cc in absurd (omega arith)
 same-answer (success xs) (success ys) t = ap success (same-eq xs ys t)
 
 -- so are buffers
@@ -101,7 +103,7 @@ every-row (d ∷ cs) t c m =
 
 -- the marked cases pass
 table-passes : every cases ≡ true
-unfolding every holds sameAnswer sameBuffers sameOutcome sameBytes flatten odd testBit fromBits bitAt pack none unusedZero rowOf xors heightOf isPartyCount corrections corrected broadcast outputs run inputMasks outputMasks productShares usedBits unusedRows withRow correctionBits maskedInput maskedInputs runWith runOn honestRun rowBits rowsOf shownBits firstBits showing prepareLegal prepareOp ran runLegal runOp holdsShowing showLegal showOp leAt put ands withinLimits rightLength goodRecord goodRecords walks goodChain chainFrom gateAt gatesInOrder readsWritten goodOutputs goodWires circuitOf readCircuit readAnswer readOp correctionBytes stretchBytes asked stretchStart
+unfolding every holds sameAnswer sameBuffers sameOutcome sameBytes flatten odd testBit fromBits bitAt pack none unusedZero rowOf xors heightOf isPartyCount corrections corrected broadcast outputs run inputMasks outputMasks productShares usedBits unusedRows withRow correctionBits maskedInput maskedInputs runWith runOn honestRun rowBits rowsOf shownBits firstBits showing prepareLegal prepareOp ran runLegal runOp holdsShowing showLegal showOp leAt put ands withinLimits rightLength goodRecord goodRecords walkFrom linkOf chainWalk onWalk chainFrom gateAt gatesInOrder readsWritten goodOutputs goodWires circuitOf readCircuit readAnswer readOp correctionBytes stretchBytes asked stretchStart
 table-passes = refl
 
 -- every marked case is right

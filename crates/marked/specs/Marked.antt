@@ -7,7 +7,7 @@ use Prim.Native.Nat.{ℕ, _≤_, _<_}
 use lib.ListN.{length, getD, set}
 use Rattle.bits.specs.Bits.{tabulate, pack, bitAt, unusedZero}
 use Rattle.bits.specs.Bytes.{sameBytes}
-use Rattle.refusal.specs.Outcome.{Answer, refusal, success, Outcome, done}
+use Rattle.refusal.specs.Outcome.{Answer, refusalAt, refusal, success, Outcome, done}
 use Rattle.circuit.specs.Circuit.{evaluate}
 use Rattle.circuit.specs.File.{circuitOf}
 use Rattle.circuit.specs.Operations.{readOp}
@@ -40,9 +40,9 @@ circuitK =
 abbrev pub m1 : Case
 m1 = reading circuitK (success (2 ∷ 1 ∷ 1 ∷ 1 ∷ []))
 
--- "m2 its record with next 1 gives 4": the low byte of next is byte 16 of the file
+-- m2, its record with next 1, "becomes the third answer at slot 1" (document 02): the low byte of next is byte 16 of the file
 abbrev pub m2 : Case
-m2 = reading (set circuitK 16 1) (refusal 4)
+m2 = reading (set circuitK 16 1) (refusalAt 21 1)
 
 -- "m3 b = 2 gives 5": the low byte of b is byte 14
 abbrev pub m3 : Case

@@ -17,8 +17,8 @@ use Rattle.bits.proofs.Numbers.{odd-bitVal}
 use Rattle.bits.proofs.Tabulate.{length-tabulate, getD-tabulate}
 use Rattle.bits.proofs.Tests.{and-true-left, and-true-right}
 use Rattle.circuit.specs.Circuit.{Circuit, ands}
-use Rattle.circuit.specs.File.{inputsOf, outputsOf, gatesOf, headOf, outputWire, nextOf, walks, readsWritten, goodOutputs, goodWires, gatesInOrder, circuitOf}
-use Rattle.circuit.specs.Steps.{gateOf, gatesFrom, wired, Legal}
+use Rattle.circuit.specs.File.{inputsOf, outputsOf, gatesOf, headOf, outputWire, nextOf, readsWritten, goodOutputs, goodWires, gatesInOrder, circuitOf}
+use Rattle.circuit.specs.Steps.{gateOf, gatesFrom, wired, Legal, walks}
 use Rattle.circuit.proofs.Chain.{gates-on, gates-end, ands-on, ands-none, andOne-le, put-other}
 use Rattle.circuit.proofs.Run.{wired-reads, output-low, goodChain-walks, gates-order}
 use Rattle.mpc.specs.Run.{Column, corrections, corrected, Channel, asSent, asShown, run}

@@ -8,17 +8,17 @@ use native.Mathlib.Omega.{arith}
 use borrow.Author.Tests.{ltb-true}
 use lib.Dec.{ltb}
 use lib.ListN.{length, replicate, length-replicate}
-use Rattle.circuit.specs.Steps.{gatesFrom}
+use Rattle.circuit.specs.Steps.{walks, gatesFrom}
 use Rattle.bits.specs.Bits.{oct}
 use Rattle.bits.proofs.Tabulate.{length-tabulate}
 use Rattle.bits.proofs.Tests.{and-true-left, and-true-right}
 use Rattle.refusal.specs.Refusal.{numberOf}
 use Rattle.refusal.specs.declared.Refusal.{Refusal}
-use Rattle.refusal.specs.Outcome.{refusal, success}
+use Rattle.refusal.specs.Outcome.{refusalAt, success}
 use Rattle.parties.specs.Parties.{heightOf}
 use Rattle.parties.proofs.Counts.{sizes}
 use Rattle.circuit.specs.Circuit.{Gate, xor, and, inv, ands}
-use Rattle.circuit.specs.File.{inputsOf, outputsOf, gatesOf, headOf, outputWire, walks, readsWritten, goodOutputs, goodWires, gatesInOrder, circuitOf, refused, legal, readCircuit}
+use Rattle.circuit.specs.File.{inputsOf, outputsOf, gatesOf, headOf, outputWire, readsWritten, goodOutputs, goodWires, gatesInOrder, circuitOf, refused, legal, readCircuit}
 use Rattle.circuit.specs.Operations.{readOp}
 use Rattle.circuit.specs.Answers.{readPaper}
 use Rattle.circuit.specs.declared.Sizes.{Sizes}
@@ -36,10 +36,10 @@ abbrev pub sized : ℕ → ℕ → ℕ → ℕ → Sizes
 sized i o g a = record { inputs = i; outputs = o; gates = g; ands = a }
 
 -- a refused file
-pub opened-refused : (s : List ℕ) (k : Refusal) (r : ReadAnswer) → r ≡ readAnswer.Refused k → readPaper r ≡ readOp s → readCircuit s ≡ refused (numberOf k)
-opened-refused s k r p e =
-    let q : refusal (numberOf k) ≡ readOp s = sym (ap readPaper p) ∙ e in
-    refusal-refused s (numberOf k) q
+pub opened-refused : (s : List ℕ) (k : Refusal) {x : ℕ} (r : ReadAnswer) → r ≡ readAnswer.Refused k x → readPaper r ≡ readOp s → readCircuit s ≡ refused (numberOf k) x
+opened-refused s k {x} r p e =
+    let q : refusalAt (numberOf k) x ≡ readOp s = sym (ap readPaper p) ∙ e in
+    refusal-refused s (numberOf k) x q
 
 -- a file that reads as legal
 module _ (s : List ℕ) (z : Sizes) (r : ReadAnswer) (p : r ≡ readAnswer.Legal z) (e : readPaper r ≡ readOp s) where

@@ -63,7 +63,7 @@ module _ (s : List ℕ) (i o g a : ℕ) (k : Known s (sized i o g a)) (n h : ℕ
 
 -- the file is read first
 module _ (s : List ℕ) (n : ℕ) (tapes out : List ℕ) (r : ReadAnswer) (e : readPaper r ≡ readOp s) where
-  pub prepare-refused : (k : Refusal) → r ≡ readAnswer.Refused k → outcome (Refused k) (out ∷ []) ≡ prepareOp s n tapes out
+  pub prepare-refused : (k : Refusal) {slot : ℕ} → r ≡ readAnswer.Refused k slot → outcome (Refused k) (out ∷ []) ≡ prepareOp s n tapes out
   unfolding prepareOp
   prepare-refused k p = sym (ap (λ (x : Reading). onLegal x (out ∷ []) (prepareLegal n tapes out)) (opened-refused s k r p e))
 

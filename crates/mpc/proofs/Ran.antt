@@ -122,7 +122,7 @@ module _ (s : List ℕ) (i o g a : ℕ) (k : Known s (sized i o g a)) (n h : ℕ
 
 -- the file is read first
 module _ (s : List ℕ) (n : ℕ) (w tapes corr masked rows y : List ℕ) (r : ReadAnswer) (e : readPaper r ≡ readOp s) where
-  pub run-refused : (k : Refusal) → r ≡ readAnswer.Refused k → outcome (Refused k) (masked ∷ rows ∷ y ∷ []) ≡ runOp s n w tapes corr masked rows y
+  pub run-refused : (k : Refusal) {slot : ℕ} → r ≡ readAnswer.Refused k slot → outcome (Refused k) (masked ∷ rows ∷ y ∷ []) ≡ runOp s n w tapes corr masked rows y
   unfolding runOp
   run-refused k p = sym (ap (λ (x : Reading). onLegal x (masked ∷ rows ∷ y ∷ []) (runLegal n w tapes corr masked rows y)) (opened-refused s k r p e))
 

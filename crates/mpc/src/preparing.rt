@@ -77,7 +77,7 @@ pub fn prepare(s: &[u8], n: u32, tapes: &[u8], corrections: &mut [u8]) -> Answer
 {
     let answer = read(s);
     match answer {
-        ReadAnswer::Refused(k) => Answer::Refused(k),
+        ReadAnswer::Refused(k, _) => Answer::Refused(k),
         ReadAnswer::Legal(z) => prepare_lent(s, z, n, tapes, corrections),
     }
 }

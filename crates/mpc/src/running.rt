@@ -157,7 +157,7 @@ pub fn run(
 {
     let answer = read(s);
     match answer {
-        ReadAnswer::Refused(k) => Answer::Refused(k),
+        ReadAnswer::Refused(k, _) => Answer::Refused(k),
         ReadAnswer::Legal(z) => run_lent(s, z, n, witness, tapes, corrections, masked, rows, y),
     }
 }

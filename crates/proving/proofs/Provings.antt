@@ -147,7 +147,7 @@ module _ (s : List ℕ) (i o g a : ℕ) (k : Known s (sized i o g a)) (w y messa
 -- the file is read first
 module _ (s w y message root : List ℕ) (m tau n : ℕ) (buffer : List ℕ) (r : ReadAnswer) (e : readPaper r ≡ readOp s) where
   -- a refused file
-  pub prove-refused : (k : Refusal) → r ≡ readAnswer.Refused k → outcome (Refused k) buffer ≡ proveOp s w y message root m tau n buffer
+  pub prove-refused : (k : Refusal) {slot : ℕ} → r ≡ readAnswer.Refused k slot → outcome (Refused k) buffer ≡ proveOp s w y message root m tau n buffer
   unfolding proveOp
   prove-refused k p = sym (ap (λ (x : Reading). onLegal x (buffer ∷ []) (proveLegal s w y message root m tau n buffer)) (opened-refused s k r p e))
 

@@ -146,7 +146,7 @@ pub fn prove(
 {
     let answer = read(s);
     match answer {
-        ReadAnswer::Refused(k) => Answer::Refused(k),
+        ReadAnswer::Refused(k, _) => Answer::Refused(k),
         ReadAnswer::Legal(z) => prove_lent(s, z, witness, y, message, root, m, tau, n, buffer),
     }
 }

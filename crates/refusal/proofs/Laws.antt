@@ -1,48 +1,56 @@
--- Two refusals never share a number, and the numbers are 1 to 18.
+-- Two refusals never share a number, and the numbers are 1 to 21.
 -- Assumes nothing.
 use mathlib.Core.Path.{_≡_, refl, sym, ap, _∙_}
+use mathlib.Core.Bool.{false}
 use mathlib.Core.List.{List, [], _∷_}
 use Prim.Native.Nat.{ℕ, _≤_}
-use lib.Dec.{T, leb, leb→le}
+use lib.Dec.{T, eqb, leb, leb→le}
 use lib.ListN.{getD}
+use borrow.Author.Tests.{eqb-false}
 use Rattle.refusal.specs.declared.Refusal.{Refusal}
-use Rattle.refusal.specs.declared.Refusal.the-variants.{Length, Limits, Record, Chain, Wire, BufferLength, UnusedBits, Parameter, Index, Output, Header, ProofLength, Digest, Shelf, Count, Empty, Full, Exhausted}
-use Rattle.refusal.specs.Refusal.{numberOf}
+use Rattle.refusal.specs.declared.Refusal.the-variants.{Length, Limits, Record, Wire, BufferLength, UnusedBits, Parameter, Index, Output, Header, ProofLength, Digest, Shelf, Count, Empty, Full, Exhausted, BeyondGates, EndsEarly, GoesOn}
+use Rattle.refusal.specs.Refusal.{numberOf, NoFour}
 
--- the refusals in the order of their numbers, and before them one to stand at place 0
+-- the refusals in the order of their numbers, and one more to stand at places 0 and 4
 inOrder : List Refusal
-inOrder = Length ∷ Length ∷ Limits ∷ Record ∷ Chain ∷ Wire ∷ BufferLength ∷ UnusedBits ∷ Parameter ∷ Index ∷ Output ∷ Header ∷ ProofLength ∷ Digest ∷ Shelf ∷ Count ∷ Empty ∷ Full ∷ Exhausted ∷ []
+inOrder = Length ∷ Length ∷ Limits ∷ Record ∷ Length ∷ Wire ∷ BufferLength ∷ UnusedBits ∷ Parameter ∷ Index ∷ Output ∷ Header ∷ ProofLength ∷ Digest ∷ Shelf ∷ Count ∷ Empty ∷ Full ∷ Exhausted ∷ BeyondGates ∷ EndsEarly ∷ GoesOn ∷ []
 
 -- the refusal of a number
 ofNumber : ℕ → Refusal
 ofNumber k = getD inOrder k Length
 
--- a refusal is found again from its number, which is 1 to 18
-right : (r : Refusal) → (ofNumber (numberOf r) ≡ r) × (T (leb 1 (numberOf r)) × T (leb (numberOf r) 18))
+-- a refusal is found again from its number, which is 1 to 21 and not 4
+right : (r : Refusal) → (ofNumber (numberOf r) ≡ r) × (T (leb 1 (numberOf r)) × (T (leb (numberOf r) 21) × (eqb (numberOf r) 4 ≡ false)))
 unfolding ofNumber inOrder
-right Length = (refl, (tt, tt))
-right Limits = (refl, (tt, tt))
-right Record = (refl, (tt, tt))
-right Chain = (refl, (tt, tt))
-right Wire = (refl, (tt, tt))
-right BufferLength = (refl, (tt, tt))
-right UnusedBits = (refl, (tt, tt))
-right Parameter = (refl, (tt, tt))
-right Index = (refl, (tt, tt))
-right Output = (refl, (tt, tt))
-right Header = (refl, (tt, tt))
-right ProofLength = (refl, (tt, tt))
-right Digest = (refl, (tt, tt))
-right Shelf = (refl, (tt, tt))
-right Count = (refl, (tt, tt))
-right Empty = (refl, (tt, tt))
-right Full = (refl, (tt, tt))
-right Exhausted = (refl, (tt, tt))
+right Length = (refl, (tt, (tt, refl)))
+right Limits = (refl, (tt, (tt, refl)))
+right Record = (refl, (tt, (tt, refl)))
+right Wire = (refl, (tt, (tt, refl)))
+right BufferLength = (refl, (tt, (tt, refl)))
+right UnusedBits = (refl, (tt, (tt, refl)))
+right Parameter = (refl, (tt, (tt, refl)))
+right Index = (refl, (tt, (tt, refl)))
+right Output = (refl, (tt, (tt, refl)))
+right Header = (refl, (tt, (tt, refl)))
+right ProofLength = (refl, (tt, (tt, refl)))
+right Digest = (refl, (tt, (tt, refl)))
+right Shelf = (refl, (tt, (tt, refl)))
+right Count = (refl, (tt, (tt, refl)))
+right Empty = (refl, (tt, (tt, refl)))
+right Full = (refl, (tt, (tt, refl)))
+right Exhausted = (refl, (tt, (tt, refl)))
+right BeyondGates = (refl, (tt, (tt, refl)))
+right EndsEarly = (refl, (tt, (tt, refl)))
+right GoesOn = (refl, (tt, (tt, refl)))
 
 -- two refusals with one number are the same
 pub numberOf-injective : (a b : Refusal) → numberOf a ≡ numberOf b → a ≡ b
 numberOf-injective a b e = sym (right a .0) ∙ ap ofNumber e ∙ right b .0
 
--- the numbers are 1 to 18
-pub numberOf-range : (r : Refusal) → (1 ≤ numberOf r) × (numberOf r ≤ 18)
-numberOf-range r = (leb→le 1 (numberOf r) (right r .1 .0), leb→le (numberOf r) 18 (right r .1 .1))
+-- the numbers are 1 to 21
+pub numberOf-range : (r : Refusal) → (1 ≤ numberOf r) × (numberOf r ≤ 21)
+numberOf-range r = (leb→le 1 (numberOf r) (right r .1 .0), leb→le (numberOf r) 21 (right r .1 .1 .0))
+
+-- none of them is 4
+pub no-four : NoFour
+no-four r = eqb-false (numberOf r) 4 (right r .1 .1 .1)

@@ -5,10 +5,14 @@ use mathlib.Core.Bool.{Bool, cond}
 use mathlib.Core.List.{List, []}
 use Prim.Native.Nat.{ℕ}
 
--- an answer in the paper's terms: a refusal, "its number alone", or the values of a success
+-- an answer in the paper's terms: a refusal, by its number and the slot that it tells; or the values of a success
 pub data Answer : Type 0 where
-  refusal : ℕ → Answer
+  refusalAt : ℕ → ℕ → Answer
   success : List ℕ → Answer
+
+-- a refusal by "its number alone": the slot is 0 where none is told
+abbrev pub refusal : ℕ → Answer
+refusal k = refusalAt k 0
 
 -- the answer of an operation, and what each lent output buffer then holds, in the interface's order
 pub record Outcome : Type 0 where

@@ -1,15 +1,16 @@
--- The numbers of the refusals, as document 01 gives them under "Each operation's refusals, in order".
+-- The numbers of the refusals, as document 01 gives them under "Each operation's refusals, in order"; from 19 on, those of document 02.
+-- "19, 20, 21 .., in place of 4, which is no longer given".
 -- Assumes nothing.
+use mathlib.Core.Logic.{_≢_}
 use Prim.Native.Nat.{ℕ}
 use Rattle.refusal.specs.declared.Refusal.{Refusal}
-use Rattle.refusal.specs.declared.Refusal.the-variants.{Length, Limits, Record, Chain, Wire, BufferLength, UnusedBits, Parameter, Index, Output, Header, ProofLength, Digest, Shelf, Count, Empty, Full, Exhausted}
+use Rattle.refusal.specs.declared.Refusal.the-variants.{Length, Limits, Record, Wire, BufferLength, UnusedBits, Parameter, Index, Output, Header, ProofLength, Digest, Shelf, Count, Empty, Full, Exhausted, BeyondGates, EndsEarly, GoesOn}
 
 -- the number of a refusal
 abbrev pub numberOf : Refusal → ℕ
 numberOf Length = 1
 numberOf Limits = 2
 numberOf Record = 3
-numberOf Chain = 4
 numberOf Wire = 5
 numberOf BufferLength = 6
 numberOf UnusedBits = 7
@@ -24,3 +25,10 @@ numberOf Count = 15
 numberOf Empty = 16
 numberOf Full = 17
 numberOf Exhausted = 18
+numberOf BeyondGates = 19
+numberOf EndsEarly = 20
+numberOf GoesOn = 21
+
+-- Theorem: 4 "is no longer given"
+abbrev pub NoFour : Type 0
+NoFour = (r : Refusal) → numberOf r ≢ 4

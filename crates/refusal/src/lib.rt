@@ -1,4 +1,4 @@
-// The refusals of document 01, "Each operation's refusals, in order", and their numbers.
+// The refusals of document 01, "Each operation's refusals, in order", and of document 02, and their numbers. 4 is given by nothing.
 ghost use mathlib.Core.Path.{_≡_};
 ghost use Rattle.refusal.specs.Refusal.{numberOf};
 
@@ -10,8 +10,6 @@ pub enum Refusal {
     Limits,
     // 3: a record with another kind, a nonzero second byte, or INV with b not 0.
     Record,
-    // 4: the chain.
-    Chain,
     // 5: a wire not written by then, or an output wire at or above I + G.
     Wire,
     // 6: a lent length not as stated.
@@ -40,9 +38,15 @@ pub enum Refusal {
     Full,
     // 18: draws is 4,294,967,295.
     Exhausted,
+    // 19: a link beyond G.
+    BeyondGates,
+    // 20: an end before all G slots are visited.
+    EndsEarly,
+    // 21: a link other than 0 after G slots.
+    GoesOn,
 }
 
-// The number that document 01 gives a refusal.
+// The number that the documents give a refusal.
 pub fn number(r: Refusal) -> u32
     ensures { λ k. ⌜ k ≡ numberOf r ⌝ }
 {
@@ -50,7 +54,6 @@ pub fn number(r: Refusal) -> u32
         Refusal::Length => 1,
         Refusal::Limits => 2,
         Refusal::Record => 3,
-        Refusal::Chain => 4,
         Refusal::Wire => 5,
         Refusal::BufferLength => 6,
         Refusal::UnusedBits => 7,
@@ -65,5 +68,8 @@ pub fn number(r: Refusal) -> u32
         Refusal::Empty => 16,
         Refusal::Full => 17,
         Refusal::Exhausted => 18,
+        Refusal::BeyondGates => 19,
+        Refusal::EndsEarly => 20,
+        Refusal::GoesOn => 21,
     }
 }

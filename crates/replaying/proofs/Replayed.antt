@@ -194,7 +194,7 @@ module _ (s : List ℕ) (i o g a : ℕ) (k : Known s (sized i o g a)) (n p : ℕ
 
 -- the file is read first
 module _ (s : List ℕ) (n p : ℕ) (x : Showing) (y rows : List ℕ) (r : ReadAnswer) (e : readPaper r ≡ readOp s) where
-  pub replay-refused : (k : Refusal) → r ≡ readAnswer.Refused k → outcome (Refused k) (rows ∷ []) ≡ replayOp s n p x y rows
+  pub replay-refused : (k : Refusal) {slot : ℕ} → r ≡ readAnswer.Refused k slot → outcome (Refused k) (rows ∷ []) ≡ replayOp s n p x y rows
   unfolding replayOp
   replay-refused k q = sym (ap (λ (z : Reading). onLegal z (rows ∷ []) (replayLegal n p x y rows)) (opened-refused s k r q e))
 

@@ -229,7 +229,7 @@ pub fn replay(
 {
     let answer = read(s);
     match answer {
-        ReadAnswer::Refused(k) => Answer::Refused(k),
+        ReadAnswer::Refused(k, _) => Answer::Refused(k),
         ReadAnswer::Legal(z) => replay_lent(s, z, n, p, tapes, corrections, masked, row, y, rows),
     }
 }

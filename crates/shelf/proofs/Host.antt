@@ -10,7 +10,7 @@ use native.Mathlib.Omega.{arith}
 use borrow.Author.Tests.{le-leb, lt-leb}
 use lib.ListN.{length, getD}
 use Rattle.bits.proofs.Numbers.{eq-or-ne}
-use Rattle.refusal.specs.Outcome.{Answer, refusal, success, refuses}
+use Rattle.refusal.specs.Outcome.{Answer, refusalAt, refusal, success, refuses}
 use Rattle.shelf.specs.Page.{sizeOf, readyHead, spareHead, drawsOf, rootOf, sound}
 use Rattle.shelf.specs.Operations.{pageLeft, stockOp, drawOp}
 use Rattle.shelf.specs.History.{Event, stock, draw, back, Host, present, next, counted, start, step, run, IsHistory}
@@ -136,7 +136,7 @@ step-pages h draw k l = rw (le-leb k (h .place) l)
 step-pages h (back j) k l = rw (le-leb k (h .place) l)
 
 counted-more : (s : Answer) (n : ℕ) → n ≤ counted s n
-counted-more (refusal m) n = omega arith
+counted-more (refusalAt m x) n = omega arith
 counted-more (success root) n = omega arith
 
 -- the log's count never falls

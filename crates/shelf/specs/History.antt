@@ -8,7 +8,7 @@ use Prim.Native.Nat.{ℕ, suc, _+_, _≤_, _<_}
 use lib.Dec.{leb}
 use lib.ListN.{length, getD, take}
 use Rattle.bits.specs.Counting.{count}
-use Rattle.refusal.specs.Outcome.{Answer, refusal, success}
+use Rattle.refusal.specs.Outcome.{Answer, refusalAt, success}
 use Rattle.shelf.specs.Page.{sizeOf, drawsOf, readyRoots, sound}
 use Rattle.shelf.specs.Operations.{pageLeft, stockOp, drawOp}
 use Rattle.shelf.specs.Plain.{Plain, names, roots, plainStock, plainDraw}
@@ -35,7 +35,7 @@ next h p n = record { place = suc (h .place); pages = λ k. cond (leb k (h .plac
 
 -- the log "has counted each accepted draw before the next call"
 abbrev pub counted : Answer → ℕ → ℕ
-counted (refusal k) n = n
+counted (refusalAt k x) n = n
 counted (success root) n = n + 1
 
 -- "Each call is lent the page as the event before left it, a draw the log's count too"

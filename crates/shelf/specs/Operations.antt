@@ -10,7 +10,7 @@ use Rattle.bits.specs.Bytes.{leBytes, leAt}
 use Rattle.refusal.specs.declared.Refusal.the-variants.{BufferLength, Shelf, Count, Empty, Full, Exhausted}
 use Rattle.refusal.specs.declared.Refusal.{Refusal}
 use Rattle.refusal.specs.Refusal.{numberOf}
-use Rattle.refusal.specs.Outcome.{Answer, refusal, success, Outcome, done, unless}
+use Rattle.refusal.specs.Outcome.{Answer, refusalAt, refusal, success, Outcome, done, unless}
 use Rattle.shelf.specs.declared.Answer as declared
 use Rattle.shelf.specs.declared.Answer.the-variants.{Accepted, Refused}
 use Rattle.shelf.specs.Page.{readyHead, spareHead, drawsOf, slotAt, nextOf, rootOf, zeroRoot, sound}
@@ -30,7 +30,7 @@ pageLeft o = getD (o .left) 0 []
 
 -- the root that goes out beside an answer of draw: a refusal has a zero root beside it
 abbrev pub rootOut : Answer → List ℕ
-rootOut (refusal k) = zeroRoot
+rootOut (refusalAt k x) = zeroRoot
 rootOut (success root) = root
 
 -- slot k with this next slot and this root

@@ -8,8 +8,9 @@ use native.Mathlib.Omega.{arith}
 use native.Mathlib.Numerals.{add-one}
 use borrow.Author.Tests.{lt-ltb, le-ltb, ltb-true, leb-true, eqb-true, eq-eqb, ne-eqb}
 use lib.Dec.{eqb, leb, ltb}
-use lib.ListN.{length, take, drop, replicate}
-use Rattle.circuit.specs.Steps.{gatesFrom, Chained}
+use lib.ListN.{length, take, drop, replicate, getD, set, length-replicate}
+use Rattle.circuit.specs.Steps.{gatesFrom, Chained, walks}
+use lib.Seq.{take-suc, take-suc-set, take-all}
 use Rattle.bits.specs.Bits.{tabulate, oct, pack, unusedZero}
 use Rattle.bits.proofs.Tabulate.{length-tabulate}
 use Rattle.bits.proofs.Tests.{and-true-left, and-true-right}
@@ -18,7 +19,7 @@ use Rattle.refusal.specs.declared.Refusal.the-variants.{BufferLength, UnusedBit
 use Rattle.parties.specs.Parties.{heightOf}
 use Rattle.parties.proofs.Counts.{count-yes, count-no}
 use Rattle.circuit.specs.Circuit.{ands, Circuit, Gate, xor, and, inv}
-use Rattle.circuit.specs.File.{outputsOf, gatesOf, headOf, outputWire, nextOf, walks, chainFrom, gateAt, gatesInOrder, circuitOf, Reading}
+use Rattle.circuit.specs.File.{outputsOf, gatesOf, headOf, outputWire, nextOf, chainFrom, gateAt, gatesInOrder, circuitOf, Reading}
 use Rattle.circuit.specs.Operations.{readOp, onLegal, holds}
 use Rattle.circuit.specs.Answers.{readPaper}
 use Rattle.circuit.specs.declared.Sizes.{Sizes}
@@ -239,7 +240,7 @@ module _ (s : List ℕ) (i o g a : ℕ) (k : Known s (sized i o g a)) (n h p cut
 
 -- the file is read first
 module _ (s : List ℕ) (n p cut : ℕ) (w tapes : List ℕ) (out : Showing) (r : ReadAnswer) (e : readPaper r ≡ readOp s) where
-  pub show-refused : (k : Refusal) → r ≡ readAnswer.Refused k → outcome (Refused k) (partsOf out) ≡ showOp s n p cut w tapes out
+  pub show-refused : (k : Refusal) {slot : ℕ} → r ≡ readAnswer.Refused k slot → outcome (Refused k) (partsOf out) ≡ showOp s n p cut w tapes out
   unfolding showOp
   show-refused k q = sym (ap (λ (x : Reading). onLegal x (partsOf out) (showLegal n p cut w tapes out)) (opened-refused s k r q e))
 

@@ -221,7 +221,7 @@ pub fn show(
 {
     let answer = read(s);
     match answer {
-        ReadAnswer::Refused(k) => Answer::Refused(k),
+        ReadAnswer::Refused(k, _) => Answer::Refused(k),
         ReadAnswer::Legal(z) => show_lent(
             s,
             z,

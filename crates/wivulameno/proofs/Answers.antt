@@ -1,6 +1,6 @@
 -- Different answers stay different: in what the C functions say, and so in the paper's terms.
 -- Assumes nothing.
-use mathlib.Core.Path.{_≡_, refl, sym, ap}
+use mathlib.Core.Path.{_≡_, refl, sym, ap, ap₂}
 use mathlib.Core.List.{List, [], _∷_}
 use Prim.Native.Nat.{ℕ}
 use native.Mathlib.Omega.{arith}
@@ -20,8 +20,8 @@ use Rattle.checking.specs.Answers as checking
 use Rattle.checking.specs.declared.Answer.the-variants as checkAnswer
 use Rattle.shelf.specs.Operations.{paper as shelfPaper}
 use Rattle.shelf.specs.declared.Answer.the-variants as shelfAnswer
-use Rattle.wivulameno.specs.Interface.{status, values}
-use Rattle.wivulameno.specs.Answers.{Injective, DifferentAnswers, reported, DifferentStatuses}
+use Rattle.wivulameno.specs.Interface.{status, values, slot}
+use Rattle.wivulameno.specs.Answers.{Injective, DifferentAnswers, reported, readReported, DifferentStatuses}
 
 -- what is different after another step was different before it
 before : {A B C : Type 0} (f : A → B) (g : B → C) → Injective (λ a. g (f a)) → Injective f
@@ -31,20 +31,20 @@ before f g h a b e = h a b (ap g e)
 not-zero : {A : Type 0} (k : Refusal) → _≡_ {A = ℕ} 0 (numberOf k) → A
 not-zero k e = absurd (omega (arith, numberOf-range k))
 
-read-status : (lent : List ℕ) → Injective (λ a. reported lent (readPaper a))
-unfolding status values
+read-status : (lent : List ℕ) → Injective (λ a. readReported lent (readPaper a))
+unfolding status values slot
 read-status lent (readAnswer.Legal x) (readAnswer.Legal y) e =
     let f : _≡_ {A = List ℕ} (x .inputs ∷ x .outputs ∷ x .gates ∷ x .ands ∷ []) (y .inputs ∷ y .outputs ∷ y .gates ∷ y .ands ∷ []) =
-    ap (λ (p : ℕ × List ℕ). p .1) e in
+    ap (λ (p : (ℕ × List ℕ) × ℕ). p .0 .1) e in
     let a : x .inputs ≡ y .inputs = cc in
     let b : x .outputs ≡ y .outputs = cc in
     let c : x .gates ≡ y .gates = cc in
     let d : x .ands ≡ y .ands = cc in
     λ i. readAnswer.Legal (record { inputs = a i; outputs = b i; gates = c i; ands = d i })
-read-status lent (readAnswer.Legal x) (readAnswer.Refused k) e = not-zero k (ap (λ (p : ℕ × List ℕ). p .0) e)
-read-status lent (readAnswer.Refused k) (readAnswer.Legal y) e = not-zero k (sym (ap (λ (p : ℕ × List ℕ). p .0) e))
-read-status lent (readAnswer.Refused k) (readAnswer.Refused l) e =
-    ap readAnswer.Refused (numberOf-injective k l (ap (λ (p : ℕ × List ℕ). p .0) e))
+read-status lent (readAnswer.Legal x) (readAnswer.Refused k y) e = not-zero k (ap (λ (p : (ℕ × List ℕ) × ℕ). p .0 .0) e)
+read-status lent (readAnswer.Refused k x) (readAnswer.Legal y) e = not-zero k (sym (ap (λ (p : (ℕ × List ℕ) × ℕ). p .0 .0) e))
+read-status lent (readAnswer.Refused k x) (readAnswer.Refused l y) e =
+    ap₂ readAnswer.Refused (numberOf-injective k l (ap (λ (p : (ℕ × List ℕ) × ℕ). p .0 .0) e)) (ap (λ (p : (ℕ × List ℕ) × ℕ). p .1) e)
 
 evaluate-status : Injective (λ a. status (evaluatePaper a))
 unfolding status
@@ -102,7 +102,7 @@ pub different-answers : DifferentAnswers
 different-answers =
     record {
       refusals = numberOf-injective;
-      read = before readPaper (reported []) (read-status []);
+      read = before readPaper (readReported []) (read-status []);
       evaluate = before evaluatePaper status evaluate-status;
       run = before mpc.paper status run-status;
       derive = before seeds.paper status derive-status;

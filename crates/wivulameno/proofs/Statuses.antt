@@ -13,7 +13,7 @@ use Rattle.circuit.specs.declared.ReadAnswer.{ReadAnswer}
 use Rattle.circuit.specs.declared.ReadAnswer.the-variants as readAnswer
 use Rattle.circuit.specs.declared.EvaluateAnswer.{EvaluateAnswer}
 use Rattle.circuit.specs.declared.EvaluateAnswer.the-variants as evaluateAnswer
-use Rattle.circuit.proofs.Small.{read-small}
+use Rattle.circuit.proofs.Small.{read-small, slot-small}
 use Rattle.shelf.specs.Operations.{outcome as shelfOutcome}
 use Rattle.shelf.specs.declared.Answer.{Answer as ShelfAnswer}
 use Rattle.shelf.specs.declared.Answer.the-variants as shelfAnswer
@@ -29,7 +29,7 @@ use Rattle.proving.specs.declared.Answer.the-variants as proveAnswer
 use Rattle.checking.specs.Answers.{outcome as checkOutcome}
 use Rattle.checking.specs.declared.Answer.{Answer as CheckAnswer}
 use Rattle.checking.specs.declared.Answer.the-variants as checkAnswer
-use Rattle.wivulameno.specs.Interface.{status, values}
+use Rattle.wivulameno.specs.Interface.{status, values, slot}
 
 -- the numbers of a legal circuit fit 32 bits
 pub legal-small : (s : List ℕ) (r : ReadAnswer) (z : Sizes) → r ≡ readAnswer.Legal z → readPaper r ≡ readOp s
@@ -45,12 +45,30 @@ read-done a r z lent e f =
     (ap status g, ap (λ (x : Answer). values x lent) g)
 
 -- a refusal: its number, and the lent numbers as they were
-pub read-refused : (a : Answer) (r : ReadAnswer) (k : Refusal) (n : ℕ) (lent : List ℕ) → r ≡ readAnswer.Refused k → readPaper r ≡ a → n ≡ numberOf k
+pub read-refused : (a : Answer) (r : ReadAnswer) (k : Refusal) {x : ℕ} (n : ℕ) (lent : List ℕ) → r ≡ readAnswer.Refused k x → readPaper r ≡ a → n ≡ numberOf k
     → (n ≡ status a) × (lent ≡ values a lent)
 unfolding status values
-read-refused a r k n lent e f h =
-    let g : readPaper (readAnswer.Refused k) ≡ a = ap readPaper (sym e) ∙ f in
+read-refused a r k {x} n lent e f h =
+    let g : readPaper (readAnswer.Refused k x) ≡ a = ap readPaper (sym e) ∙ f in
     (h ∙ ap status g, ap (λ (x : Answer). values x lent) g)
+
+-- the slot of a reading: none of a success
+pub slot-legal : (a : Answer) (r : ReadAnswer) {z : Sizes} → r ≡ readAnswer.Legal z → readPaper r ≡ a → _≡_ {A = ℕ} 0 (slot a)
+unfolding slot
+slot-legal a r {z} e f =
+    let g : readPaper (readAnswer.Legal z) ≡ a = ap readPaper (sym e) ∙ f in
+    ap slot g
+
+-- that of a refusal
+pub slot-refused : (a : Answer) (r : ReadAnswer) {k : Refusal} (x : ℕ) → r ≡ readAnswer.Refused k x → readPaper r ≡ a → x ≡ slot a
+unfolding slot
+slot-refused a r {k} x e f =
+    let g : readPaper (readAnswer.Refused k x) ≡ a = ap readPaper (sym e) ∙ f in
+    ap slot g
+
+-- which fits 32 bits
+pub refused-small : (s : List ℕ) (r : ReadAnswer) {k : Refusal} (x : ℕ) → r ≡ readAnswer.Refused k x → readPaper r ≡ readOp s → x < 2 ^ 32
+refused-small s r {k} x e f = slot-small s k x (ap readPaper (sym e) ∙ f)
 
 -- evaluate's success
 pub evaluate-done : (o : Outcome) (r : EvaluateAnswer) (y : List ℕ) → r ≡ evaluateAnswer.Done → outcome r y ≡ o

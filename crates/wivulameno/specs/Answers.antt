@@ -12,7 +12,7 @@ use Rattle.seeds.specs.Operations as seeds
 use Rattle.proving.specs.Answers as proving
 use Rattle.checking.specs.Answers as checking
 use Rattle.shelf.specs.Operations.{paper as shelfPaper}
-use Rattle.wivulameno.specs.Interface.{status, values}
+use Rattle.wivulameno.specs.Interface.{status, values, slot}
 
 -- different arguments have different results
 abbrev pub Injective : {A B : Type 0} → (A → B) → Type 0
@@ -34,9 +34,13 @@ pub record DifferentAnswers : Type 0 where
 abbrev pub reported : List ℕ → Answer → ℕ × List ℕ
 reported lent a = (status a, values a lent)
 
+-- what wv_read and wv_fault_slot say of a reading
+abbrev pub readReported : List ℕ → Answer → (ℕ × List ℕ) × ℕ
+readReported lent a = (reported lent a, slot a)
+
 -- what their C functions say
 pub record DifferentStatuses : Type 0 where
-  pub read : (lent : List ℕ) → Injective (λ a. reported lent (readPaper a))
+  pub read : (lent : List ℕ) → Injective (λ a. readReported lent (readPaper a))
   pub evaluate : Injective (λ a. status (evaluatePaper a))
   pub run : Injective (λ a. status (mpc.paper a))
   pub derive : Injective (λ a. status (seeds.paper a))

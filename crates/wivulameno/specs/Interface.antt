@@ -2,14 +2,19 @@
 -- Assumes nothing.
 use mathlib.Core.List.{List}
 use Prim.Native.Nat.{ℕ}
-use Rattle.refusal.specs.Outcome.{Answer, refusal, success}
+use Rattle.refusal.specs.Outcome.{Answer, refusalAt, success}
 
 -- the status of an answer
 unfoldable pub status : Answer → ℕ
-status (refusal k) = k
+status (refusalAt k x) = k
 status (success vs) = 0
 
 -- the values of a success, or what the lent numbers were
 unfoldable pub values : Answer → List ℕ → List ℕ
-values (refusal k) lent = lent
+values (refusalAt k x) lent = lent
 values (success vs) lent = vs
+
+-- the slot that a refusal tells; 0 for a success
+unfoldable pub slot : Answer → ℕ
+slot (refusalAt k x) = x
+slot (success vs) = 0

@@ -1,5 +1,5 @@
 // The C interface, built as the static library libwivulameno.a; its header is include/wivulameno.h.
-// Each function returns 0 for success, or the number of a refusal. No logic of its own.
+// Each function returns 0 for success, or the number of a refusal; wv_fault_slot alone a slot. No logic of its own.
 ghost use mathlib.Core.Path.{_≡_};
 ghost use mathlib.Core.Bool.{cond};
 ghost use mathlib.Core.List.{[], _∷_};
@@ -10,7 +10,7 @@ ghost use Rattle.proof.specs.Prove.{proveOp};
 ghost use Rattle.proof.specs.Check.{checkOp};
 ghost use Rattle.shelf.specs.Operations.{stockOp, drawOp};
 ghost use Rattle.seeds.specs.Operations.{expandOp, openOp, challengeOp};
-ghost use Rattle.wivulameno.specs.Interface.{status, values};
+ghost use Rattle.wivulameno.specs.Interface.{status, values, slot};
 ghost use Rattle.keccak.specs.Sponge.{«sha3-256», «shake128», «shake256»};
 
 // SHA3-256 of the data, into 32 lent bytes.
@@ -56,7 +56,19 @@ pub extern "C" fn wv_read(circuit: &[u8], sizes: &mut [u32; 4]) -> u32
             ];
             0
         }
-        circuit::ReadAnswer::Refused(k) => refusal::number(k),
+        circuit::ReadAnswer::Refused(k, _) => refusal::number(k),
+    }
+}
+
+// The slot that refusals 19, 20 and 21 of a circuit tell; 0 for every other reading.
+#[no_mangle]
+pub extern "C" fn wv_fault_slot(circuit: &[u8]) -> u32
+    ensures { λ r. ⌜ r ≡ slot (readOp (now (circuit .entry))) ⌝ }
+{
+    let a = circuit::reading::read(circuit);
+    match a {
+        circuit::ReadAnswer::Legal(_) => 0,
+        circuit::ReadAnswer::Refused(_, at) => at as u32,
     }
 }
 

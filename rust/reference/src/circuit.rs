@@ -32,12 +32,31 @@ pub(crate) struct Circuit {
     pub gates: Vec<(Record, usize)>,
 }
 
-/// Reads a circuit file: refusals 1 to 5.
+/// Why a file is refused: the number, and for a chain the slot that holds the
+/// offending link. The head counts as slot 0; so does every other refusal.
+struct Fault {
+    number: Refusal,
+    slot: usize,
+}
+
+impl From<Refusal> for Fault {
+    fn from(number: Refusal) -> Fault {
+        Fault { number, slot: 0 }
+    }
+}
+
+/// Reads a circuit file: refusals 1, 2, 3, 19, 20, 21 and 5.
 pub fn read(file: &[u8]) -> Result<Sizes, Refusal> {
     legal(file).map(|circuit| circuit.sizes())
 }
 
-/// Fills `y` with the outputs for `witness`: refusals 1 to 5, 6 and 7.
+/// The slot that holds the offending link where reading is refused with 19, 20 or
+/// 21, and 0 for every other reading. A slot of 0 is also the head.
+pub fn fault_slot(file: &[u8]) -> usize {
+    reading(file).err().map_or(0, |fault| fault.slot)
+}
+
+/// Fills `y` with the outputs for `witness`: the refusals of the circuit, 6 and 7.
 pub fn evaluate(file: &[u8], witness: &[u8], y: &mut [u8]) -> Result<(), Refusal> {
     let circuit = legal(file)?;
     if witness.len() != oct(circuit.inputs) || y.len() != oct(circuit.outputs.len()) {
@@ -50,32 +69,37 @@ pub fn evaluate(file: &[u8], witness: &[u8], y: &mut [u8]) -> Result<(), Refusal
     Ok(())
 }
 
-/// The circuit of a file. Each test is made over the whole file before the next.
+/// The circuit of a file, or the number of the refusal alone.
 pub(crate) fn legal(file: &[u8]) -> Result<Circuit, Refusal> {
+    reading(file).map_err(|fault| fault.number)
+}
+
+/// The circuit of a file. Each test is made over the whole file before the next.
+fn reading(file: &[u8]) -> Result<Circuit, Fault> {
     if file.len() < 8 {
-        return Err(1);
+        return Err(1.into());
     }
     let [inputs, outputs, gates, head] = [0, 2, 4, 6].map(|place| u16_at(file, place));
     if !(1..=512).contains(&inputs) || !(1..=256).contains(&outputs) || gates > 4096 {
-        return Err(2);
+        return Err(2.into());
     }
     if file.len() != 8 + 2 * outputs + 8 * gates {
-        return Err(1);
+        return Err(1.into());
     }
     let (outputs, records) = file[8..].split_at(2 * outputs);
     let outputs: Vec<usize> = outputs.chunks(2).map(|wire| u16_at(wire, 0)).collect();
     let records: Vec<Record> = records.chunks(8).map(Record::of).collect();
     if !records.iter().all(Record::is_in_form) {
-        return Err(3);
+        return Err(3.into());
     }
-    let slots = chain(head, &records).ok_or(4_u32)?;
+    let slots = chain(head, &records)?;
     let circuit = Circuit {
         inputs,
         outputs,
         gates: in_order(&slots, records, inputs),
     };
     if !circuit.wires_are_written() {
-        return Err(5);
+        return Err(5.into());
     }
     Ok(circuit)
 }
@@ -105,20 +129,28 @@ impl Record {
     }
 }
 
-/// The slots from `head` on, if each is met exactly once and the chain ends.
-fn chain(head: usize, records: &[Record]) -> Option<Vec<usize>> {
+/// The slots from `head` on, if there are G of them and the chain ends there; else
+/// the first fault on the way. A slot that is visited twice counts twice; a chain
+/// on which one is never ends, so no chain that is accepted has one.
+fn chain(head: usize, records: &[Record]) -> Result<Vec<usize>, Fault> {
+    let gates = records.len();
     let mut slots = vec![];
-    let mut met = vec![false; records.len() + 1];
-    let mut slot = head;
-    while slot != 0 {
-        if slot > records.len() || met[slot] {
-            return None;
-        }
-        met[slot] = true;
-        slots.push(slot);
-        slot = records[slot - 1].next;
+    let (mut holder, mut link) = (0, head);
+    loop {
+        let number = match (link, slots.len() == gates) {
+            (link, _) if link > gates => 19,
+            (0, true) => return Ok(slots),
+            (0, false) => 20,
+            (_, true) => 21,
+            (slot, false) => {
+                slots.push(slot);
+                (holder, link) = (slot, records[slot - 1].next);
+                continue;
+            }
+        };
+        let slot = holder;
+        return Err(Fault { number, slot });
     }
-    (slots.len() == records.len()).then_some(slots)
 }
 
 /// The records in the order of `slots`; slot k writes wire I + k - 1.
@@ -217,7 +249,8 @@ mod tests {
 
     #[test]
     fn m2_a_record_that_follows_itself() {
-        assert_eq!(read(&k_with(16, 1)), Err(4));
+        let file = k_with(16, 1);
+        assert_eq!((read(&file), fault_slot(&file)), (Err(21), 1));
     }
 
     #[test]
@@ -266,6 +299,45 @@ mod tests {
             assert_eq!(evaluate(&file, &[witness], &mut y), Ok(()));
             assert_eq!(y, [expected]);
         }
+    }
+
+    /// Three INV gates of input 0: the head, the three links, and what they lead to.
+    #[test]
+    fn the_first_fault_of_a_chain() {
+        let known = [
+            ([1, 3, 2, 0], (20, 3)),
+            ([2, 0, 1, 3], (20, 1)),
+            ([0, 2, 3, 0], (20, 0)),
+            ([4, 2, 3, 0], (19, 0)),
+            ([1, 2, 4, 0], (19, 2)),
+            ([1, 2, 3, 4], (19, 3)),
+            ([1, 2, 3, 1], (21, 3)),
+            ([1, 2, 1, 0], (21, 1)),
+            ([3, 1, 2, 3], (21, 3)),
+        ];
+        for ([head, links @ ..], (number, slot)) in known {
+            let mut file = vec![1, 0, 1, 0, 3, 0, head, 0, 0, 0];
+            for link in links {
+                file.extend([3, 0, 0, 0, 0, 0, link, 0]);
+            }
+            let found = (read(&file), fault_slot(&file));
+            assert_eq!(found, (Err(number), slot), "{head}, {links:?}");
+        }
+    }
+
+    #[test]
+    fn no_slot_for_other_refusals() {
+        let others = [
+            (1, vec![]),
+            (2, k_with(0, 0).to_vec()),
+            (3, k_with(10, 4).to_vec()),
+        ];
+        for (number, file) in others {
+            assert_eq!((read(&file), fault_slot(&file)), (Err(number), 0));
+        }
+        let wire = k_with(14, 2);
+        assert_eq!((read(&wire), fault_slot(&wire)), (Err(5), 0));
+        assert_eq!(fault_slot(&K), 0);
     }
 
     #[test]

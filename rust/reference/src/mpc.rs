@@ -55,7 +55,7 @@ impl Sizes {
     }
 }
 
-/// Fills `corrections` from the tapes: refusals 1 to 5, 8, 6 and 7.
+/// Fills `corrections` from the tapes: the refusals of the circuit, 8, 6 and 7.
 pub fn prepare(file: &[u8], n: u32, tapes: &[u8], corrections: &mut [u8]) -> Result<(), Refusal> {
     let circuit = legal(file)?;
     let (sizes, n) = (circuit.sizes(), parties(n)?);
@@ -68,7 +68,8 @@ pub fn prepare(file: &[u8], n: u32, tapes: &[u8], corrections: &mut [u8]) -> Res
     Ok(())
 }
 
-/// Runs all parties with the corrections as lent: refusals 1 to 5, 8, 6 and 7.
+/// Runs all parties with the corrections as lent: the refusals of the circuit, 8, 6
+/// and 7.
 pub fn run(
     file: &[u8],
     n: u32,
@@ -97,8 +98,8 @@ pub fn run(
     Ok(())
 }
 
-/// Fills the showing with party p hidden, cut after `cut` gates: refusals 1 to
-/// 5, 8, 9, 6 and 7.
+/// Fills the showing with party p hidden, cut after `cut` gates: the refusals of
+/// the circuit, 8, 9, 6 and 7.
 pub fn show(
     file: &[u8],
     n: u32,
@@ -139,8 +140,8 @@ pub fn show(
     Ok(())
 }
 
-/// Fills `rows` with all broadcasts of an opened run: refusals 1 to 5, 8, 9, 6,
-/// 7 and 10.
+/// Fills `rows` with all broadcasts of an opened run: the refusals of the circuit,
+/// 8, 9, 6, 7 and 10.
 pub fn replay(
     file: &[u8],
     n: u32,

@@ -37,8 +37,8 @@ impl Counts {
     }
 }
 
-/// Writes a proof to the start of `proof` and gives its length: refusals 1 to
-/// 5, 8, 6, 7 and 10.
+/// Writes a proof to the start of `proof` and gives its length: the refusals of the
+/// circuit, 8, 6, 7 and 10.
 pub fn prove(
     statement: Statement,
     witness: &[u8],
@@ -68,7 +68,8 @@ pub fn prove(
     Ok(file.len())
 }
 
-/// Does the proof show the statement? Refusals 1 to 5, 6, 7, 11, 12, 7, 10 and 13.
+/// Does the proof show the statement? The refusals of the circuit, 6, 7, 11, 12, 7,
+/// 10 and 13.
 pub fn check(statement: Statement, proof: &[u8]) -> Result<(), Refusal> {
     let circuit = legal(statement.circuit)?;
     let sizes = circuit.sizes();

@@ -42,6 +42,22 @@ fn check_read(name: &str, file: &[u8], expected: Result<[u32; 4], u32>) {
     let mut sizes = [7, 8, 9, 10];
     let _ = wivulameno::circuit::read_into(file, &mut sizes);
     assert_eq!(sizes, expected.unwrap_or([7, 8, 9, 10]), "sizes: {name}");
+
+    if !matches!(expected, Err(19..=21)) {
+        assert_eq!(fault_slots(file), [0, 0], "slot: {name}");
+    }
+}
+
+/// The slot of a chain's fault, by both.
+fn fault_slots(file: &[u8]) -> [usize; 2] {
+    let ours = wivulameno::circuit::fault_slot(file);
+    [reference::circuit::fault_slot(file), ours as usize]
+}
+
+/// A chain that goes wrong, with its number and its slot.
+fn check_fault(name: &str, file: &[u8], number: u32, slot: usize) {
+    check_read(name, file, Err(number));
+    assert_eq!(fault_slots(file), [slot, slot], "slot: {name}");
 }
 
 /// What an evaluation leaves in `y`, which holds 0xa5 before.
@@ -64,7 +80,7 @@ fn check_evaluate(name: &str, file: &[u8], witness: &[u8], y_len: usize, expecte
 #[test]
 fn marked_cases() {
     check_read("m1", &K, Ok([2, 1, 1, 1]));
-    check_read("m2", &with(&K, &[(16, 1)]), Err(4));
+    check_fault("m2", &with(&K, &[(16, 1)]), 21, 1);
     check_read("m3", &with(&K, &[(14, 2)]), Err(5));
     check_read("m4", &[], Err(1));
     let no_gates = [1, 0, 1, 0, 0, 0, 0, 0, 0, 0];
@@ -155,21 +171,21 @@ fn chains() {
         with(&TWO, &changes)
     };
     check_read("2, 1", &link(2, 0, 1), Ok([3, 3, 2, 1]));
-    check_read("no head", &link(0, 0, 1), Err(4));
-    check_read("ends early", &link(1, 0, 1), Err(4));
-    check_read("ends early, rest a ring", &link(1, 0, 2), Err(4));
-    check_read("does not end", &link(2, 2, 1), Err(4));
-    check_read("last follows itself", &link(2, 1, 1), Err(4));
-    check_read("first follows itself", &link(2, 0, 2), Err(4));
-    check_read("head past G", &link(3, 0, 1), Err(4));
-    check_read("link past G", &link(2, 0, 3), Err(4));
-    check_read("end past G", &link(2, 3, 1), Err(4));
-    check_read("head 256 + 2", &with(&TWO, &[(7, 1)]), Err(4));
-    check_read("end at 256", &with(&TWO, &[(SLOT_1 + 7, 1)]), Err(4));
+    check_fault("no head", &link(0, 0, 1), 20, 0);
+    check_fault("ends early", &link(1, 0, 1), 20, 1);
+    check_fault("ends early, rest a ring", &link(1, 0, 2), 20, 1);
+    check_fault("does not end", &link(2, 2, 1), 21, 1);
+    check_fault("last follows itself", &link(2, 1, 1), 21, 1);
+    check_fault("first follows itself", &link(2, 0, 2), 21, 2);
+    check_fault("head past G", &link(3, 0, 1), 19, 0);
+    check_fault("link past G", &link(2, 0, 3), 19, 2);
+    check_fault("end past G", &link(2, 3, 1), 19, 1);
+    check_fault("head 256 + 2", &with(&TWO, &[(7, 1)]), 19, 0);
+    check_fault("end at 256", &with(&TWO, &[(SLOT_1 + 7, 1)]), 19, 1);
     let no_gates = [1, 0, 1, 0, 0, 0, 1, 0, 0, 0];
-    check_read("no gates and head 1", &no_gates, Err(4));
+    check_fault("no gates and head 1", &no_gates, 19, 0);
     let no_gates = [1, 0, 1, 0, 0, 0, 0, 1, 0, 0];
-    check_read("no gates and head 256", &no_gates, Err(4));
+    check_fault("no gates and head 256", &no_gates, 19, 0);
 }
 
 #[test]
@@ -206,12 +222,17 @@ fn read_in_order() {
     check_read("1 before 3", &long, Err(1));
     let file = with(&TWO, &[(6, 0), (SLOT_1, 9)]);
     check_read("3 on no chain", &file, Err(3));
-    let file = with(&TWO, &[(SLOT_2 + 2, 9), (SLOT_1 + 6, 2)]);
-    check_read("4 before 5", &file, Err(4));
+    for (head, first, number) in [(3, 0, 19), (1, 0, 20), (2, 2, 21)] {
+        let chain = [(6, head), (SLOT_1 + 6, first)];
+        let file = with(&with(&TWO, &chain), &[(SLOT_2 + 2, 9)]);
+        check_read("the chain before 5", &file, Err(number));
+        let file = with(&with(&TWO, &chain), &[(SLOT_2, 9)]);
+        check_read("3 before the chain", &file, Err(3));
+    }
     let file = with(&TWO, &[(SLOT_2 + 2, 9), (SLOT_1, 9)]);
     check_read("3 before 5", &file, Err(3));
     let file = with(&TWO, &[(8, 9), (28, 3)]);
-    check_read("4 before an output's 5", &file, Err(4));
+    check_fault("the chain before an output's 5", &file, 19, 2);
 }
 
 #[test]
@@ -250,7 +271,9 @@ fn evaluate_refusals() {
         (2, with(&TWO, &[(0, 0)])),
         (1, TWO[..29].to_vec()),
         (3, with(&TWO, &[(SLOT_1, 4)])),
-        (4, with(&TWO, &[(6, 0)])),
+        (19, with(&TWO, &[(6, 3)])),
+        (20, with(&TWO, &[(6, 0)])),
+        (21, with(&TWO, &[(SLOT_1 + 6, 1)])),
         (5, with(&TWO, &[(SLOT_1 + 2, 5)])),
     ] {
         check_evaluate("circuit", &file, &[0], 1, Err(expected));

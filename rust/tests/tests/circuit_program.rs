@@ -1,10 +1,12 @@
 //! The circuit program, as the gate builds it: "ok I O G A" or "no K" for what is on its
-//! standard input. Expected answers come from the scope paper and the second implementation.
+//! standard input, with the slot after the K of a chain. Expected answers come from the scope
+//! paper and the second implementation.
 
 use std::io::Write;
 use std::path::Path;
 use std::process::{Command, Stdio};
 
+use reference::circuit::fault_slot;
 use tests::circuits::{any_sizes, any_slots, damaged, legal, row_of_gates};
 use tests::random::Random;
 
@@ -32,6 +34,7 @@ fn expected(input: &[u8]) -> String {
     match reference::circuit::read(input) {
         _ if input.len() > LONGEST => "no 1\n".to_string(),
         Ok(z) => format!("ok {} {} {} {}\n", z.inputs, z.outputs, z.gates, z.ands),
+        Err(refusal @ 19..=21) => format!("no {refusal} {}\n", fault_slot(input)),
         Err(refusal) => format!("no {refusal}\n"),
     }
 }
@@ -46,10 +49,39 @@ fn changed(place: usize, byte: u8) -> Vec<u8> {
 #[test]
 fn the_cases_of_the_paper() {
     assert_eq!(printed(&K), "ok 2 1 1 1\n");
-    assert_eq!(printed(&changed(16, 1)), "no 4\n");
+    assert_eq!(printed(&changed(16, 1)), "no 21 1\n");
     assert_eq!(printed(&changed(14, 2)), "no 5\n");
     assert_eq!(printed(&[]), "no 1\n");
     assert_eq!(printed(&[1, 0, 1, 0, 0, 0, 0, 0, 0, 0]), "ok 1 1 0 0\n");
+}
+
+#[test]
+fn chains() {
+    assert_eq!(printed(&changed(6, 2)), "no 19 0\n");
+    assert_eq!(printed(&changed(16, 2)), "no 19 1\n");
+    assert_eq!(printed(&changed(17, 1)), "no 19 1\n");
+    assert_eq!(printed(&changed(6, 0)), "no 20 0\n");
+    // Slots of more than one digit, and the last one.
+    let mut file = row_of_gates(4096);
+    file.gates[99].next = 0;
+    assert_eq!(printed(&file.bytes()), "no 20 100\n");
+    file.gates[99].next = 4097;
+    assert_eq!(printed(&file.bytes()), "no 19 100\n");
+    file.gates[99].next = 101;
+    file.gates[4095].next = 65_535;
+    assert_eq!(printed(&file.bytes()), "no 19 4096\n");
+    file.gates[4095].next = 1;
+    assert_eq!(printed(&file.bytes()), "no 21 4096\n");
+}
+
+/// Other refusals have no slot.
+#[test]
+fn other_refusals() {
+    assert_eq!(printed(&K[..7]), "no 1\n");
+    assert_eq!(printed(&changed(0, 0)), "no 2\n");
+    assert_eq!(printed(&K[..17]), "no 1\n");
+    assert_eq!(printed(&changed(10, 4)), "no 3\n");
+    assert_eq!(printed(&changed(8, 3)), "no 5\n");
 }
 
 #[test]

@@ -32,6 +32,10 @@ fn compare_read(random: &mut Random, file: &[u8]) -> Result<circuit::Sizes, u32>
     let ours = ours.map_err(|refusal| refusal.number());
     assert_eq!(ours, second.map(|_| ()), "{}", shown(file));
     assert_eq!(words, expected, "sizes, {}", shown(file));
+    let slot = wivulameno::circuit::fault_slot(lent.get()) as usize;
+    assert_eq!(slot, circuit::fault_slot(file), "slot, {}", shown(file));
+    let of_chain = matches!(second, Err(19..=21));
+    assert!(of_chain || slot == 0, "slot {slot}, {}", shown(file));
     assert!(lent.unchanged(), "circuit, {}", shown(file));
     second
 }
@@ -122,8 +126,8 @@ fn damaged_files() {
         let answer = compare_evaluate(&mut random, &bytes, &witness, y_len);
         evaluated.add_answer(&answer);
     }
-    read.expect(&[0, 1, 2, 3, 4, 5], 500);
-    evaluated.expect(&[0, 1, 2, 3, 4, 5, 6, 7], 20);
+    read.expect(&[0, 1, 2, 3, 5, 19, 20, 21], 300);
+    evaluated.expect(&[0, 1, 2, 3, 5, 6, 7, 19, 20, 21], 20);
 }
 
 /// Bytes without any form, and heads alone.

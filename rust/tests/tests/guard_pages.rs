@@ -42,7 +42,7 @@ fn runs_showings_and_replays() {
         let expected = call.by_reference();
         assert_eq!(answer.map(|()| filled), expected, "{}", call.shown());
     }
-    outcomes.expect(&[0, 1, 2, 3, 4, 5, 6, 7, 8, 9, 10], 5);
+    outcomes.expect(&[0, 1, 2, 3, 5, 6, 7, 8, 9, 10, 19, 20, 21], 5);
 }
 
 #[test]
@@ -58,9 +58,14 @@ fn circuits() {
             _ => damaged(&mut random, &file, &slots),
         };
         outcomes.add_answer(&read(&mut random, &bytes));
+        let _ = lend(&mut random, &[&bytes], &[], |inputs, _| {
+            let slot = circuit::fault_slot(inputs[0]) as usize;
+            assert_eq!(slot, reference::circuit::fault_slot(&bytes));
+            Ok(())
+        });
         evaluate(&mut random, &bytes, sizes, &mut outcomes);
     }
-    outcomes.expect(&[0, 1, 2, 3, 4, 5, 6, 7], 5);
+    outcomes.expect(&[0, 1, 2, 3, 5, 6, 7, 19, 20, 21], 5);
 }
 
 fn read(random: &mut Random, file: &[u8]) -> Result<(), u32> {

@@ -179,7 +179,9 @@ fn refusals_of_the_circuit_come_first() {
         (2, with(0, 0)),
         (1, FIVE[..53].to_vec()),
         (3, with(14, 4)),
-        (4, with(6, 0)),
+        (19, with(6, 6)),
+        (20, with(6, 0)),
+        (21, with(52, 3)),
         (5, with(16, 9)),
     ] {
         for mut call in good_calls(1) {

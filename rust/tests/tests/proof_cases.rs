@@ -268,13 +268,15 @@ fn five_with(place: usize, byte: u8) -> Vec<u8> {
 }
 
 /// Circuits with their refusals, in order.
-fn bad_circuits() -> [(u32, Vec<u8>); 6] {
+fn bad_circuits() -> [(u32, Vec<u8>); 8] {
     [
         (1, FIVE[..7].to_vec()),
         (2, five_with(0, 0)),
         (1, FIVE[..53].to_vec()),
         (3, five_with(14, 4)),
-        (4, five_with(6, 0)),
+        (19, five_with(6, 6)),
+        (20, five_with(6, 0)),
+        (21, five_with(52, 3)),
         (5, five_with(16, 9)),
     ]
 }

@@ -329,7 +329,7 @@ fn another_circuit() {
         assert!(answer.is_err() || same_challenge(), "{}", call.shown());
         outcomes.add_answer(&answer);
     }
-    outcomes.expect(&[0, 1, 2, 3, 4, 5, 6, 7, 10, 12, 13], 3);
+    outcomes.expect(&[0, 1, 2, 3, 5, 6, 7, 10, 12, 13, 19, 20, 21], 3);
 }
 
 /// Where no challenge can be expected to be the same, every other file is refused.
@@ -345,7 +345,7 @@ fn another_circuit_for_a_large_proof() {
         assert_eq!(answer.is_ok(), same_file, "{}", call.shown());
         outcomes.add_answer(&answer);
     }
-    outcomes.expect(&[0, 1, 2, 3, 4, 5, 6, 7, 12], 3);
+    outcomes.expect(&[0, 1, 2, 3, 5, 6, 7, 12, 19, 20, 21], 3);
 }
 
 /// Any M, tau and n in the header of a proof.
@@ -462,6 +462,6 @@ fn damaged_calls() {
         outcomes[1].add_answer(&compare_check(&mut random, &check));
     }
     let [prove, check] = outcomes;
-    prove.expect(&[0, 1, 2, 3, 4, 5, 6, 7, 8, 10], 20);
-    check.expect(&[0, 1, 2, 3, 4, 5, 6, 7, 10, 11, 12, 13], 20);
+    prove.expect(&[0, 1, 2, 3, 5, 6, 7, 8, 10, 19, 20, 21], 20);
+    check.expect(&[0, 1, 2, 3, 5, 6, 7, 10, 11, 12, 13, 19, 20, 21], 20);
 }

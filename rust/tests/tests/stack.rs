@@ -3,6 +3,7 @@
 
 use std::thread;
 use tests::calls::Setting;
+use tests::circuits::row_of_gates;
 use tests::random::Random;
 
 /// What the README promises, with a little for the test itself.
@@ -23,6 +24,10 @@ fn circuits() {
         assert_eq!(wivulameno::circuit::read(CIRCUIT), Ok([512, 1, 4096, 4096]));
         let answer = wivulameno::circuit::evaluate(CIRCUIT, WITNESS, &mut y);
         assert_eq!((answer, y), (Ok(()), [1]));
+        // A chain from slot to slot, and from the last one back to the first.
+        let mut ring = row_of_gates(4096);
+        ring.gates[4095].next = 1;
+        assert_eq!(wivulameno::circuit::fault_slot(&ring.bytes()), 4096);
     });
 }
 

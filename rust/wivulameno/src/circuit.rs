@@ -1,4 +1,6 @@
 //! Circuit files. `include/wivulameno.h` has their layout.
+//!
+//! Every function that is lent a circuit refuses it with 1, 2, 3, 19, 20, 21 or 5.
 
 use crate::limits::{MAX_GATES, MAX_INPUTS, MAX_OUTPUTS};
 use crate::proof::oct;
@@ -6,6 +8,7 @@ use crate::{answer, Refusal};
 
 extern "C" {
     fn wv_read(circuit: *const u8, circuit_len: usize, sizes: *mut [u32; 4]) -> u32;
+    fn wv_fault_slot(circuit: *const u8, circuit_len: usize) -> u32;
     fn wv_evaluate(
         circuit: *const u8,
         circuit_len: usize,
@@ -49,7 +52,7 @@ impl Sizes {
     }
 }
 
-/// The sizes of `circuit`. Refuses with 1 to 5.
+/// The sizes of `circuit`. Refuses it as [above](self).
 pub fn sizes(circuit: &[u8]) -> Result<Sizes, Refusal> {
     let [inputs, outputs, gates, ands] = read(circuit)?;
     Ok(Sizes {
@@ -66,16 +69,35 @@ pub fn read_into(circuit: &[u8], sizes: &mut [u32; 4]) -> Result<(), Refusal> {
     answer(unsafe { wv_read(circuit.as_ptr(), circuit.len(), sizes) })
 }
 
-/// I, O, G and A of `circuit`; [`sizes`] gives them names. Refuses with 1 to 5.
+/// I, O, G and A of `circuit`; [`sizes`] gives them names. Refuses it as
+/// [above](self).
 pub fn read(circuit: &[u8]) -> Result<[u32; 4], Refusal> {
     let mut sizes = [0; 4];
     read_into(circuit, &mut sizes)?;
     Ok(sizes)
 }
 
-/// Fills `y` with the outputs of `circuit` for `witness`. Refuses with 1 to 5, 6
-/// for a length that is not [`Sizes::witness_len`] or [`Sizes::y_len`], 7 for an
-/// unused bit of the witness.
+/// Where the chain of `circuit` goes wrong: the slot that holds the offending link,
+/// 0 for the head, if reading is refused with 19, 20 or 21
+/// ([`Refusal::is_of_chain`]). For every other reading it is 0.
+///
+/// ```
+/// use wivulameno::circuit::{fault_slot, read};
+/// use wivulameno::Refusal;
+///
+/// // One gate, in slot 1, whose link leads to slot 1 again.
+/// let circuit = [2, 0, 1, 0, 1, 0, 1, 0, 2, 0, 2, 0, 0, 0, 1, 0, 1, 0];
+/// assert_eq!(read(&circuit), Err(Refusal::ChainLong));
+/// assert_eq!(fault_slot(&circuit), 1);
+/// ```
+pub fn fault_slot(circuit: &[u8]) -> u32 {
+    // SAFETY: the slice is valid for its length.
+    unsafe { wv_fault_slot(circuit.as_ptr(), circuit.len()) }
+}
+
+/// Fills `y` with the outputs of `circuit` for `witness`. Refuses the circuit as
+/// [above](self), then with 6 for a length that is not [`Sizes::witness_len`] or
+/// [`Sizes::y_len`], 7 for an unused bit of the witness.
 pub fn evaluate(circuit: &[u8], witness: &[u8], y: &mut [u8]) -> Result<(), Refusal> {
     // SAFETY: the slices are valid for their lengths and `y` overlaps no other.
     answer(unsafe {

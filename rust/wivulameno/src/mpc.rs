@@ -1,6 +1,6 @@
 //! Runs of a circuit by n parties, showings and replays: what a proof is made of,
 //! for tests and for a closer look. `include/wivulameno.h` has the parts and
-//! their lengths.
+//! their lengths. A circuit is refused as [`circuit`](crate::circuit) says.
 
 use crate::{answer, Refusal};
 
@@ -108,8 +108,8 @@ pub struct ShowingOut<'a> {
     pub row: &'a mut [u8],
 }
 
-/// Fills `corrections` with those of the tapes of n parties. Refuses with 1 to 5,
-/// 8, 6, 7.
+/// Fills `corrections` with those of the tapes of n parties. Refuses with 8, 6, 7
+/// after the circuit's own.
 pub fn prepare(
     circuit: &[u8],
     n: u32,
@@ -132,7 +132,7 @@ pub fn prepare(
 }
 
 /// Runs the circuit for `witness` by n parties, with the corrections as lent.
-/// Refuses with 1 to 5, 8, 6, 7.
+/// Refuses with 8, 6, 7 after the circuit's own.
 pub fn run(
     circuit: &[u8],
     n: u32,
@@ -165,7 +165,7 @@ pub fn run(
 }
 
 /// Fills `out` with the showing that hides party p, cut after `cut` gates.
-/// Refuses with 1 to 5, 8, 9, 6, 7.
+/// Refuses with 8, 9, 6, 7 after the circuit's own.
 pub fn show(
     circuit: &[u8],
     n: u32,
@@ -201,7 +201,7 @@ pub fn show(
 }
 
 /// Fills `rows` with the broadcasts of all parties in the run that is shown,
-/// whose output must be `y`. Refuses with 1 to 5, 8, 9, 6, 7, 10.
+/// whose output must be `y`. Refuses with 8, 9, 6, 7, 10 after the circuit's own.
 pub fn replay(
     circuit: &[u8],
     n: u32,

@@ -99,8 +99,8 @@ pub fn prove_into(
 /// The root is 16 random bytes, drawn from a shelf: a new root for each call,
 /// also after a refused one. Two proofs from one root can show the witness.
 ///
-/// Refuses with 1 to 5 for the circuit, 8 for the counts, 6 for a length, 7 for an
-/// unused bit, 10 if the circuit does not give y for the witness.
+/// Refuses with 1, 2, 3, 19, 20, 21 or 5 for the circuit, 8 for the counts, 6 for a
+/// length, 7 for an unused bit, 10 if the circuit does not give y for the witness.
 pub fn prove(
     statement: Statement,
     witness: &[u8],
@@ -116,8 +116,9 @@ pub fn prove(
 /// Is this a proof of the statement? Any legal counts are accepted: a caller who
 /// wants so many bits asks [`Counts::of_proof`] and [`Counts::soundness_bits`].
 ///
-/// Refuses with 1 to 5 for the circuit, 6 or 7 for y and the message, 11 for what
-/// does not begin as a proof, and 12, 7, 10 or 13 for a proof that does not hold.
+/// Refuses with 1, 2, 3, 19, 20, 21 or 5 for the circuit, 6 or 7 for y and the
+/// message, 11 for what does not begin as a proof, and 12, 7, 10 or 13 for a proof
+/// that does not hold.
 /// With another circuit file, y, message, M, tau or n than the prover's, the
 /// challenge is another one, and the first of these four that is met is given.
 pub fn check(statement: Statement, proof: &[u8]) -> Result<(), Refusal> {

@@ -14,8 +14,6 @@ pub enum Refusal {
     CircuitSizes = 2,
     /// A gate record has an unknown kind or a field that should be zero.
     Gate = 3,
-    /// The chain does not visit every gate exactly once and then end.
-    Chain = 4,
     /// A gate reads a wire that is not written by then, or an output is no wire.
     Wire = 5,
     /// An input or a buffer does not have the length that is asked for.
@@ -44,15 +42,20 @@ pub enum Refusal {
     Full = 17,
     /// The shelf has counted as many draws as it can.
     Spent = 18,
+    /// A link of the chain leads beyond the last slot.
+    ChainBeyond = 19,
+    /// The chain ends before every slot is visited.
+    ChainShort = 20,
+    /// The chain does not end after as many slots as there are.
+    ChainLong = 21,
 }
 
 impl Refusal {
-    /// All of them, by number from 1.
-    pub const ALL: [Refusal; 18] = [
+    /// All of them, by their numbers. There is no 4.
+    pub const ALL: [Refusal; 20] = [
         Refusal::CircuitLength,
         Refusal::CircuitSizes,
         Refusal::Gate,
-        Refusal::Chain,
         Refusal::Wire,
         Refusal::Length,
         Refusal::UnusedBits,
@@ -67,6 +70,9 @@ impl Refusal {
         Refusal::Empty,
         Refusal::Full,
         Refusal::Spent,
+        Refusal::ChainBeyond,
+        Refusal::ChainShort,
+        Refusal::ChainLong,
     ];
 
     /// The number in the C interface.
@@ -76,8 +82,17 @@ impl Refusal {
 
     /// The refusal that has this number.
     pub fn from_number(number: u32) -> Option<Refusal> {
-        let place = usize::try_from(number).ok()?.checked_sub(1)?;
-        Refusal::ALL.get(place).copied()
+        let mut all = Refusal::ALL.into_iter();
+        all.find(|refusal| refusal.number() == number)
+    }
+
+    /// Is it about the chain of a circuit? Then
+    /// [`fault_slot`](crate::circuit::fault_slot) tells where.
+    pub fn is_of_chain(self) -> bool {
+        matches!(
+            self,
+            Refusal::ChainBeyond | Refusal::ChainShort | Refusal::ChainLong
+        )
     }
 
     /// The refusal that has this number, which must be one of the library's.
@@ -94,7 +109,6 @@ impl Refusal {
                 "the circuit has more inputs, outputs or gates than allowed, or no input or no output"
             }
             Refusal::Gate => "a gate record has an unknown kind or a field that should be zero",
-            Refusal::Chain => "the chain does not visit every gate exactly once and then end",
             Refusal::Wire => {
                 "a gate reads a wire that is not written by then, or an output is no wire"
             }
@@ -113,6 +127,9 @@ impl Refusal {
             Refusal::Empty => "the shelf has no root ready",
             Refusal::Full => "the shelf has no room for another root",
             Refusal::Spent => "the shelf has counted as many draws as it can",
+            Refusal::ChainBeyond => "a link of the chain leads beyond the last slot",
+            Refusal::ChainShort => "the chain ends before every slot is visited",
+            Refusal::ChainLong => "the chain does not end after as many slots as there are",
         }
     }
 }
@@ -132,19 +149,30 @@ mod tests {
 
     #[test]
     fn numbers_go_both_ways() {
-        for (place, refusal) in Refusal::ALL.into_iter().enumerate() {
-            assert_eq!(refusal.number(), place as u32 + 1);
+        let numbers = (1..=3).chain(5..=21);
+        let found = Refusal::ALL.map(Refusal::number);
+        assert_eq!(found.to_vec(), numbers.collect::<Vec<_>>());
+        for refusal in Refusal::ALL {
             assert_eq!(Refusal::from_number(refusal.number()), Some(refusal));
         }
-        assert_eq!(Refusal::from_number(0), None);
-        assert_eq!(Refusal::from_number(19), None);
-        assert_eq!(Refusal::from_number(u32::MAX), None);
+        for number in [0, 4, 22, u32::MAX] {
+            assert_eq!(Refusal::from_number(number), None);
+        }
+    }
+
+    #[test]
+    fn three_are_of_the_chain() {
+        let of_chain = Refusal::ALL
+            .into_iter()
+            .filter(|refusal| refusal.is_of_chain());
+        let numbers: Vec<u32> = of_chain.map(Refusal::number).collect();
+        assert_eq!(numbers, [19, 20, 21]);
     }
 
     #[test]
     fn each_has_a_sentence_of_its_own() {
         let sentences: HashSet<_> = Refusal::ALL.map(Refusal::sentence).into();
-        assert_eq!(sentences.len(), 18);
+        assert_eq!(sentences.len(), 20);
         assert!(sentences.iter().all(|text| !text.ends_with('.')));
     }
 

@@ -167,8 +167,67 @@ fn refused_circuits() {
     let k = |changed: &str| folder.wv(&format!("circuit hex:{changed}"));
     k("000001000100010002000200000001000000").refused(2, "the typed circuit");
     k("020001000100010002000400000001000000").refused(3, "");
-    k("020001000100010002000200000001000100").refused(4, "");
     k("020001000100010002000200000002000000").refused(5, "");
+}
+
+/// The slot, and what to do, in the sentence of every command that reads a circuit.
+#[test]
+fn refused_chains() {
+    let folder = Folder::with_shelf("refused_chains");
+    let known = [
+        (
+            "0200",
+            "0000",
+            19,
+            0,
+            "the head leads beyond the last slot: set it to",
+        ),
+        (
+            "0100",
+            "0200",
+            19,
+            1,
+            "the link of slot 1 leads beyond the last slot: set it to",
+        ),
+        (
+            "0000",
+            "0000",
+            20,
+            0,
+            "the head is 0, but there are gates: set it to",
+        ),
+        (
+            "0100",
+            "0100",
+            21,
+            1,
+            "the link of slot 1 goes on after as many slots as there are: set it to 0",
+        ),
+    ];
+    for (head, link, number, slot, told) in known {
+        let circuit = format!("hex:020001000100{head}0200020000000100{link}");
+        let told = format!("the typed circuit: {told}");
+        folder
+            .wv(&format!("circuit {circuit}"))
+            .refused(number, &told);
+        folder
+            .wv(&format!("evaluate {circuit} hex:03"))
+            .refused(number, &told);
+        let message = "--message text:a";
+        let prove = "--shelf page --log log --out proof";
+        let line = format!("prove {circuit} hex:03 {prove} {message}");
+        folder.wv(&line).refused(number, &told);
+        let line = format!("check {circuit} row --y hex:01 {message}");
+        folder.wv(&line).refused(number, &told);
+        let json = folder.wv(&format!("circuit {circuit} --json"));
+        let start = format!("{{\"slot\":{slot},\"refused\":{number},\"message\":\"refused ");
+        assert!(json.text().starts_with(&start), "{json:?}");
+    }
+    // Two gates, of which the chain leaves out the second.
+    let two = "circuit hex:0100010002000100000003000000000000000300000000000000";
+    let told = "the link of slot 1 ends the chain, but a slot is left out: set the link to";
+    folder.wv(two).refused(20, told);
+    assert!(!folder.has("proof"));
 }
 
 #[test]

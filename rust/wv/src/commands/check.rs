@@ -33,9 +33,9 @@ the prover's, byte for byte.
   --json             print an object with the keys accepted, m, tau, n, bits,
                      refused and message; the last two are null when all is well
 
-Refused with 1 to 5 for the circuit, 6 or 7 for y and the message, 11 for a
-proof that is none, 12, 7, 10 or 13 for one that does not hold for this circuit,
-y and message, and without a number for too few bits.
+Refused with 1, 2, 3, 5, 19, 20 or 21 for the circuit, 6 or 7 for y and the
+message, 11 for a proof that is none, 12, 7, 10 or 13 for one that does not hold
+for this circuit, y and message, and without a number for too few bits.
 ",
     example: "  \
   wv check covers16.circuit order.proof --y hex:f50100 \\

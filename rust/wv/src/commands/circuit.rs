@@ -1,6 +1,7 @@
 //! Circuits: what they are, and what they give.
 
 use super::causes::Packed;
+use super::chain;
 use super::Command;
 use crate::args::Args;
 use crate::failure::Failure;
@@ -17,10 +18,16 @@ pub const CIRCUIT: Command = Command {
     about: "Read a circuit and print its sizes.",
     help: "\
 Prints the number of inputs, outputs, gates and AND gates, a line each. A
-circuit is refused with 1 to 5.
+circuit is refused with 1, 2, 3, 5, 19, 20 or 21. The last three are about the
+chain, and tell the slot that holds the wrong link:
+
+  19  a link leads beyond the last slot
+  20  a link is 0, and not every slot was visited
+  21  a link is not 0 after as many slots as there are
 
   --json  print an object with the keys inputs, outputs, gates, ands, refused
-          and message; the last two are null when all is well
+          and message; the last two are null when all is well. With 19, 20 and
+          21 there is the key slot, which is 0 for the head
 ",
     example: "  wv circuit covers16.circuit\n",
     places: 1,
@@ -30,8 +37,12 @@ circuit is refused with 1 to 5.
 };
 
 fn sizes(args: &Args, report: &mut Report) -> Result<(), Failure> {
-    let circuit = Circuit::read(args, args.place(0))?;
-    let sizes = circuit.sizes;
+    let input = args.input(args.place(0))?;
+    let refusal = circuit::read(&input.bytes).err();
+    if let Some(slot) = refusal.and_then(|refusal| chain::fault_slot(refusal, &input.bytes)) {
+        report.set("slot", slot);
+    }
+    let sizes = Circuit::of(input)?.sizes;
     report.number("inputs", "inputs", sizes.inputs);
     report.number("outputs", "outputs", sizes.outputs);
     report.number("gates", "gates", sizes.gates);
@@ -47,12 +58,21 @@ pub struct Circuit {
 }
 
 impl Circuit {
-    /// Refused with 1 to 5.
+    /// Refused with 1, 2, 3, 5, 19, 20 or 21.
     pub fn read(args: &Args, value: &OsStr) -> Result<Circuit, Failure> {
-        let input = args.input(value)?;
-        let sizes = circuit::sizes(&input.bytes);
-        let cause = || input.name_or("the typed circuit").to_string();
-        let sizes = sizes.map_err(|refusal| Failure::Refused(refusal, cause()))?;
+        Circuit::of(args.input(value)?)
+    }
+
+    fn of(input: Input) -> Result<Circuit, Failure> {
+        let failure = |refusal| {
+            let name = input.name_or("the typed circuit");
+            let cause = match chain::advice(refusal, &input.bytes) {
+                Some(advice) => format!("{name}: {advice}"),
+                None => name.to_string(),
+            };
+            Failure::Refused(refusal, cause)
+        };
+        let sizes = circuit::sizes(&input.bytes).map_err(failure)?;
         Ok(Circuit { input, sizes })
     }
 
@@ -114,8 +134,8 @@ A witness that is typed on the command line is seen by other users in the
 process list, and kept in the shell's history: give a row that they may not read
 as a file, as `-` or as `fd:N`.
 
-Refused with 1 to 5 for the circuit, 6 for a witness of another length, 7 for
-unused bits in its last byte.
+Refused with 1, 2, 3, 5, 19, 20 or 21 for the circuit, 6 for a witness of
+another length, 7 for unused bits in its last byte.
 ",
     example: "  wv evaluate covers16.circuit covers16.row\n",
     places: 2,

@@ -1,6 +1,7 @@
 //! The commands.
 
 mod causes;
+mod chain;
 mod check;
 mod circuit;
 mod files;

@@ -42,8 +42,9 @@ A witness that is typed on the command line is seen by other users in the
 process list, and kept in the shell's history: give a row that they may not read
 as a file, as `-` or as `fd:N`.
 
-Refused with 1 to 5 for the circuit, 8 for the three numbers, 6 for a length, 7
-for unused bits, 10 if the witness does not give y, 14 to 18 by the shelf.
+Refused with 1, 2, 3, 5, 19, 20 or 21 for the circuit, 8 for the three numbers,
+6 for a length, 7 for unused bits, 10 if the witness does not give y, 14 to 18
+by the shelf.
 
 15 has two causes. Behind: the page has fewer draws than the log counts, so it
 is old; put the present page back. Ahead: it has more, so the log was set back;

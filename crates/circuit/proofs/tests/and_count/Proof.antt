@@ -7,8 +7,7 @@ use Prim.Native.Nat.{_+_, _≤_}
 use native.Mathlib.Omega.{arith}
 use borrow.Author.Needs.{needs}
 use Rattle.circuit.specs.Circuit.{ands}
-use Rattle.circuit.specs.File.{walks}
-use Rattle.circuit.specs.Steps.{gatesFrom}
+use Rattle.circuit.specs.Steps.{walks, gatesFrom}
 use Rattle.circuit.proofs.Chain.{next-read, ands-turn, ands-none, inside, here, Here, gates-end, andOne-le}
 use Rattle.circuit.proofs.tests.and_count.Statement.{statement}
 use Rattle.circuit.proofs.tests.and_count.Tie as tie

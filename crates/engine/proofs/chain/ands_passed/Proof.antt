@@ -7,8 +7,7 @@ use Prim.Native.Nat.{ℕ, _+_, _-_, _≤_}
 use native.Mathlib.Omega.{arith}
 use borrow.Author.Needs.{needs}
 use Rattle.circuit.specs.Circuit.{ands}
-use Rattle.circuit.specs.File.{walks}
-use Rattle.circuit.specs.Steps.{gatesFrom}
+use Rattle.circuit.specs.Steps.{walks, gatesFrom}
 use Rattle.circuit.proofs.Chain.{next-read, ands-turn, ands-none, inside, here, Here, gates-end, andOne-le}
 use Rattle.engine.proofs.chain.ands_passed.Statement.{statement}
 use Rattle.engine.proofs.chain.ands_passed.Tie as tie

@@ -8,8 +8,7 @@ use lib.ListN.{length}
 use Rattle.engine.proofs.chain.walk.Statement.{statement}
 use Rattle.engine.proofs.chain.walk.Tie as tie
 use mathlib.Core.Bool.{true}
-use Rattle.circuit.specs.File.{walks}
-use Rattle.circuit.specs.Steps.{wired}
+use Rattle.circuit.specs.Steps.{walks, wired}
 use Rattle.circuit.proofs.Chain.{Here, here, inside, next-read, gate-read, andOne-le}
 use Rattle.circuit.proofs.Run.{wired-on}
 use Rattle.engine.specs.Steps.{wireCount, walked}
