@@ -70,7 +70,14 @@ enum wv_answer {
     /* the chain ends before every slot is visited; see wv_fault_slot */
     WV_REFUSED_CHAIN_SHORT = 20,
     /* the chain does not end after as many slots as there are; see there too */
-    WV_REFUSED_CHAIN_LONG = 21
+    WV_REFUSED_CHAIN_LONG = 21,
+    /* a text breaks the rules of Bristol Fashion; see wv_bristol */
+    WV_REFUSED_TEXT = 22,
+    /* a gate of a text is none of XOR, AND and INV */
+    WV_REFUSED_GATE_KIND = 23,
+    /* a text has more gates, inputs or outputs than allowed, or no input or no
+       output */
+    WV_REFUSED_TEXT_LIMITS = 24
 };
 
 /* The limits. Those of circuit, message and proof, and each _LEN, are bytes. */
@@ -161,6 +168,40 @@ uint32_t wv_fault_slot(const uint8_t *circuit, size_t circuit_len);
 uint32_t wv_evaluate(const uint8_t *circuit, size_t circuit_len,
                      const uint8_t *witness, size_t witness_len,
                      uint8_t *y, size_t y_len);
+
+/*
+ * Converts a circuit in the published format Bristol Fashion. Writes a circuit
+ * file as above to the start of out, and its length to written; the bytes of
+ * out beyond that length stay as they were. WV_MAX_CIRCUIT bytes are room for
+ * every circuit.
+ *
+ * The text is lines that end in LF, the last one too. Empty lines are skipped.
+ * A line is tokens with one space between them and nothing before or behind;
+ * CR and tab are bytes like others. A number is 1 to 9 decimal digits without a
+ * leading zero.
+ *
+ *   line 1  G, the gates, and the wires, which number I + G
+ *   line 2  the number of input groups and the size of each; I is their sum
+ *   line 3  the same of the outputs; O, their sum, is at most I + G
+ *   then    G gate lines: 2 1 a b c XOR, 2 1 a b c AND or 1 1 a c INV
+ *
+ * A gate reads a and b, each an input or written on a line above. It writes c,
+ * which is I to I + G - 1 and is written once. Wires 0 to I - 1 are the inputs,
+ * all groups one after the other; the last O wires are the outputs.
+ *
+ * In the circuit file, the gate that writes wire w is in slot w - I + 1, and the
+ * chain follows the text. Lines are tested in their order, an end too early
+ * after all of them:
+ *   22  a line is not as above, or is one too many, or one is missing
+ *   23  a gate line has another kind, which is what follows its last space, or
+ *       the whole line if it has none; tested before 22 on a gate line
+ *   24  G is above 4096, I is not 1 to 512 or O is not 1 to 256; tested after 22
+ *       on its line
+ * Then:
+ *    6  out is shorter than the circuit file
+ */
+uint32_t wv_bristol(const uint8_t *text, size_t text_len,
+                    uint8_t *out, size_t out_len, uint64_t *written);
 
 /*
  * A run of a circuit by n parties; n is 2, 4, 8 or 16, and A is the number of

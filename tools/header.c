@@ -153,6 +153,41 @@ static void chains(void)
     chain(1, 1, WV_REFUSED_CHAIN_LONG, 1);
 }
 
+/*
+ * A text and what becomes of it in a buffer of len bytes: nothing, if it is
+ * refused.
+ */
+static void bristol_in(const char *text, size_t len, uint32_t answer)
+{
+    uint8_t out[20];
+    uint64_t written = 77;
+    size_t expected_len = answer == WV_ACCEPTED ? sizeof k : 0;
+    size_t place;
+
+    memset(out, 0xee, sizeof out);
+    equal("a text", wv_bristol((const uint8_t *)text, strlen(text), out, len,
+                               &written), answer);
+    equal("its length", (size_t)written,
+          answer == WV_ACCEPTED ? sizeof k : 77);
+    equal("its circuit", (size_t)memcmp(out, k, expected_len), 0);
+    for (place = expected_len; place < sizeof out; place++)
+        equal("behind its circuit", out[place], 0xee);
+}
+
+/* K as text is K again. */
+static void texts(void)
+{
+    const char *text = "1 3\n2 1 1\n1 1\n\n2 1 0 1 2 AND\n";
+
+    bristol_in(text, 20, WV_ACCEPTED);
+    bristol_in(text, 18, WV_ACCEPTED);
+    bristol_in(text, 17, WV_REFUSED_LENGTH);
+    bristol_in("", 20, WV_REFUSED_TEXT);
+    bristol_in("1 3\n2 1 1\n1 1\n2 1 0 1 2 AND", 20, WV_REFUSED_TEXT);
+    bristol_in("1 3\n2 1 1\n1 1\n2 1 0 1 2 OR\n", 20, WV_REFUSED_GATE_KIND);
+    bristol_in("1 1\n0\n", 20, WV_REFUSED_TEXT_LIMITS);
+}
+
 int main(void)
 {
     char version[40];
@@ -173,5 +208,6 @@ int main(void)
     read_buffers_overlap();
     challenge_input();
     chains();
+    texts();
     return failures == 0 ? 0 : 1;
 }

@@ -44,6 +44,12 @@ pub enum Refusal {
     EndsEarly,
     // 21: a link other than 0 after G slots.
     GoesOn,
+    // 22: a text that breaks the rules of its format.
+    Text,
+    // 23: a gate kind other than XOR, AND, INV.
+    GateKind,
+    // 24: sizes of a text beyond our limits.
+    TextLimits,
 }
 
 // The number that the documents give a refusal.
@@ -71,5 +77,8 @@ pub fn number(r: Refusal) -> u32
         Refusal::BeyondGates => 19,
         Refusal::EndsEarly => 20,
         Refusal::GoesOn => 21,
+        Refusal::Text => 22,
+        Refusal::GateKind => 23,
+        Refusal::TextLimits => 24,
     }
 }

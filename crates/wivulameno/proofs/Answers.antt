@@ -10,6 +10,8 @@ use Rattle.refusal.proofs.Laws.{numberOf-injective, numberOf-range}
 use Rattle.circuit.specs.Answers.{readPaper, evaluatePaper}
 use Rattle.circuit.specs.declared.ReadAnswer.the-variants as readAnswer
 use Rattle.circuit.specs.declared.EvaluateAnswer.the-variants as evaluateAnswer
+use Rattle.bristol.specs.Answers as bristol
+use Rattle.bristol.specs.declared.Answer.the-variants as convertAnswer
 use Rattle.mpc.specs.Answers as mpc
 use Rattle.mpc.specs.declared.Answer.the-variants as mpcAnswer
 use Rattle.seeds.specs.Operations as seeds
@@ -67,6 +69,17 @@ derive-status seedsAnswer.Done (seedsAnswer.Refused k) e = not-zero k e
 derive-status (seedsAnswer.Refused k) seedsAnswer.Done e = not-zero k (sym e)
 derive-status (seedsAnswer.Refused k) (seedsAnswer.Refused l) e = ap seedsAnswer.Refused (numberOf-injective k l e)
 
+convert-status : (lent : List ℕ) → Injective (λ a. reported lent (bristol.paper a))
+unfolding status values
+convert-status lent (convertAnswer.Written x) (convertAnswer.Written y) e =
+    let f : _≡_ {A = List ℕ} (x ∷ []) (y ∷ []) = ap (λ (p : ℕ × List ℕ). p .1) e in
+    let a : x ≡ y = cc in
+    ap convertAnswer.Written a
+convert-status lent (convertAnswer.Written x) (convertAnswer.Refused k) e = not-zero k (ap (λ (p : ℕ × List ℕ). p .0) e)
+convert-status lent (convertAnswer.Refused k) (convertAnswer.Written y) e = not-zero k (sym (ap (λ (p : ℕ × List ℕ). p .0) e))
+convert-status lent (convertAnswer.Refused k) (convertAnswer.Refused l) e =
+    ap convertAnswer.Refused (numberOf-injective k l (ap (λ (p : ℕ × List ℕ). p .0) e))
+
 prove-status : (lent : List ℕ) → Injective (λ a. reported lent (proving.paper a))
 unfolding status values
 prove-status lent (proveAnswer.Written x) (proveAnswer.Written y) e =
@@ -95,7 +108,7 @@ shelf-status vs (shelfAnswer.Refused k) (shelfAnswer.Refused l) e = ap shelfAnsw
 -- the C functions say different things of different answers
 pub different-statuses : DifferentStatuses
 different-statuses =
-    record { read = read-status; evaluate = evaluate-status; run = run-status; derive = derive-status; prove = prove-status; check = check-status; shelf = shelf-status }
+    record { read = read-status; evaluate = evaluate-status; convert = convert-status; run = run-status; derive = derive-status; prove = prove-status; check = check-status; shelf = shelf-status }
 
 -- and so do the paper's terms
 pub different-answers : DifferentAnswers
@@ -104,6 +117,7 @@ different-answers =
       refusals = numberOf-injective;
       read = before readPaper (readReported []) (read-status []);
       evaluate = before evaluatePaper status evaluate-status;
+      convert = before bristol.paper (reported []) (convert-status []);
       run = before mpc.paper status run-status;
       derive = before seeds.paper status derive-status;
       prove = before proving.paper (reported []) (prove-status []);

@@ -1,11 +1,11 @@
 -- The status and the lent numbers of an answer, case by case.
 -- Assumes nothing.
-use mathlib.Core.Path.{_≡_, sym, ap, _∙_}
+use mathlib.Core.Path.{_≡_, refl, sym, ap, _∙_}
 use mathlib.Core.List.{List, [], _∷_}
 use Prim.Native.Nat.{ℕ, _<_, _^_}
 use Rattle.refusal.specs.Refusal.{numberOf}
 use Rattle.refusal.specs.declared.Refusal.{Refusal}
-use Rattle.refusal.specs.Outcome.{Answer, Outcome}
+use Rattle.refusal.specs.Outcome.{Answer, refusal, success, Outcome}
 use Rattle.circuit.specs.Operations.{readOp}
 use Rattle.circuit.specs.Answers.{readPaper, outcome}
 use Rattle.circuit.specs.declared.Sizes.{Sizes}
@@ -14,6 +14,9 @@ use Rattle.circuit.specs.declared.ReadAnswer.the-variants as readAnswer
 use Rattle.circuit.specs.declared.EvaluateAnswer.{EvaluateAnswer}
 use Rattle.circuit.specs.declared.EvaluateAnswer.the-variants as evaluateAnswer
 use Rattle.circuit.proofs.Small.{read-small, slot-small}
+use Rattle.bristol.specs.Answers.{outcome as convertOutcome}
+use Rattle.bristol.specs.declared.Answer.{Answer as ConvertAnswer}
+use Rattle.bristol.specs.declared.Answer.the-variants as convertAnswer
 use Rattle.shelf.specs.Operations.{outcome as shelfOutcome}
 use Rattle.shelf.specs.declared.Answer.{Answer as ShelfAnswer}
 use Rattle.shelf.specs.declared.Answer.the-variants as shelfAnswer
@@ -161,18 +164,38 @@ pub check-refused : (o : Outcome) (r : CheckAnswer) (k : Refusal) (n : ℕ) → 
 unfolding status
 check-refused o r k n e f h = h ∙ ap (λ (x : Outcome). status (x .answer)) (ap checkOutcome (sym e) ∙ f)
 
--- a proof that is written
-pub prove-done : (o : Outcome) (r : ProveAnswer) (k : ℕ) (b lent : List ℕ) → r ≡ proveAnswer.Written k → proveOutcome r b ≡ o
+-- a file that is written: 0, its length, and the buffer
+written-done : {A : Type 0} (f : A → List ℕ → Outcome) (o : Outcome) (r w : A) (k : ℕ) (b lent : List ℕ)
+    → f w b ≡ record { answer = success (k ∷ []); left = b ∷ [] } → r ≡ w → f r b ≡ o
     → (_≡_ {A = ℕ} 0 (status (o .answer))) × (((k ∷ []) ≡ values (o .answer) lent) × ((b ∷ []) ≡ o .left))
 unfolding status values
-prove-done o r k b lent e f =
-    let g : proveOutcome (proveAnswer.Written k) b ≡ o = ap (λ (x : ProveAnswer). proveOutcome x b) (sym e) ∙ f in
+written-done {A} f o r w k b lent d e h =
+    let g : _≡_ {A = Outcome} (record { answer = success (k ∷ []); left = b ∷ [] }) o = sym d ∙ ap (λ (x : A). f x b) (sym e) ∙ h in
     (ap (λ (x : Outcome). status (x .answer)) g, (ap (λ (x : Outcome). values (x .answer) lent) g, ap (λ (x : Outcome). x .left) g))
 
--- one that is refused
-pub prove-refused : (o : Outcome) (r : ProveAnswer) (k : Refusal) (n : ℕ) (b lent : List ℕ) → r ≡ proveAnswer.Refused k → proveOutcome r b ≡ o
+-- one that is refused: its number, and the buffers as they were
+written-refused : {A : Type 0} (f : A → List ℕ → Outcome) (o : Outcome) (r w : A) (k : Refusal) (n : ℕ) (b lent : List ℕ)
+    → f w b ≡ record { answer = refusal (numberOf k); left = b ∷ [] } → r ≡ w → f r b ≡ o
     → n ≡ numberOf k → (n ≡ status (o .answer)) × ((lent ≡ values (o .answer) lent) × ((b ∷ []) ≡ o .left))
 unfolding status values
-prove-refused o r k n b lent e f h =
-    let g : proveOutcome (proveAnswer.Refused k) b ≡ o = ap (λ (x : ProveAnswer). proveOutcome x b) (sym e) ∙ f in
-    (h ∙ ap (λ (x : Outcome). status (x .answer)) g, (ap (λ (x : Outcome). values (x .answer) lent) g, ap (λ (x : Outcome). x .left) g))
+written-refused {A} f o r w k n b lent d e h q =
+    let g : _≡_ {A = Outcome} (record { answer = refusal (numberOf k); left = b ∷ [] }) o = sym d ∙ ap (λ (x : A). f x b) (sym e) ∙ h in
+    (q ∙ ap (λ (x : Outcome). status (x .answer)) g, (ap (λ (x : Outcome). values (x .answer) lent) g, ap (λ (x : Outcome). x .left) g))
+
+-- a proof
+pub prove-done : (o : Outcome) (r : ProveAnswer) (k : ℕ) (b lent : List ℕ) → r ≡ proveAnswer.Written k → proveOutcome r b ≡ o
+    → (_≡_ {A = ℕ} 0 (status (o .answer))) × (((k ∷ []) ≡ values (o .answer) lent) × ((b ∷ []) ≡ o .left))
+prove-done o r k b lent e f = written-done proveOutcome o r (proveAnswer.Written k) k b lent refl e f
+
+pub prove-refused : (o : Outcome) (r : ProveAnswer) (k : Refusal) (n : ℕ) (b lent : List ℕ) → r ≡ proveAnswer.Refused k → proveOutcome r b ≡ o
+    → n ≡ numberOf k → (n ≡ status (o .answer)) × ((lent ≡ values (o .answer) lent) × ((b ∷ []) ≡ o .left))
+prove-refused o r k n b lent e f h = written-refused proveOutcome o r (proveAnswer.Refused k) k n b lent refl e f h
+
+-- a circuit file from a text
+pub convert-done : (o : Outcome) (r : ConvertAnswer) (k : ℕ) (b lent : List ℕ) → r ≡ convertAnswer.Written k → convertOutcome r b ≡ o
+    → (_≡_ {A = ℕ} 0 (status (o .answer))) × (((k ∷ []) ≡ values (o .answer) lent) × ((b ∷ []) ≡ o .left))
+convert-done o r k b lent e f = written-done convertOutcome o r (convertAnswer.Written k) k b lent refl e f
+
+pub convert-refused : (o : Outcome) (r : ConvertAnswer) (k : Refusal) (n : ℕ) (b lent : List ℕ) → r ≡ convertAnswer.Refused k → convertOutcome r b ≡ o
+    → n ≡ numberOf k → (n ≡ status (o .answer)) × ((lent ≡ values (o .answer) lent) × ((b ∷ []) ≡ o .left))
+convert-refused o r k n b lent e f h = written-refused convertOutcome o r (convertAnswer.Refused k) k n b lent refl e f h

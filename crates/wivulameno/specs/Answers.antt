@@ -7,6 +7,7 @@ use Prim.Native.Nat.{ℕ}
 use Rattle.refusal.specs.Refusal.{numberOf}
 use Rattle.refusal.specs.Outcome.{Answer}
 use Rattle.circuit.specs.Answers.{readPaper, evaluatePaper}
+use Rattle.bristol.specs.Answers as bristol
 use Rattle.mpc.specs.Answers as mpc
 use Rattle.seeds.specs.Operations as seeds
 use Rattle.proving.specs.Answers as proving
@@ -18,12 +19,13 @@ use Rattle.wivulameno.specs.Interface.{status, values, slot}
 abbrev pub Injective : {A B : Type 0} → (A → B) → Type 0
 Injective {A} f = (a b : A) → f a ≡ f b → a ≡ b
 
--- the definitions that put each answer enum into the paper's terms: of the refusals; of read; of evaluate; of prepare, run, show and
--- replay; of expand, open and challenge; of prove; of check; of stock and draw, with the values of a success
+-- the definitions that put each answer enum into the paper's terms: of the refusals; of read; of evaluate; of convert; of prepare, run,
+-- show and replay; of expand, open and challenge; of prove; of check; of stock and draw, with the values of a success
 pub record DifferentAnswers : Type 0 where
   pub refusals : Injective numberOf
   pub read : Injective readPaper
   pub evaluate : Injective evaluatePaper
+  pub convert : Injective bristol.paper
   pub run : Injective mpc.paper
   pub derive : Injective seeds.paper
   pub prove : Injective proving.paper
@@ -42,6 +44,7 @@ readReported lent a = (reported lent a, slot a)
 pub record DifferentStatuses : Type 0 where
   pub read : (lent : List ℕ) → Injective (λ a. readReported lent (readPaper a))
   pub evaluate : Injective (λ a. status (evaluatePaper a))
+  pub convert : (lent : List ℕ) → Injective (λ a. reported lent (bristol.paper a))
   pub run : Injective (λ a. status (mpc.paper a))
   pub derive : Injective (λ a. status (seeds.paper a))
   pub prove : (lent : List ℕ) → Injective (λ a. reported lent (proving.paper a))

@@ -5,6 +5,7 @@ ghost use mathlib.Core.Bool.{cond};
 ghost use mathlib.Core.List.{[], _∷_};
 ghost use lib.ListN.{length};
 ghost use Rattle.circuit.specs.Operations.{readOp, evaluateOp};
+ghost use Rattle.bristol.specs.Operations.{convertOp};
 ghost use Rattle.mpc.specs.Operations.{prepareOp, runOp, showOp, replayOp};
 ghost use Rattle.proof.specs.Prove.{proveOp};
 ghost use Rattle.proof.specs.Check.{checkOp};
@@ -69,6 +70,21 @@ pub extern "C" fn wv_fault_slot(circuit: &[u8]) -> u32
     match a {
         circuit::ReadAnswer::Legal(_) => 0,
         circuit::ReadAnswer::Refused(_, at) => at as u32,
+    }
+}
+
+// Converts a Bristol Fashion text to a circuit file: its length, or the refusal.
+#[no_mangle]
+pub extern "C" fn wv_bristol(text: &[u8], out: &mut [u8], written: &mut [u64; 1]) -> u32
+    ensures { λ r. ⌜ (r ≡ status (convertOp (now (text .entry)) (now (out .entry)) .answer)) × ((now (written .exit) ≡ values (convertOp (now (text .entry)) (now (out .entry)) .answer) (now (written .entry))) × (now (out .exit) ∷ [] ≡ convertOp (now (text .entry)) (now (out .entry)) .left)) ⌝ }
+{
+    let a = bristol::conversion::convert(text, out);
+    match a {
+        bristol::Answer::Written(k) => {
+            *written = [k as u64];
+            0
+        }
+        bristol::Answer::Refused(k) => refusal::number(k),
     }
 }
 

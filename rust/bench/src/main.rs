@@ -6,6 +6,7 @@ mod mpc;
 mod openssl;
 mod proofs;
 mod rows;
+mod texts;
 
 use openssl::OpenSsl;
 
@@ -13,6 +14,9 @@ fn main() {
     let openssl = OpenSsl::load();
     let message = vec![0x5a; 64 * 1024];
     hashing::table(&message, openssl.as_ref()).print();
+
+    let [gates, groups] = [texts::of_gates(), texts::of_groups()];
+    texts::table(&[("4096 gates", &gates), ("groups", &groups)]).print();
 
     let instance = mpc::Instance::worst();
     mpc::gates_table(&instance).print();

@@ -5,7 +5,7 @@ use crate::{u16_at, Refusal};
 
 pub(crate) const XOR: u8 = 1;
 pub(crate) const AND: u8 = 2;
-const INV: u8 = 3;
+pub(crate) const INV: u8 = 3;
 
 /// I, O, G and A.
 #[derive(Clone, Copy, Debug, PartialEq, Eq)]

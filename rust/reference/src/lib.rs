@@ -4,6 +4,7 @@
 //! shape: plain functions over slices, one module for each subject.
 
 pub mod bits;
+pub mod bristol;
 pub mod circuit;
 pub mod fips202;
 pub mod mpc;

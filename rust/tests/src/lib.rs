@@ -1,6 +1,7 @@
 //! What the tests share: random bytes, known answers, guarded buffers, and
 //! files, pages and calls to try.
 
+pub mod bristol;
 pub mod calls;
 pub mod challenges;
 pub mod circuits;

@@ -181,7 +181,7 @@ fn file(text: &str) -> File {
     let mut file = File::default();
     let mut comment: Vec<String> = vec![];
     let mut name = String::new();
-    for line in text.lines() {
+    for line in text.lines().map(outdented) {
         if let Some(import) = line.strip_prefix("use ") {
             bring_in(&mut file, import);
         } else if line.starts_with("--") {
@@ -200,6 +200,12 @@ fn file(text: &str) -> File {
         }
     }
     file
+}
+
+/// The first line of a definition as it is outside a module with parameters.
+fn outdented(line: &str) -> &str {
+    let starts = |rest: &&str| rest.starts_with("unfoldable ") || rest.starts_with("abbrev ");
+    line.strip_prefix("  ").filter(starts).unwrap_or(line)
 }
 
 /// The name that a line starts to define.

@@ -5,6 +5,7 @@ use std::env;
 use std::os::unix::process::ExitStatusExt;
 use std::process::Command;
 use std::slice::from_ref;
+use tests::bristol::{adder, comparator, damaged as damaged_text, shown};
 use tests::calls::{damage, Setting, NOT_A_COUNT};
 use tests::challenges::Challenge;
 use tests::circuits::{any_sizes, any_slots, damaged, legal};
@@ -100,6 +101,45 @@ fn evaluate(random: &mut Random, file: &[u8], sizes: [usize; 3], outcomes: &mut 
     let mut expected = y;
     let second = reference::circuit::evaluate(file, &witness, &mut expected);
     assert_eq!((answer, &filled[0]), (second, &expected));
+}
+
+/// The texts end where the page does, or begin where it does.
+#[test]
+fn texts() {
+    let mut random = Random::new(0x6a7);
+    let mut outcomes = Outcomes::default();
+    for _ in 0..BUDGET {
+        let make = random.pick(&[adder, comparator]);
+        let mut text = make(random.from_to(1, 9)).into_bytes();
+        if !random.once_in(4) {
+            text = damaged_text(&mut random, &text);
+        }
+        outcomes.add_answer(&convert(&mut random, &text));
+    }
+    outcomes.expect(&[0, 6, 22, 23, 24], 50);
+}
+
+fn convert(random: &mut Random, text: &[u8]) -> Result<(), u32> {
+    let mut room = vec![0; 33_288];
+    let file_len = reference::bristol::convert(text, &mut room).unwrap_or(40);
+    let len = near(random, file_len);
+    let out = random.bytes(len);
+    let before = random.word();
+    let outputs = [out.clone(), before.to_ne_bytes().to_vec()];
+    let (answer, filled) = lend(random, &[text], &outputs, |inputs, out| {
+        let [out, written] = out.try_into().unwrap_or_else(|_| panic!("two outputs"));
+        let written: *mut u64 = written.as_mut_ptr().cast();
+        assert!(written.is_aligned());
+        // SAFETY: these are 8 bytes, and aligned.
+        circuit::from_bristol_into(inputs[0], out, unsafe { &mut *written })
+    });
+    let mut expected = out;
+    let second = reference::bristol::convert(text, &mut expected);
+    assert_eq!(answer, second.map(|_| ()), "{}", shown(text));
+    let written = second.map_or(before, |len| len as u64);
+    let expected = [expected, written.to_ne_bytes().to_vec()];
+    assert!(filled == expected, "{}", shown(text));
+    answer
 }
 
 #[test]
@@ -272,6 +312,15 @@ fn empty_buffers_are_not_touched() {
             shelf::stock(out[0], inputs[0])
         });
         assert_eq!(answer, Err(14));
+        let (answer, _) = lend(&mut random, &[&[]], &[vec![]], |inputs, mut out| {
+            circuit::from_bristol(inputs[0], out[0]).map(|_| ())
+        });
+        assert_eq!(answer, Err(22));
+        let text = b"0 1\n1 1\n1 1\n";
+        let (answer, _) = lend(&mut random, &[text], &[vec![]], |inputs, mut out| {
+            circuit::from_bristol(inputs[0], out[0]).map(|_| ())
+        });
+        assert_eq!(answer, Err(6));
     }
 }
 

@@ -31,6 +31,19 @@ fn circuits() {
     });
 }
 
+/// The largest text, as long as its groups make it.
+#[test]
+fn texts() {
+    let gates = (512..4608).map(|wire| format!("2 1 0 1 {wire} AND\n"));
+    let groups = format!("100512{}{}\n", " 0".repeat(100_000), " 1".repeat(512));
+    let text = format!("4096 4608\n{groups}1 256\n{}", gates.collect::<String>());
+    in_thread(move || {
+        let mut file = vec![0; 33_288];
+        let answer = wivulameno::circuit::from_bristol(text.as_bytes(), &mut file);
+        assert_eq!(answer, Ok(33_288));
+    });
+}
+
 #[test]
 fn runs() {
     let mut random = Random::new(0x57a);

@@ -1,8 +1,9 @@
-//! Circuit files. `include/wivulameno.h` has their layout.
+//! Circuit files. `include/wivulameno.h` has their layout, and that of the texts
+//! that can be converted to one.
 //!
 //! Every function that is lent a circuit refuses it with 1, 2, 3, 19, 20, 21 or 5.
 
-use crate::limits::{MAX_GATES, MAX_INPUTS, MAX_OUTPUTS};
+use crate::limits::{MAX_CIRCUIT, MAX_GATES, MAX_INPUTS, MAX_OUTPUTS};
 use crate::proof::oct;
 use crate::{answer, Refusal};
 
@@ -16,6 +17,13 @@ extern "C" {
         witness_len: usize,
         y: *mut u8,
         y_len: usize,
+    ) -> u32;
+    fn wv_bristol(
+        text: *const u8,
+        text_len: usize,
+        out: *mut u8,
+        out_len: usize,
+        written: *mut u64,
     ) -> u32;
 }
 
@@ -110,4 +118,62 @@ pub fn evaluate(circuit: &[u8], witness: &[u8], y: &mut [u8]) -> Result<(), Refu
             y.len(),
         )
     })
+}
+
+/// As [`from_bristol`], with the length that the C function writes into `written`.
+pub fn from_bristol_into(text: &[u8], out: &mut [u8], written: &mut u64) -> Result<(), Refusal> {
+    // SAFETY: the slices are valid for their lengths, and `out` and `written`
+    // overlap no other.
+    answer(unsafe {
+        wv_bristol(
+            text.as_ptr(),
+            text.len(),
+            out.as_mut_ptr(),
+            out.len(),
+            written,
+        )
+    })
+}
+
+/// Converts a text in the published format Bristol Fashion: writes the circuit file
+/// to the start of `out` and gives its length. The bytes behind it stay.
+/// [`MAX_CIRCUIT`] bytes are room for every circuit, and [`from_bristol_to_vec`]
+/// has that room.
+///
+/// The circuit evaluates as the text does, with the inputs of all groups one after
+/// the other, and so the outputs.
+///
+/// Refuses with 22 for a text that breaks the rules, 23 for a gate that is none of
+/// XOR, AND and INV, 24 for sizes beyond the limits: whichever comes first in the
+/// order of the lines, on a header line 22 before 24, on a gate line 23 before 22.
+/// Then with 6 for an `out` that is too short.
+pub fn from_bristol(text: &[u8], out: &mut [u8]) -> Result<usize, Refusal> {
+    let mut written = 0;
+    from_bristol_into(text, out, &mut written)?;
+    Ok(usize::try_from(written).expect("no more than the buffer"))
+}
+
+/// The circuit file of a text in Bristol Fashion. Refuses it as [`from_bristol`]
+/// does, but never with 6.
+///
+/// ```
+/// use wivulameno::circuit::{evaluate, from_bristol_to_vec};
+/// use wivulameno::Refusal;
+///
+/// // One gate and three wires; two inputs, in a group each; one output.
+/// let text = "1 3\n2 1 1\n1 1\n\n2 1 0 1 2 AND\n";
+/// let circuit = from_bristol_to_vec(text.as_bytes())?;
+/// let mut y = [0];
+/// evaluate(&circuit, &[0b11], &mut y)?;
+/// assert_eq!(y, [1]);
+///
+/// let other = text.replace("AND", "OR");
+/// assert_eq!(from_bristol_to_vec(other.as_bytes()), Err(Refusal::GateKind));
+/// # Ok::<(), Refusal>(())
+/// ```
+pub fn from_bristol_to_vec(text: &[u8]) -> Result<Vec<u8>, Refusal> {
+    let mut circuit = vec![0; MAX_CIRCUIT];
+    let len = from_bristol(text, &mut circuit)?;
+    circuit.truncate(len);
+    Ok(circuit)
 }

@@ -48,11 +48,18 @@ pub enum Refusal {
     ChainShort = 20,
     /// The chain does not end after as many slots as there are.
     ChainLong = 21,
+    /// A text breaks the rules of Bristol Fashion.
+    Text = 22,
+    /// A gate of a text is none of XOR, AND and INV.
+    GateKind = 23,
+    /// A text has more gates, inputs or outputs than allowed, or no input or no
+    /// output.
+    TextLimits = 24,
 }
 
 impl Refusal {
     /// All of them, by their numbers. There is no 4.
-    pub const ALL: [Refusal; 20] = [
+    pub const ALL: [Refusal; 23] = [
         Refusal::CircuitLength,
         Refusal::CircuitSizes,
         Refusal::Gate,
@@ -73,6 +80,9 @@ impl Refusal {
         Refusal::ChainBeyond,
         Refusal::ChainShort,
         Refusal::ChainLong,
+        Refusal::Text,
+        Refusal::GateKind,
+        Refusal::TextLimits,
     ];
 
     /// The number in the C interface.
@@ -130,6 +140,11 @@ impl Refusal {
             Refusal::ChainBeyond => "a link of the chain leads beyond the last slot",
             Refusal::ChainShort => "the chain ends before every slot is visited",
             Refusal::ChainLong => "the chain does not end after as many slots as there are",
+            Refusal::Text => "the text breaks the rules of Bristol Fashion",
+            Refusal::GateKind => "a gate of the text is none of XOR, AND and INV",
+            Refusal::TextLimits => {
+                "the text has more gates, inputs or outputs than allowed, or no input or no output"
+            }
         }
     }
 }
@@ -149,13 +164,13 @@ mod tests {
 
     #[test]
     fn numbers_go_both_ways() {
-        let numbers = (1..=3).chain(5..=21);
+        let numbers = (1..=3).chain(5..=24);
         let found = Refusal::ALL.map(Refusal::number);
         assert_eq!(found.to_vec(), numbers.collect::<Vec<_>>());
         for refusal in Refusal::ALL {
             assert_eq!(Refusal::from_number(refusal.number()), Some(refusal));
         }
-        for number in [0, 4, 22, u32::MAX] {
+        for number in [0, 4, 25, u32::MAX] {
             assert_eq!(Refusal::from_number(number), None);
         }
     }
@@ -172,7 +187,7 @@ mod tests {
     #[test]
     fn each_has_a_sentence_of_its_own() {
         let sentences: HashSet<_> = Refusal::ALL.map(Refusal::sentence).into();
-        assert_eq!(sentences.len(), 20);
+        assert_eq!(sentences.len(), 23);
         assert!(sentences.iter().all(|text| !text.ends_with('.')));
     }
 

@@ -61,6 +61,7 @@ fn the_examples_work() {
     let folder = Folder::new("examples");
     folder.write("covers16.circuit", &covers16());
     folder.write("covers16.row", &covers16_row());
+    folder.write("and.txt", b"1 3\n2 1 1\n1 1\n\n2 1 0 1 2 AND\n");
     for command in wv::commands::ALL {
         let line = command.example.replace("/var/lib/depot/", "");
         let ended = folder.sh(&line);

@@ -4,6 +4,7 @@ mod causes;
 mod chain;
 mod check;
 mod circuit;
+mod convert;
 mod files;
 mod prove;
 mod shelf;
@@ -38,6 +39,7 @@ pub struct Command {
 pub const ALL: &[Command] = &[
     circuit::CIRCUIT,
     circuit::EVALUATE,
+    convert::CONVERT,
     shelf::NEW,
     shelf::STOCK,
     shelf::STATUS,

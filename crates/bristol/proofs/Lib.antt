@@ -1,0 +1,15 @@
+pub mod Accepted
+pub mod Chained
+pub mod Converts
+pub mod Filed
+pub mod Heads
+pub mod Lined
+pub mod Meant
+pub mod Names
+pub mod Parts
+pub mod Slots
+pub mod Stored
+pub mod Stores
+pub mod Worked
+pub mod Writes
+pub mod Zeros

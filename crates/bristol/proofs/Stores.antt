@@ -1,0 +1,177 @@
+-- Stores of fields and records into a list, and what it then holds.
+-- Assumes nothing.
+use mathlib.Core.Path.{_≡_, refl, sym, ap, ap₂, _∙_}
+use mathlib.Core.Bool.{cond}
+use mathlib.Core.List.{List, _++_, append-assoc, append-nil}
+use Prim.Native.Nat.{ℕ, zero, suc, _+_, _-_, _*_, _%_, _≤_, _<_}
+use native.Mathlib.Nat.{suc-mul, suc-add}
+use native.Mathlib.Numerals.{add-one}
+use native.Mathlib.Omega.{arith}
+use lib.Dec.{eqb}
+use lib.ListN.{length, take, drop, length-append}
+use lib.Seq.{sets, sets-eq, length-sets, take-at, drop-at, drop-append-add, drop-drop, take-add}
+use borrow.Author.Tests.{eq-eqb, ne-eqb}
+use Rattle.bits.specs.Bits.{tabulate}
+use Rattle.bits.specs.Bytes.{leBytes}
+use Rattle.bits.proofs.Little.{length-leBytes, leBytes-mod, sets-append}
+use Rattle.bits.proofs.Tabulate.{tabulate-cong}
+use Rattle.bristol.specs.Conversion.{fields, joined}
+
+-- a part that is put in the place of another as long
+pub sets-at : (l p q s r : List ℕ) (i : ℕ) → l ≡ p ++ (q ++ s) → length p ≡ i → length q ≡ length r → sets l i r ≡ p ++ (r ++ s)
+sets-at l p q s r i e a b =
+    let n = ap length e ∙ length-append p (q ++ s) in
+    let m = length-append q s in
+    sets-eq r l i (omega arith)
+    ∙ ap₂ (λ (x y : List ℕ). x ++ r ++ y) (ap (take i) e ∙ take-at p (q ++ s) i a)
+    (ap (drop (i + length r)) e ∙ ap (λ (k : ℕ). drop (k + length r) (p ++ (q ++ s))) (sym a) ∙ drop-append-add p (q ++ s) (length r) ∙ drop-at q s (length r) b)
+    ∙ append-assoc p r s
+
+-- four fields, one after the other
+module _ (out : List ℕ) (at a b c d : ℕ) where
+  pub four-fields : sets (sets (sets (sets out at (leBytes 2 (a % 65536))) (at + 2) (leBytes 2 (b % 65536))) (at + 4) (leBytes 2 (c % 65536))) (at + 6) (leBytes 2 (d % 65536))
+      ≡ sets out at (fields a b c d)
+  unfolding fields
+  four-fields =
+      let A = leBytes 2 a in
+      let B = leBytes 2 b in
+      let C = leBytes 2 c in
+      let D = leBytes 2 d in
+      let m : (x : ℕ) → leBytes 2 (x % 65536) ≡ leBytes 2 x = λ x. leBytes-mod 2 x in
+      let p : at + length A ≡ at + 2 = ap (λ (k : ℕ). at + k) (length-leBytes 2 a) in
+      let q : at + 2 + length B ≡ at + 4 = omega (arith, length-leBytes 2 b) in
+      let r : at + 4 + length C ≡ at + 6 = omega (arith, length-leBytes 2 c) in
+      rw (m a, m b, m c, m d)
+      (sym
+      (sets-append A (B ++ (C ++ D)) out at
+      ∙ ap (λ (k : ℕ). sets (sets out at A) k (B ++ (C ++ D))) p
+      ∙ sets-append B (C ++ D) (sets out at A) (at + 2)
+      ∙ ap (λ (k : ℕ). sets (sets (sets out at A) (at + 2) B) k (C ++ D)) q
+      ∙ sets-append C D (sets (sets out at A) (at + 2) B) (at + 4)
+      ∙ ap (λ (k : ℕ). sets (sets (sets (sets out at A) (at + 2) B) (at + 4) C) k D) r))
+
+-- parts of w bytes each
+module _ (w : ℕ) where
+  pub parts-length : (n : ℕ) (f : ℕ → List ℕ) → ((j : ℕ) → j < n → length (f j) ≡ w) → length (joined (tabulate n f)) ≡ n * w
+  unfolding joined
+  parts-length zero f e = omega arith
+  parts-length (suc n) f e =
+      rw length-append (omega (arith, parts-length n (λ j. f (suc j)) (λ j h. e (suc j) (omega arith)), e 0 (omega arith), suc-mul n w))
+
+  -- any list of so many parts
+  pub parts-of : (n : ℕ) (l : List ℕ) → joined (tabulate n (λ k. take w (drop (k * w) l))) ≡ take (n * w) l
+  unfolding joined
+  parts-of zero l = ap (λ (k : ℕ). take k l) z
+    where
+      z : 0 ≡ 0 * w
+      z = omega arith
+  parts-of (suc n) l =
+      let first : drop (0 * w) l ≡ l = ap (λ (k : ℕ). drop k l) z in
+      ap₂ (λ (a b : List ℕ). take w a ++ b) first
+      (ap joined (tabulate-cong n (λ k. take w (drop (suc k * w) l)) (λ k. take w (drop (k * w) (drop w l)))
+      (λ k h. ap (take w) (ap (λ (i : ℕ). drop i l) (more k) ∙ sym (drop-drop (k * w) w l))))
+      ∙ parts-of n (drop w l))
+      ∙ sym (ap (λ (k : ℕ). take k l) (more n) ∙ take-add w (n * w) l)
+    where
+      z : 0 * w ≡ 0
+      z = omega arith
+
+      more : (k : ℕ) → suc k * w ≡ w + k * w
+      more k = suc-mul k w ∙ omega arith
+
+-- the parts before one, that one, and those after it
+pub parts-split : (n j : ℕ) (f : ℕ → List ℕ) → j < n
+    → joined (tabulate n f) ≡ joined (tabulate j f) ++ (f j ++ joined (tabulate (n - suc j) (λ k. f (suc j + k))))
+unfolding joined
+parts-split zero j f h = absurd (omega arith)
+parts-split (suc n) zero f h =
+    let p : suc n - 1 ≡ n = omega arith in
+    rw p (ap (λ (r : List ℕ). f 0 ++ r) (ap joined (tabulate-cong n (λ k. f (suc k)) (λ k. f (1 + k)) (λ k l. ap f (sym (one k))))))
+  where
+    one : (k : ℕ) → 1 + k ≡ suc k
+    one k = omega arith
+parts-split (suc n) (suc j) f h =
+    let p : suc n - suc (suc j) ≡ n - suc j = omega arith in
+    rw p
+    (ap (λ (r : List ℕ). f 0 ++ r)
+    (parts-split n j (λ k. f (suc k)) (omega arith)
+    ∙ ap (λ (r : List ℕ). joined (tabulate j (λ k. f (suc k))) ++ (f (suc j) ++ r))
+    (ap joined (tabulate-cong (n - suc j) (λ k. f (suc (suc j + k))) (λ k. f (suc (suc j) + k)) (λ k l. ap f (sym (suc-add (suc j) k))))))
+    ∙ sym (append-assoc (f 0) (joined (tabulate j (λ k. f (suc k)))) _))
+
+-- one part more
+pub parts-snoc : (n : ℕ) (f : ℕ → List ℕ) → joined (tabulate (suc n) f) ≡ joined (tabulate n f) ++ f n
+unfolding joined
+parts-snoc n f =
+    let p : suc n - suc n ≡ 0 = omega arith in
+    parts-split (suc n) n f (omega arith)
+    ∙ ap (λ (k : ℕ). joined (tabulate n f) ++ (f n ++ joined (tabulate k (λ k. f (suc n + k))))) p
+    ∙ ap (λ (r : List ℕ). joined (tabulate n f) ++ r) (append-nil (f n))
+
+-- f, with r at place j
+unfoldable pub putAt : (ℕ → List ℕ) → ℕ → List ℕ → ℕ → List ℕ
+putAt f j r k = cond (eqb k j) r (f k)
+
+pub put-here : (f : ℕ → List ℕ) (j : ℕ) (r : List ℕ) (k : ℕ) → k ≡ j → putAt f j r k ≡ r
+unfolding putAt
+put-here f j r k e = rw (eq-eqb k j e)
+
+pub put-other : (f : ℕ → List ℕ) (j : ℕ) (r : List ℕ) (k : ℕ) → (k ≡ j → ⊥) → putAt f j r k ≡ f k
+unfolding putAt
+put-other f j r k n = rw (ne-eqb k j n)
+
+-- one of the parts put anew
+pub put-part : (a c : List ℕ) (n : ℕ) (f : ℕ → List ℕ) (j : ℕ) (r : List ℕ) (at : ℕ) → j < n → ((k : ℕ) → k < n → length (f k) ≡ 8) → length r ≡ 8
+    → at ≡ length a + 8 * j → sets (a ++ (joined (tabulate n f) ++ c)) at r ≡ a ++ (joined (tabulate n (putAt f j r)) ++ c)
+put-part a c n f j r at h e g p =
+    let before = joined (tabulate j f) in
+    let after = joined (tabulate (n - suc j) (λ k. f (suc j + k))) in
+    let len : length before ≡ j * 8 = parts-length 8 j f (λ k l. e k (omega arith)) in
+    let whole : a ++ (joined (tabulate n f) ++ c) ≡ (a ++ before) ++ (f j ++ (after ++ c)) =
+    ap (λ (l : List ℕ). a ++ (l ++ c)) (parts-split n j f h)
+    ∙ ap (λ (l : List ℕ). a ++ l) (append-assoc before (f j ++ after) c ∙ ap (λ (l : List ℕ). before ++ l) (append-assoc (f j) after c))
+    ∙ sym (append-assoc a before (f j ++ (after ++ c))) in
+    let same-before : joined (tabulate j (putAt f j r)) ≡ before = ap joined (tabulate-cong j (putAt f j r) f (λ k l. put-other f j r k (λ q. omega arith))) in
+    let same-after : joined (tabulate (n - suc j) (λ k. putAt f j r (suc j + k))) ≡ after =
+    ap joined (tabulate-cong (n - suc j) (λ k. putAt f j r (suc j + k)) (λ k. f (suc j + k)) (λ k l. put-other f j r (suc j + k) (λ q. omega arith))) in
+    let anew : joined (tabulate n (putAt f j r)) ≡ before ++ (r ++ after) =
+    parts-split n j (putAt f j r) h
+    ∙ ap₂ (λ (x y : List ℕ). x ++ (putAt f j r j ++ y)) same-before same-after
+    ∙ ap (λ (x : List ℕ). before ++ (x ++ after)) (put-here f j r j refl) in
+    sets-at _ (a ++ before) (f j) (after ++ c) r at whole (omega (arith, length-append a before)) (e j h ∙ sym g)
+    ∙ append-assoc a before (r ++ (after ++ c))
+    ∙ sym
+    (ap (λ (l : List ℕ). a ++ (l ++ c)) anew
+    ∙ ap (λ (l : List ℕ). a ++ l) (append-assoc before (r ++ after) c ∙ ap (λ (l : List ℕ). before ++ l) (append-assoc r after c)))
+
+-- what is known after j of the output wires
+pub record Outputs (out₀ : List ℕ) (n first : ℕ) (out : List ℕ) (j : ℕ) : Type 0 where
+  pub few : j ≤ n
+  pub room : length out ≡ length out₀
+  pub stored : out ≡ sets out₀ 8 (joined (tabulate j (λ k. leBytes 2 (first + k))))
+
+module _ (out₀ : List ℕ) (n first : ℕ) where
+  pub outputs-start : Outputs out₀ n first out₀ 0
+  unfolding joined
+  outputs-start = record { few = omega arith; room = refl; stored = refl }
+
+  pub outputs-more : (out : List ℕ) (j : ℕ) → Outputs out₀ n first out j → j < n → (new : List ℕ) → new ≡ sets out (8 + 2 * j) (leBytes 2 ((first + j) % 65536))
+      → Outputs out₀ n first new (j + 1)
+  outputs-more out j k h new e =
+      let f : ℕ → List ℕ = λ k. leBytes 2 (first + k) in
+      let len : length (joined (tabulate j f)) ≡ j * 2 = parts-length 2 j f (λ k h. length-leBytes 2 (first + k)) in
+      let p : 8 + length (joined (tabulate j f)) ≡ 8 + 2 * j = omega arith in
+      record {
+        few = omega arith;
+        room = ap length e ∙ length-sets out (8 + 2 * j) (leBytes 2 ((first + j) % 65536)) ∙ k .room;
+        stored =
+            e ∙ ap (sets out (8 + 2 * j)) (leBytes-mod 2 (first + j))
+            ∙ ap (λ (x : List ℕ). sets x (8 + 2 * j) (f j)) (k .stored)
+            ∙ sym (ap (λ (i : ℕ). sets out₀ 8 (joined (tabulate i f))) (add-one j) ∙ ap (sets out₀ 8) (parts-snoc j f) ∙ sets-append (joined (tabulate j f)) (f j) out₀ 8
+            ∙ ap (λ (i : ℕ). sets (sets out₀ 8 (joined (tabulate j f))) i (f j)) p);
+      }
+
+  pub outputs-all : (out : List ℕ) (j : ℕ) → Outputs out₀ n first out j → n ≤ j → out ≡ sets out₀ 8 (joined (tabulate n (λ k. leBytes 2 (first + k))))
+  outputs-all out j k h =
+      let e : j ≡ n = omega (arith, k .few) in
+      k .stored ∙ ap (λ (i : ℕ). sets out₀ 8 (joined (tabulate i (λ k. leBytes 2 (first + k))))) e

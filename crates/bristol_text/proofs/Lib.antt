@@ -1,0 +1,9 @@
+pub mod Along
+pub mod Before
+pub mod Digits
+pub mod Followed
+pub mod Lines
+pub mod Numbers
+pub mod Pieces
+pub mod Runs
+pub mod Tokens
