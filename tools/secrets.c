@@ -236,8 +236,8 @@ static unsigned permutations, declared_at;
 static const uint8_t *sought;
 static unsigned sought_at;
 
-void I_WRAP_SONAME_FNNAME_ZZ(NONE, roundsZcZcpermute)(uint64_t *state);
-void I_WRAP_SONAME_FNNAME_ZZ(NONE, roundsZcZcpermute)(uint64_t *state)
+void I_WRAP_SONAME_FNNAME_ZZ(NONE, permutationZcZcpermute)(uint64_t *state);
+void I_WRAP_SONAME_FNNAME_ZZ(NONE, permutationZcZcpermute)(uint64_t *state)
 {
     OrigFn original;
 

@@ -8,7 +8,7 @@ use crate::state::byte_at;
 use crate::state::lane_at;
 use crate::state::xor_byte;
 use crate::state::xor_lanes;
-use rounds::permute;
+use permutation::permute;
 
 // The state of 25 lanes, and the bytes taken of the present block.
 pub struct Sponge {

@@ -72,10 +72,6 @@ roundBits ir (suc j) = set (roundBits ir j) (2 ^ j - 1) (rc (j + 7 * ir))
 unfoldable pub RC : ℕ → List Bool
 RC ir = roundBits ir 7
 
--- RC of the round ir as a number
-unfoldable pub roundConstant : ℕ → ℕ
-roundConstant ir = fromBits 64 (λ z. getD (RC ir) z false)
-
 -- Algorithm 6, steps 1 and 4: A'[x, y, z] = A[x, y, z], and A'[0, 0, z] = A'[0, 0, z] ⊕ RC[z]
 unfoldable pub ι : StateArray → ℕ → StateArray
 ι A ir = putLane A 0 0 (λ z. A 0 0 z ⊕ getD (RC ir) z false)

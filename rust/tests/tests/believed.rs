@@ -1,6 +1,7 @@
 //! What a reader must believe: the definitions that the promises of the
-//! operations and the statements of the theorems stand on. What only serves the
-//! contracts of private steps (`specs/Steps.antt`) is not among them.
+//! operations and of FIPS 202's step mappings, and the statements of the theorems
+//! stand on. What only serves the contracts of private steps (`specs/Steps.antt`)
+//! is not among them.
 
 use std::collections::{BTreeMap, BTreeSet};
 use std::fs;
@@ -58,6 +59,10 @@ fn operations(interface: &str) -> Vec<Vec<String>> {
     found
 }
 
+/// The step mappings of FIPS 202, the round and the permutation: their promises
+/// are read beside the standard.
+const BESIDE_THE_STANDARD: [&str; 7] = ["theta", "rho", "pi", "chi", "iota", "round", "keccak_f"];
+
 /// The definitions that the promises of all operations name.
 fn promised(specs: &Specs) -> (BTreeSet<Item>, usize) {
     let interface = text(&root().join("crates/wivulameno/src/lib.rt"));
@@ -86,6 +91,12 @@ fn promised(specs: &Specs) -> (BTreeSet<Item>, usize) {
         assert!(!promise.is_empty(), "{operation:?} promises nothing");
         found.extend(specs.named_in(source, &promise));
         count += 1;
+    }
+    let permutation = text(&root().join("crates/permutation/src/lib.rt"));
+    for name in BESIDE_THE_STANDARD {
+        let promise = promise(&permutation, name).expect("a promise");
+        assert!(!promise.is_empty(), "{name} promises nothing");
+        found.extend(specs.named_in(&permutation, &promise));
     }
     (found, count)
 }

@@ -4,6 +4,7 @@ use mathlib.Core.Path.{_≡_, refl, sym, ap, ap₂, _∙_}
 use mathlib.Core.Bool.{Bool, true, false, Bool·beq, _&&_, false≢true}
 use mathlib.Core.List.{List, [], _∷_}
 use Prim.Native.Nat.{ℕ, zero, suc, _+_, _^_, _<_}
+use native.Mathlib.Omega.{arith}
 use native.Mathlib.Nat.{add-zero, zero-add, add-suc, suc-add, le-of-suc-le-suc, not-suc-le-zero}
 use borrow.Author.Tests.{ltb-true}
 use lib.Dec.{ltb}
@@ -12,7 +13,8 @@ use Rattle.bits.specs.Bits.{tabulate, odd, testBit}
 use Rattle.bits.proofs.Numbers.{fromBits-cong, fromBits-testBit}
 use Rattle.bits.proofs.Tabulate.{getD-tabulate}
 use Rattle.bits.proofs.Tests.{and-true-left, and-true-right}
-use Rattle.permutation.specs.Permutation.{RC, roundConstant, roundBits, rc, shiftRegister}
+use Rattle.permutation.specs.Permutation.{RC, roundBits, rc, shiftRegister}
+use Rattle.permutation.specs.Steps.{roundConstant}
 
 -- the table as the code has it
 abbrev pub constants : List ℕ
@@ -101,3 +103,17 @@ constant-rule ir h =
     sym (fromBits-testBit 64 c small)
     ∙ fromBits-cong 64 (testBit c) (λ z. getD (RC ir) z false)
     (λ z hz. sym (ap (λ (s : List Bool). getD s z false) same ∙ getD-tabulate 64 (testBit c) z false hz))
+
+-- so the entry k is that of the round k
+pub entry-is : (k ir : ℕ) → ir ≡ k → k < 24 → getD constants k 0 ≡ roundConstant ir
+entry-is k ir e h = constant-rule k h ∙ ap roundConstant (sym e)
+
+-- x is none of the numbers below n
+abbrev pub NoneBelow : ℕ → ℕ → Type 0
+NoneBelow zero x = Unit {0}
+NoneBelow (suc n) x = NoneBelow n x × (x ≡ n → ⊥)
+
+-- so it is not below n
+pub none-below : (n x : ℕ) → NoneBelow n x → x < n → ⊥
+none-below zero x h lt = not-suc-le-zero lt
+none-below (suc n) x h lt = none-below n x (h .0) (omega (arith, h .1))
