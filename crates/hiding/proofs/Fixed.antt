@@ -28,11 +28,11 @@ sent-fixes p ma mb sa sb z o o′ e = cancel ((ma && sb p) ⊕ (mb && sa p) ⊕ 
 -- two equal lists
 module _ {x y : Bool} {xs ys : List Bool} (e : x ∷ xs ≡ y ∷ ys) where
   -- have equal heads
-  head-eq : x ≡ y
+  pub head-eq : x ≡ y
   head-eq = cc
 
   -- and equal tails
-  tail-eq : xs ≡ ys
+  pub tail-eq : xs ≡ ys
   tail-eq = cc
 
 -- two streams equal at the first place and, below n places, at the next

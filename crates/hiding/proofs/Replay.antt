@@ -4,7 +4,7 @@ use mathlib.Core.Path.{_≡_, refl, sym, ap, _∙_, fun-ext}
 use mathlib.Core.Bool.{Bool, true, false, cond, _&&_}
 use mathlib.Core.List.{List, [], _∷_}
 use mathlib.Core.Logic.{_≢_, ⊎-elim}
-use Prim.Native.Nat.{ℕ, suc, _<_}
+use Prim.Native.Nat.{ℕ, suc, _*_, _<_}
 use native.Mathlib.Omega.{arith}
 use borrow.Author.Tests.{eq-eqb, ne-eqb, eqb-true}
 use lib.Dec.{eqb}
@@ -33,7 +33,7 @@ unfolding put
 delivered p x y b h e = all-agree p (put x p b) y (λ i m. rw (ne-eqb i p m) (h i m)) (rw (eq-eqb p p refl) e)
 
 -- one wire written
-others-put : (p : ℕ) (s t : ℕ → Column) (c : ℕ) (x y : Column) → ((k : ℕ) → Others p (s k) (t k)) → Others p x y
+pub others-put : (p : ℕ) (s t : ℕ → Column) (c : ℕ) (x y : Column) → ((k : ℕ) → Others p (s k) (t k)) → Others p x y
     → (k : ℕ) → Others p (put s c x k) (put t c y k)
 unfolding put
 others-put p s t c x y h e k i m = go (eqb k c)
@@ -43,7 +43,7 @@ others-put p s t c x y h e k i m = go (eqb k c)
     go false = h k i m
 
 -- the others' broadcasts of the same
-others-broadcast : (p : ℕ) (ma mb : Bool) (sa sb z o sa′ sb′ z′ o′ : Column) → Others p sa sa′ → Others p sb sb′ → Others p z z′ → Others p o o′
+pub others-broadcast : (p : ℕ) (ma mb : Bool) (sa sb z o sa′ sb′ z′ o′ : Column) → Others p sa sa′ → Others p sb sb′ → Others p z z′ → Others p o o′
     → Others p (broadcast ma mb sa sb z o) (broadcast ma mb sa′ sb′ z′ o′)
 unfolding broadcast
 others-broadcast p ma mb sa sb z o sa′ sb′ z′ o′ ha hb hz ho i q = rw (ha i q, hb i q, hz i q, ho i q)
@@ -91,26 +91,27 @@ inputs-read c n w tapes hw = fun-ext (λ k. bitAt-pack (tabulate (c .inputs) (ma
     (λ h. getD-tabulate-end (c .inputs) (maskedInput c n w tapes) k false h ∙ sym (rw (witness-end c w hw k h, inputs-end c tapes k h) (xors-false n)))
     (lt-or-le k (c .inputs)))
 
--- p of n parties hidden in an honest run
-module _ (c : Circuit) (n p : ℕ) (l : p < n) (tapes w : List ℕ) (ht : Tapes c n tapes) (hw : Witness c w) where
+-- the tapes of n parties with p's row hidden
+module _ (c : Circuit) (n p : ℕ) (l : p < n) (tapes : List ℕ) (size : length tapes ≡ n * rowBytes c) where
   -- the other parties' rows shown are theirs
   others-shown : (i : ℕ) → i ≢ p → tapeRow c (hidden c p tapes) i ≡ tapeRow c tapes i
-  others-shown = row-other c n p l tapes (ht .bytes .size) (replicate (rowBytes c) 0) (length-replicate (rowBytes c) 0)
+  others-shown = row-other c n p l tapes size (replicate (rowBytes c) 0) (length-replicate (rowBytes c) 0)
 
   -- so are their input masks
-  inputs-shown : (k : ℕ) → Others p (inputMasks c (hidden c p tapes) k) (inputMasks c tapes k)
+  pub inputs-shown : (k : ℕ) → Others p (inputMasks c (hidden c p tapes) k) (inputMasks c tapes k)
   unfolding inputMasks
   inputs-shown k i m = rw (others-shown i m)
 
   -- their output masks
-  masks-shown : (k : ℕ) → Others p (outputMasks c (hidden c p tapes) k) (outputMasks c tapes k)
+  pub masks-shown : (k : ℕ) → Others p (outputMasks c (hidden c p tapes) k) (outputMasks c tapes k)
   unfolding outputMasks
   masks-shown k i m = rw (others-shown i m)
 
   -- and their product shares with the corrections shown
-  products-shown : (k : ℕ) → Others p (corrected n (bitAt (showing c n p (length (c .gates)) w tapes .corrections)) (productShares c (hidden c p tapes)) k)
+  pub products-shown : (k : ℕ)
+      → Others p (corrected n (bitAt (cond (eqb (suc p) n) (replicate (oct (andsOf c)) 0) (pack (correctionBits c n tapes)))) (productShares c (hidden c p tapes)) k)
       (corrected n (bit (correctionBits c n tapes)) (productShares c tapes) k)
-  unfolding corrected productShares showing
+  unfolding corrected productShares
   products-shown k i m = go (eqb (suc i) n) refl
     where
       go : (b : Bool) → eqb (suc i) n ≡ b
@@ -119,6 +120,8 @@ module _ (c : Circuit) (n p : ℕ) (l : p < n) (tapes w : List ℕ) (ht : Tapes 
       go true e = rw (ne-eqb (suc p) n (λ q. m (omega (arith, eqb-true (suc i) n e)))) (bitAt-pack (correctionBits c n tapes) k)
       go false e = rw (others-shown i m)
 
+-- p of n parties hidden in an honest run
+module _ (c : Circuit) (n p : ℕ) (l : p < n) (tapes w : List ℕ) (ht : Tapes c n tapes) (hw : Witness c w) where
   -- the replay is the run
   replay-same : replayOf c n p (showing c n p (length (c .gates)) w tapes) ≡ honestRun c n w tapes
   unfolding replayOf showing honestRun runOn runWith
@@ -126,7 +129,7 @@ module _ (c : Circuit) (n p : ℕ) (l : p < n) (tapes w : List ℕ) (ht : Tapes 
       (λ j. runWith c n (hidden c p tapes) (bitAt (showing c n p (length (c .gates)) w tapes .corrections)) (inputs-read c n w tapes hw j)
       (asShown p (bitAt (showing c n p (length (c .gates)) w tapes .row))))
       ∙ run-delivered n p (c .outputs) (c .gates) (outputMasks c (hidden c p tapes)) (outputMasks c tapes) _ _ (inputMasks c (hidden c p tapes)) (inputMasks c tapes)
-      (maskedInput c n w tapes) _ masks-shown products-shown inputs-shown
+      (maskedInput c n w tapes) _ (masks-shown c n p l tapes (ht .bytes .size)) (products-shown c n p l tapes (ht .bytes .size)) (inputs-shown c n p l tapes (ht .bytes .size))
       (λ k. ap (λ (x : List ℕ). bitAt x k) (ap pack (row-all c n p w tapes)) ∙ bitAt-pack (rowBits (honestRun c n w tapes) p) k)
 
 -- a replay of the whole showing gives the run's output and its rows

@@ -1,0 +1,5 @@
+pub mod Twice
+pub mod Theorem
+pub mod Replays
+pub mod Showings
+pub mod Wrong
