@@ -164,13 +164,12 @@ fn no_step_is_believed() {
 }
 
 /// What nothing believed stands on is in `Steps`, so that the other files hold
-/// what must be read and no more. `permutation` has the lanes of a state beside
-/// the definitions of the standard.
+/// what must be read and no more.
 #[test]
 fn what_is_not_believed_is_a_step() {
     let specs = Specs::read();
     let believed = believed(&specs);
-    let parted = |item: &Item| item.file != "Steps" && item.krate != "permutation";
+    let parted = |item: &Item| item.file != "Steps";
     let all = specs.all().into_iter().filter(parted);
     let idle: Vec<Item> = all.filter(|item| !believed.contains(item)).collect();
     assert!(idle.is_empty(), "not believed: {idle:#?}");
