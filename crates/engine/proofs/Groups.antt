@@ -4,15 +4,15 @@ use mathlib.Core.Path.{_≡_, refl, sym, ap, ap₂, _∙_}
 use mathlib.Core.List.{List}
 use mathlib.Core.Logic.{_≢_}
 use Prim.Native.Nat.{ℕ, zero, suc, _+_, _*_, _/_, _%_, _≤_, _<_}
-use native.Mathlib.Nat.{add-mul, add-suc, add-zero, mul-le-mul-right, suc-mul}
+use native.Mathlib.Nat.{add-mul, add-suc, add-zero, mul-assoc, mul-le-mul-right, suc-mul}
 use native.Mathlib.Omega.{arith}
 use lib.ListN.{length, set}
 use lib.Seq.{set-comm}
 use Rattle.bits.specs.Bits.{bitVal, bitAt}
 use Rattle.bits.specs.Bytes.{rowOf}
-use Rattle.bits.proofs.Rows.{bitAt-row}
+use Rattle.bits.proofs.Rows.{bitAt-row, row-length}
 use Rattle.engine.specs.Steps.{fill, unpacked, loadedRow, loadedTapes}
-use Rattle.engine.proofs.Fill.{fill-join}
+use Rattle.engine.proofs.Fill.{fill-cong, fill-join}
 
 -- a store at a place that is not filled may come first
 fill-set : (pos f : ℕ → ℕ) (w : List ℕ) (k q v : ℕ) → ((t : ℕ) → t < k → q ≢ pos t) → fill pos f k (set w q v) ≡ set (fill pos f k w) q v
@@ -140,24 +140,51 @@ tapes-parts W I A len i (suc n) s w =
     ap (λ (k : ℕ). loadedTapes W I A len s k w) (add-suc i n)
     ∙ ap (loadedRow W I A (i + n) (rowOf s len (i + n))) (tapes-parts W I A len i n s w)
 
+-- where the part of 8 rows from row i on starts
+part-start : (len i : ℕ) → i % 8 ≡ 0 → i / 8 * (8 * len) ≡ i * len
+part-start len i d =
+    let e : i / 8 * 8 ≡ i = omega arith in
+    sym (mul-assoc (i / 8) 8 len) ∙ ap (λ (x : ℕ). x * len) e
+
+-- it holds all 8
+pub part-long : (s rows : List ℕ) (len i : ℕ) → i % 8 ≡ 0 → rows ≡ rowOf s (8 * len) (i / 8) → i * len + 8 * len ≤ length s → 8 * len ≤ length rows
+part-long s rows len i d e h = omega (arith, ap length e ∙ row-length s (8 * len) (i / 8) (omega (arith, part-start len i d)))
+
+-- the part of 8 rows from row i on is bit for bit in the buffer
+eight-part : (s rows : List ℕ) (len i from c to : ℕ) (w : List ℕ) → i % 8 ≡ 0 → rows ≡ rowOf s (8 * len) (i / 8) → i * len + 8 * len ≤ length s
+    → from + c ≤ 8 * len
+    → fill (λ k. to + 16 * (k / 8) + k % 8) (λ k. bitVal (bitAt rows (8 * (k % 8 * len) + (from + k / 8)))) (8 * c) w
+    ≡ fill (λ k. to + 16 * (k / 8) + k % 8) (λ k. bitVal (bitAt s (8 * (i * len + k % 8 * len) + (from + k / 8)))) (8 * c) w
+eight-part s rows len i from c to w d e h l =
+    let start = part-start len i d in
+    fill-cong (λ k. to + 16 * (k / 8) + k % 8) (λ k. bitVal (bitAt rows (8 * (k % 8 * len) + (from + k / 8))))
+    (λ k. bitVal (bitAt s (8 * (i * len + k % 8 * len) + (from + k / 8)))) w (8 * c)
+    (λ k lt.
+    let few : k % 8 ≤ 7 = omega arith in
+    let n : 8 * (k % 8 * len) + (from + k / 8) < 8 * (8 * len) = omega (arith, mul-le-mul-right len few) in
+    let q : 8 * (i / 8 * (8 * len)) + (8 * (k % 8 * len) + (from + k / 8)) ≡ 8 * (i * len + k % 8 * len) + (from + k / 8) = omega arith in
+    ap bitVal
+    (ap (λ (x : List ℕ). bitAt x (8 * (k % 8 * len) + (from + k / 8))) e
+    ∙ bitAt-row s (8 * len) (i / 8) (8 * (k % 8 * len) + (from + k / 8)) (omega arith) n ∙ ap (bitAt s) q))
+
 -- 8 rows more, loaded in three parts: the input masks, the output masks and the product shares
-pub eight-loaded : (W I A len i a : ℕ) (s w m x y z : List ℕ) → i + 8 ≤ 16 → I + 2 * A ≤ 8 * len → i * len + 8 * len ≤ length s → a ≡ i * len
-    → m ≡ loadedTapes W I A len s i w
-    → x ≡ fill (λ k. i + 16 * (k / 8) + k % 8) (λ k. bitVal (bitAt s (8 * (a + k % 8 * len) + (0 + k / 8)))) (8 * I) m
-    → y ≡ fill (λ k. 32 * W + i + 16 * (k / 8) + k % 8) (λ k. bitVal (bitAt s (8 * (a + k % 8 * len) + (I + k / 8)))) (8 * A) x
-    → z ≡ fill (λ k. 48 * W + i + 16 * (k / 8) + k % 8) (λ k. bitVal (bitAt s (8 * (a + k % 8 * len) + (I + A + k / 8)))) (8 * A) y
+pub eight-loaded : (W I A len i : ℕ) (s rows w m x y z : List ℕ) → i + 8 ≤ 16 → I + 2 * A ≤ 8 * len → i * len + 8 * len ≤ length s → i % 8 ≡ 0
+    → rows ≡ rowOf s (8 * len) (i / 8) → m ≡ loadedTapes W I A len s i w
+    → x ≡ fill (λ k. i + 16 * (k / 8) + k % 8) (λ k. bitVal (bitAt rows (8 * (k % 8 * len) + (0 + k / 8)))) (8 * I) m
+    → y ≡ fill (λ k. 32 * W + i + 16 * (k / 8) + k % 8) (λ k. bitVal (bitAt rows (8 * (k % 8 * len) + (I + k / 8)))) (8 * A) x
+    → z ≡ fill (λ k. 48 * W + i + 16 * (k / 8) + k % 8) (λ k. bitVal (bitAt rows (8 * (k % 8 * len) + (I + A + k / 8)))) (8 * A) y
     → z ≡ loadedTapes W I A len s (i + 8) w
 unfolding loadedRow
-eight-loaded W I A len i a s w m x y z few l h e d q r v =
+eight-loaded W I A len i s rows w m x y z few l h e p d q r v =
     let first : ℕ → List ℕ → List ℕ = λ p. unpacked (rowOf s len (i + p)) 0 I (i + p) in
     let second : ℕ → List ℕ → List ℕ = λ p. unpacked (rowOf s len (i + p)) I A (32 * W + i + p) in
     let third : ℕ → List ℕ → List ℕ = λ p. unpacked (rowOf s len (i + p)) (I + A) A (48 * W + i + p) in
     let both : ℕ → List ℕ → List ℕ = λ p t. second p (first p t) in
-    let one = q ∙ eight-rows s len i a 0 I i m e h (omega arith) in
-    let two = r ∙ eight-rows s len i a I A (32 * W + i) x e h (omega arith) ∙ ap (parts second 8) one
+    let one = q ∙ eight-part s rows len i 0 I i m e p h (omega arith) ∙ eight-rows s len i (i * len) 0 I i m refl h (omega arith) in
+    let two = r ∙ eight-part s rows len i I A (32 * W + i) x e p h (omega arith) ∙ eight-rows s len i (i * len) I A (32 * W + i) x refl h (omega arith) ∙ ap (parts second 8) one
     ∙ parts-pair second first 8 m
     (λ p k t b c. unpacked-swap (rowOf s len (i + p)) (rowOf s len (i + k)) I A (32 * W + i + p) 0 I (i + k) t (λ u g. omega arith)) in
-    v ∙ eight-rows s len i a (I + A) A (48 * W + i) y e h (omega arith) ∙ ap (parts third 8) two
+    v ∙ eight-part s rows len i (I + A) A (48 * W + i) y e p h (omega arith) ∙ eight-rows s len i (i * len) (I + A) A (48 * W + i) y refl h (omega arith) ∙ ap (parts third 8) two
     ∙ parts-pair third both 8 m
     (λ p k t b c.
     let row : List ℕ = rowOf s len (i + p) in

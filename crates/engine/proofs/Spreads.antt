@@ -214,17 +214,17 @@ spread-end x to z w t a b e =
     e ∙ ap (λ (i : ℕ). fill (λ k. to + 16 * (k / 8) + k % 8) (λ k. bitVal (testBit x (8 * (k % 8) + k / 8))) i w) n
 
 -- one turn of the loop that unpacks 8 rows: 8 bits more of each
-pub eight-turn : (s m w v : List ℕ) (len a from to t x : ℕ)
-    → m ≡ fill (λ k. to + 16 * (k / 8) + k % 8) (λ k. bitVal (bitAt s (8 * (a + k % 8 * len) + (from + k / 8)))) (8 * t) w
-    → x ≡ fromBits 64 (λ b. bitAt s (8 * (a + (from + t) / 8 + b / 8 * len) + ((from + t) % 8 + b % 8)))
+pub eight-turn : (s m w v : List ℕ) (len from to t x : ℕ)
+    → m ≡ fill (λ k. to + 16 * (k / 8) + k % 8) (λ k. bitVal (bitAt s (8 * (k % 8 * len) + (from + k / 8)))) (8 * t) w
+    → x ≡ fromBits 64 (λ b. bitAt s (8 * ((from + t) / 8 + b / 8 * len) + ((from + t) % 8 + b % 8)))
     → v ≡ fill (λ k. to + 16 * t + 16 * (k / 8) + k % 8) (λ k. bitVal (testBit x (8 * (k % 8) + k / 8))) 64 m
-    → v ≡ fill (λ k. to + 16 * (k / 8) + k % 8) (λ k. bitVal (bitAt s (8 * (a + k % 8 * len) + (from + k / 8)))) (8 * (t + 8)) w
-eight-turn s m w v len a from to t x e h q =
+    → v ≡ fill (λ k. to + 16 * (k / 8) + k % 8) (λ k. bitVal (bitAt s (8 * (k % 8 * len) + (from + k / 8)))) (8 * (t + 8)) w
+eight-turn s m w v len from to t x e h q =
     let pos : ℕ → ℕ = λ k. to + 16 * (k / 8) + k % 8 in
-    let f : ℕ → ℕ = λ k. bitVal (bitAt s (8 * (a + k % 8 * len) + (from + k / 8))) in
+    let f : ℕ → ℕ = λ k. bitVal (bitAt s (8 * (k % 8 * len) + (from + k / 8))) in
     let pos′ : ℕ → ℕ = λ k. to + 16 * t + 16 * (k / 8) + k % 8 in
     let f′ : ℕ → ℕ = λ k. bitVal (testBit x (8 * (k % 8) + k / 8)) in
-    let g : ℕ → Bool = λ b. bitAt s (8 * (a + (from + t) / 8 + b / 8 * len) + ((from + t) % 8 + b % 8)) in
+    let g : ℕ → Bool = λ b. bitAt s (8 * ((from + t) / 8 + b / 8 * len) + ((from + t) % 8 + b % 8)) in
     let n : 8 * t + 64 ≡ 8 * (t + 8) = omega arith in
     q ∙ ap (fill pos′ f′ 64) e
     ∙ fill-join pos f pos′ f′ w (8 * t) 64 (λ z l. omega arith)
@@ -237,7 +237,7 @@ eight-turn s m w v len a from to t x e h q =
     let c : b / 8 * len ≡ z % 8 * len = ap (λ (i : ℕ). i * len) lb in
     let d : (8 * t + z) % 8 * len ≡ z % 8 * len = ap (λ (i : ℕ). i * len) lz in
     let o : 8 * ((from + t) / 8) + (from + t) % 8 ≡ from + t = omega arith in
-    let k : 8 * (a + (from + t) / 8 + b / 8 * len) + ((from + t) % 8 + b % 8) ≡ 8 * (a + (8 * t + z) % 8 * len) + (from + (8 * t + z) / 8) = omega arith in
+    let k : 8 * ((from + t) / 8 + b / 8 * len) + ((from + t) % 8 + b % 8) ≡ 8 * ((8 * t + z) % 8 * len) + (from + (8 * t + z) / 8) = omega arith in
     ap bitVal (ap (λ (y : ℕ). testBit y b) h ∙ testBit-fromBits 64 g b (omega arith) ∙ ap (bitAt s) k))
     ∙ ap (λ (k : ℕ). fill pos f k w) n
 
@@ -246,11 +246,11 @@ pub part-within : (u len : ℕ) → u % 8 * len + len ≤ 8 * len
 part-within u len = let h : u % 8 < 8 = omega arith in omega (arith, mul-le-mul-right len h, suc-mul (u % 8) len)
 
 -- one turn of the loop that unpacks the rest: byte u
-pub rest-turn : (s m w : List ℕ) (len a from to u x : ℕ)
-    → m ≡ fill (λ k. to + 16 * (k / 8) + k % 8) (λ k. bitVal (bitAt s (8 * (a + k % 8 * len) + (from + k / 8)))) u w
-    → x ≡ bitVal (bitAt s (8 * (a + u % 8 * len + (from + u / 8) / 8) + (from + u / 8) % 8))
-    → set m (to + 16 * (u / 8) + u % 8) x ≡ fill (λ k. to + 16 * (k / 8) + k % 8) (λ k. bitVal (bitAt s (8 * (a + k % 8 * len) + (from + k / 8)))) (u + 1) w
-rest-turn s m w len a from to u x e h =
-    let k : 8 * (a + u % 8 * len + (from + u / 8) / 8) + (from + u / 8) % 8 ≡ 8 * (a + u % 8 * len) + (from + u / 8) = omega arith in
-    fill-turn (λ k. to + 16 * (k / 8) + k % 8) (λ k. bitVal (bitAt s (8 * (a + k % 8 * len) + (from + k / 8)))) w m u (to + 16 * (u / 8) + u % 8) x e refl
+pub rest-turn : (s m w : List ℕ) (len from to u x : ℕ)
+    → m ≡ fill (λ k. to + 16 * (k / 8) + k % 8) (λ k. bitVal (bitAt s (8 * (k % 8 * len) + (from + k / 8)))) u w
+    → x ≡ bitVal (bitAt s (8 * (u % 8 * len + (from + u / 8) / 8) + (from + u / 8) % 8))
+    → set m (to + 16 * (u / 8) + u % 8) x ≡ fill (λ k. to + 16 * (k / 8) + k % 8) (λ k. bitVal (bitAt s (8 * (k % 8 * len) + (from + k / 8)))) (u + 1) w
+rest-turn s m w len from to u x e h =
+    let k : 8 * (u % 8 * len + (from + u / 8) / 8) + (from + u / 8) % 8 ≡ 8 * (u % 8 * len) + (from + u / 8) = omega arith in
+    fill-turn (λ k. to + 16 * (k / 8) + k % 8) (λ k. bitVal (bitAt s (8 * (k % 8 * len) + (from + k / 8)))) w m u (to + 16 * (u / 8) + u % 8) x e refl
     (h ∙ ap (λ (i : ℕ). bitVal (bitAt s i)) k)

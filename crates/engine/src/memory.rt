@@ -106,36 +106,28 @@ fn bit_of(s: &[u8], j: usize, r: usize) -> u8
     (s[j] >> (r as u8)) % 2
 }
 
-// Unpacks count bits of each of 8 rows of len bytes, of which the first starts at byte a of s: bit `from` of each to the
-// 8 bytes of the memory from `to` on, and the next bits to every 16th byte after them.
-fn unpack_eight(
-    s: &[u8],
-    len: usize,
-    a: usize,
-    from: usize,
-    count: usize,
-    memory: &mut [u8],
-    to: usize,
-)
-    requires { ⌜ (a + 8 * len ≤ length (now s)) × ((from + count ≤ 8 * len) × ((from + count < 65536) × ((to < 4294967296) × (to + 16 * count ≤ length (now memory) + 8)))) ⌝ }
-    ensures { λ _. ⌜ now (memory .exit) ≡ fill (λ k. to + 16 * (k / 8) + k % 8) (λ k. bitVal (bitAt (now (s .entry)) (8 * (a + k % 8 * len) + (from + k / 8)))) (8 * count) (now (memory .entry)) ⌝ }
+// Unpacks count bits of each of the first 8 rows of len bytes: bit `from` of each to the 8 bytes of the memory from `to` on, and
+// the next bits to every 16th byte after them.
+fn unpack_eight(s: &[u8], len: usize, from: usize, count: usize, memory: &mut [u8], to: usize)
+    requires { ⌜ (8 * len ≤ length (now s)) × ((from + count ≤ 8 * len) × ((from + count < 65536) × ((to < 4294967296) × (to + 16 * count ≤ length (now memory) + 8)))) ⌝ }
+    ensures { λ _. ⌜ now (memory .exit) ≡ fill (λ k. to + 16 * (k / 8) + k % 8) (λ k. bitVal (bitAt (now (s .entry)) (8 * (k % 8 * len) + (from + k / 8)))) (8 * count) (now (memory .entry)) ⌝ }
 {
     let mut t = 0;
     while t + 8 < count {
         let k = from + t;
-        let x = windows8(s, len, a + k / 8, k % 8);
+        let x = windows8(s, len, k / 8, k % 8);
         spread8(x, memory, to + 16 * t);
         t += 8;
     }
     let mut u = 8 * t;
     while u < 8 * count {
         let k = from + u / 8;
-        memory[to + 16 * (u / 8) + u % 8] = bit_of(s, a + (u % 8) * len + k / 8, k % 8);
+        memory[to + 16 * (u / 8) + u % 8] = bit_of(s, (u % 8) * len + k / 8, k % 8);
         u += 1;
     }
 }
 
-// Brings the tape rows of 8 parties, from party i on, into the memory.
+// Brings the tape rows of 8 parties, from party i on, a multiple of 8, into the memory; the eight rows are one part of the tapes.
 fn load_eight(
     tapes: &[u8],
     len: usize,
@@ -145,13 +137,13 @@ fn load_eight(
     ands: usize,
     memory: &mut [u8],
 )
-    requires { ⌜ Room wires (i + 8) (now memory) × ((inputs ≤ wires) × ((ands ≤ wires) × ((inputs + 2 * ands ≤ 8 * len) × (i * len + 8 * len ≤ length (now tapes))))) ⌝ }
+    requires { ⌜ Room wires (i + 8) (now memory) × ((inputs ≤ wires) × ((ands ≤ wires) × ((inputs + 2 * ands ≤ 8 * len) × ((i * len + 8 * len ≤ length (now tapes)) × (i % 8 ≡ 0))))) ⌝ }
     ensures { λ _. ⌜ ((w : List ℕ) → now (memory .entry) ≡ loadedTapes wires inputs ands len (now (tapes .entry)) i w → now (memory .exit) ≡ loadedTapes wires inputs ands len (now (tapes .entry)) (i + 8) w) ⌝ }
 {
-    let a = i * len;
-    unpack_eight(tapes, len, a, 0, inputs, memory, i);
-    unpack_eight(tapes, len, a, inputs, ands, memory, 32 * wires + i);
-    unpack_eight(tapes, len, a, inputs + ands, ands, memory, 48 * wires + i);
+    let rows = bits::row(tapes, 8 * len, i / 8);
+    unpack_eight(rows, len, 0, inputs, memory, i);
+    unpack_eight(rows, len, inputs, ands, memory, 32 * wires + i);
+    unpack_eight(rows, len, inputs + ands, ands, memory, 48 * wires + i);
 }
 
 // Brings the tape rows of n parties, of len bytes each, into the memory.

@@ -2,7 +2,7 @@
 -- Assumes nothing.
 use mathlib.Core.Path.{_≡_, refl, ap, _∙_}
 use mathlib.Core.List.{List}
-use Prim.Native.Nat.{ℕ, _+_, _-_, _≤_}
+use Prim.Native.Nat.{ℕ, _+_, _-_, _%_, _≤_}
 use native.Mathlib.Nat.{add-mul, mul-le-mul-right}
 use native.Mathlib.Omega.{arith}
 use lib.ListN.{length}
@@ -14,7 +14,7 @@ use Rattle.engine.proofs.memory.load_tapes.Tie as tie
 
 abbrev Inv-loop : tie.InvT-loop
 Inv-loop tapes len n wires inputs ands memory₀ i₀ memory i =
-    (i ≤ n) × ((length memory ≡ length memory₀) × (memory ≡ loadedTapes wires inputs ands len tapes i memory₀))
+    (i ≤ n) × ((i % 8 ≡ 0) × ((length memory ≡ length memory₀) × (memory ≡ loadedTapes wires inputs ands len tapes i memory₀)))
 
 abbrev μ-loop : tie.MeasureT-loop
 μ-loop tapes len n wires inputs ands memory₀ i₀ memory i = n - i
@@ -27,7 +27,7 @@ abbrev μ-loop2 : tie.MeasureT-loop2
 μ-loop2 tapes len n wires inputs ands memory₀ i₀ memory i = n - i
 
 loop-holds : tie.Need-loop-holds Inv-loop μ-loop Inv-loop2 μ-loop2
-loop-holds c = (omega arith, (refl, tapes-none _ _ _ _ _ _))
+loop-holds c = (omega arith, (refl, (refl, tapes-none _ _ _ _ _ _)))
 
 add-loop : tie.Need-add-loop Inv-loop μ-loop Inv-loop2 μ-loop2
 add-loop c = omega arith
@@ -40,7 +40,7 @@ load-eight-requires c κs =
     let i = c .before .before .loop .i in
     let h : i + 8 ≤ x .n = c .before .loop-test .taken in (
       record { wires = p .0 .wires; some = omega arith; few = omega arith; room = omega arith },
-      (p .1 .0, (p .1 .1 .0, (p .1 .1 .1 .0, omega (arith, add-mul i 8 (x .len), mul-le-mul-right (x .len) h)))),
+      (p .1 .0, (p .1 .1 .0, (p .1 .1 .1 .0, (omega (arith, add-mul i 8 (x .len), mul-le-mul-right (x .len) h), c .before .before .loop .inv .1 .0)))),
     )
 
 add-i : tie.Need-add-i Inv-loop μ-loop Inv-loop2 μ-loop2
@@ -53,7 +53,7 @@ loop-again : tie.Need-loop-again Inv-loop μ-loop Inv-loop2 μ-loop2
 loop-again c =
     let l = c .before .before .before .before .before .loop in
     let r = c .before .before .load-eight in
-    (omega arith, (r .kept .1 .1 .1 .1 .1 .1 .0 ∙ l .inv .1 .0, r .ensures _ (l .inv .1 .1)))
+    (omega arith, (omega arith, (r .kept .1 .1 .1 .1 .1 .1 .0 ∙ l .inv .1 .1 .0, r .ensures _ (l .inv .1 .1 .1))))
 
 loop2-holds : tie.Need-loop2-holds Inv-loop μ-loop Inv-loop2 μ-loop2
 loop2-holds c = (omega arith, (refl, λ w e. e))
@@ -89,12 +89,12 @@ loop2-again c =
     )
 
 same-length : tie.Need-same-length Inv-loop μ-loop Inv-loop2 μ-loop2
-same-length c = c .before .loop2 .inv .1 .0 ∙ c .before .before .before .loop .inv .1 .0
+same-length c = c .before .loop2 .inv .1 .0 ∙ c .before .before .before .loop .inv .1 .1 .0
 
 returns : tie.Need-returns Inv-loop μ-loop Inv-loop2 μ-loop2
 returns c =
     let e : c .before .loop2 .i ≡ c .before .before .before .before .before .before .args .n = omega arith in
-    rw (← e) (c .before .loop2 .inv .1 .1 _ (c .before .before .before .loop .inv .1 .1))
+    rw (← e) (c .before .loop2 .inv .1 .1 _ (c .before .before .before .loop .inv .1 .1 .1))
 
 pub load-tapes-spec : {M : Type 1} → statement M
 load-tapes-spec =

@@ -14,20 +14,20 @@ use Rattle.engine.proofs.memory.unpack_eight.Statement.{statement}
 use Rattle.engine.proofs.memory.unpack_eight.Tie as tie
 
 abbrev Inv-loop : tie.InvT-loop
-Inv-loop s len a from count memory₀ to t₀ memory t =
-    (t ≤ count) × ((length memory ≡ length memory₀) × (memory ≡ fill (λ k. to + 16 * (k / 8) + k % 8) (λ k. bitVal (bitAt s (8 * (a + k % 8 * len) + (from + k / 8)))) (8 * t) memory₀))
+Inv-loop s len from count memory₀ to t₀ memory t =
+    (t ≤ count) × ((length memory ≡ length memory₀) × (memory ≡ fill (λ k. to + 16 * (k / 8) + k % 8) (λ k. bitVal (bitAt s (8 * (k % 8 * len) + (from + k / 8)))) (8 * t) memory₀))
 
 abbrev μ-loop : tie.MeasureT-loop
-μ-loop s len a from count memory₀ to t₀ memory t = count - t
+μ-loop s len from count memory₀ to t₀ memory t = count - t
 
 abbrev Inv-loop2 : tie.InvT-loop2
-Inv-loop2 s len a from count memory₀ to t u₀ memory u =
+Inv-loop2 s len from count memory₀ to t u₀ memory u =
     let pos : ℕ → ℕ = λ k. to + 16 * (k / 8) + k % 8 in
-    let bit : ℕ → ℕ = λ k. bitVal (bitAt s (8 * (a + k % 8 * len) + (from + k / 8))) in
+    let bit : ℕ → ℕ = λ k. bitVal (bitAt s (8 * (k % 8 * len) + (from + k / 8))) in
     (u ≤ 8 * count) × ((length memory ≡ length memory₀) × ((w : List ℕ) → memory₀ ≡ fill pos bit u₀ w → memory ≡ fill pos bit u w))
 
 abbrev μ-loop2 : tie.MeasureT-loop2
-μ-loop2 s len a from count memory₀ to t u₀ memory u = 8 * count - u
+μ-loop2 s len from count memory₀ to t u₀ memory u = 8 * count - u
 
 loop-holds : tie.Need-loop-holds Inv-loop μ-loop Inv-loop2 μ-loop2
 loop-holds c = (omega arith, (refl, fill-none _ _ _))
@@ -37,9 +37,6 @@ add-loop c = omega arith
 
 add-k : tie.Need-add-k Inv-loop μ-loop Inv-loop2 μ-loop2
 add-k c = omega arith
-
-add-windows8 : tie.Need-add-windows8 Inv-loop μ-loop Inv-loop2 μ-loop2
-add-windows8 c = omega arith
 
 windows8-requires : tie.Need-windows8-requires Inv-loop μ-loop Inv-loop2 μ-loop2
 windows8-requires c κs = (omega arith, omega arith)
@@ -64,7 +61,7 @@ loop-again c =
     let l = c .before .before .before .before .before .before .loop in
     let r = c .before .before .spread8 in
     let x = c .before .before .before .before .windows8 in
-    (omega arith, (r .kept .1 .0 ∙ l .inv .1 .0, eight-turn _ _ _ _ _ _ _ _ _ _ (l .inv .1 .1) (x .ensures) (r .ensures)))
+    (omega arith, (r .kept .1 .0 ∙ l .inv .1 .0, eight-turn _ _ _ _ _ _ _ _ _ (l .inv .1 .1) (x .ensures) (r .ensures)))
 
 mul-u : tie.Need-mul-u Inv-loop μ-loop Inv-loop2 μ-loop2
 mul-u c = omega arith
@@ -85,11 +82,6 @@ mul-bit-of c =
 
 add-bit-of : tie.Need-add-bit-of Inv-loop μ-loop Inv-loop2 μ-loop2
 add-bit-of c =
-    let x = c .before .before .before .before .before .before .args in
-    omega (arith, part-within (c .before .loop2 .u) (x .len))
-
-add-bit-of-2 : tie.Need-add-bit-of-2 Inv-loop μ-loop Inv-loop2 μ-loop2
-add-bit-of-2 c =
     let x = c .before .before .before .before .before .before .args in
     omega (arith, part-within (c .before .loop2 .u) (x .len))
 
@@ -119,7 +111,7 @@ loop2-less c = omega arith
 loop2-again : tie.Need-loop2-again Inv-loop μ-loop Inv-loop2 μ-loop2
 loop2-again c =
     let l = c .before .before .loop2 in
-    (omega arith, (simp length-set (l .inv .1 .0), λ w e. rest-turn _ _ _ _ _ _ _ _ _ (l .inv .1 .1 w e) (c .bit-of .ensures)))
+    (omega arith, (simp length-set (l .inv .1 .0), λ w e. rest-turn _ _ _ _ _ _ _ _ (l .inv .1 .1 w e) (c .bit-of .ensures)))
 
 same-length : tie.Need-same-length Inv-loop μ-loop Inv-loop2 μ-loop2
 same-length c = c .before .loop2 .inv .1 .0 ∙ c .before .before .before .loop .inv .1 .0
@@ -141,7 +133,6 @@ unpack-eight-spec =
     loop-holds
     add-loop
     add-k
-    add-windows8
     windows8-requires
     mul-spread8
     add-spread8
@@ -155,7 +146,6 @@ unpack-eight-spec =
     add-k-2
     mul-bit-of
     add-bit-of
-    add-bit-of-2
     bit-of-requires
     mul-memory
     add-memory
