@@ -1,7 +1,7 @@
 // The walk over the gate lines, which tests them in their order.
 ghost use mathlib.Core.Path.{_≡_};
 ghost use lib.ListN.{length};
-ghost use Rattle.circuit.specs.File.{maxWires};
+ghost use Rattle.circuit.specs.Steps.{maxWires};
 ghost use Rattle.bristol.specs.Steps.{Few, LineTold, verdict, refusalOf, gatesAt};
 use crate::Check;
 use crate::GateRead;

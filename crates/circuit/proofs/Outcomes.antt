@@ -8,7 +8,7 @@ use native.Mathlib.Omega.{arith}
 use borrow.Author.Tests.{eq-eqb, ne-eqb, eqb-true, ltb-true, not-true, not-false}
 use lib.Dec.{ltb}
 use lib.ListN.{length, set, length-set, replicate, length-replicate}
-use Rattle.circuit.specs.Steps.{gateOf, Legal, Ended, Ready, outBits, walked, loaded, gateByte, gatesFrom, limits, walks}
+use Rattle.circuit.specs.Steps.{maxWires, gateOf, Legal, Ended, Ready, outBits, walked, loaded, gateByte, gatesFrom, limits, walks}
 use Rattle.bits.specs.Bits.{bitAt, oct, pack, unusedZero}
 use Rattle.bits.proofs.Tabulate.{length-tabulate}
 use Rattle.bits.proofs.Tests.{and-true-left, and-true-right}
@@ -17,7 +17,7 @@ use Rattle.refusal.specs.Refusal.{numberOf}
 use Rattle.refusal.specs.declared.Refusal.{Refusal}
 use Rattle.refusal.specs.declared.Refusal.the-variants.{BufferLength, UnusedBits}
 use Rattle.circuit.specs.Circuit.{ands, evaluate}
-use Rattle.circuit.specs.File.{maxWires, inputsOf, outputsOf, gatesOf, headOf, nextOf, outputWire, withinLimits, rightLength, goodWires, goodOutputs, readsWritten, gatesInOrder, circuitOf}
+use Rattle.circuit.specs.File.{inputsOf, outputsOf, gatesOf, headOf, nextOf, outputWire, withinLimits, rightLength, goodWires, goodOutputs, readsWritten, gatesInOrder, circuitOf}
 use Rattle.circuit.specs.Operations.{readOp, evaluateLegal, evaluateOp, holds}
 use Rattle.circuit.specs.Answers.{readPaper, outcome}
 use Rattle.circuit.specs.declared.Sizes.{Sizes}

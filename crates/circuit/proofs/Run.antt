@@ -21,8 +21,8 @@ use Rattle.bits.proofs.Packing.{length-pack, unused-all}
 use Rattle.bits.proofs.Tabulate.{length-tabulate, getD-tabulate, getD-tabulate-end}
 use Rattle.bits.proofs.Tests.{and-true-left, and-true-right}
 use Rattle.circuit.specs.Circuit as paper
-use Rattle.circuit.specs.File.{maxWires, inputsOf, gatesOf, headOf, nextOf, outputWire, goodChain, goodOutputs, readsWritten, gatesInOrder, circuitOf}
-use Rattle.circuit.specs.Steps.{gateOf, recordOf, placed, readable, gatesFrom, gateByte, bitsOf, loaded, walked, outBits, outByte, within, wired, Legal, walks}
+use Rattle.circuit.specs.File.{inputsOf, gatesOf, headOf, nextOf, outputWire, goodChain, goodOutputs, readsWritten, gatesInOrder, circuitOf}
+use Rattle.circuit.specs.Steps.{maxWires, gateOf, recordOf, placed, readable, gatesFrom, gateByte, bitsOf, loaded, walked, outBits, outByte, within, wired, Legal, walks}
 use Rattle.circuit.specs.declared.Gate.{Gate}
 use Rattle.circuit.specs.declared.Gate.the-variants.{Xor, And, Inv}
 use Rattle.circuit.specs.declared.Record.{Record}

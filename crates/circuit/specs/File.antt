@@ -59,10 +59,6 @@ maxOutputs = 256
 abbrev pub maxGates : ℕ
 maxGates = 4096
 
--- "I is 1..512, O 1..256, G 0..4,096": so a circuit has at most maxInputs + maxGates wires
-abbrev pub maxWires : ℕ
-maxWires = 4608
-
 -- refusal 2: "I, O or G beyond limits"
 unfoldable pub withinLimits : List ℕ → Bool
 withinLimits s = leb 1 (inputsOf s) && leb (inputsOf s) maxInputs && leb 1 (outputsOf s) && leb (outputsOf s) maxOutputs && leb (gatesOf s) maxGates

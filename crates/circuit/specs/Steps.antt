@@ -7,7 +7,7 @@ use Prim.Native.Nat.{ℕ, zero, suc, _+_, _-_, _*_, _<_, _≤_}
 use lib.ListN.{length, getD, set}
 use lib.Bits.{bitXor, bitAnd}
 use Rattle.bits.specs.Bits.{tabulate, odd, bitVal, bitAt, fromBits, oct, unusedZero}
-use Rattle.circuit.specs.File.{kindOf, wireA, wireB, inputsOf, outputWire, nextOf, goodChain, goodWires, goodOutputs, outputsOf, gatesOf, recordAt, headOf, maxInputs, maxOutputs, maxGates, maxWires, withinLimits, rightLength, chainFrom, gateAt, readsWritten, goodRecords}
+use Rattle.circuit.specs.File.{kindOf, wireA, wireB, inputsOf, outputWire, nextOf, goodChain, goodWires, goodOutputs, outputsOf, gatesOf, recordAt, headOf, maxInputs, maxOutputs, maxGates, withinLimits, rightLength, chainFrom, gateAt, readsWritten, goodRecords}
 use Rattle.circuit.specs.declared.Gate.{Gate}
 use Rattle.circuit.specs.declared.Gate.the-variants.{Xor, And, Inv}
 use Rattle.circuit.specs.declared.Record.{Record}
@@ -17,6 +17,10 @@ use Rattle.circuit.specs.declared.Walk.{Walk}
 use Rattle.circuit.specs.declared.Walk.the-variants.{Ends, Fault}
 use lib.Dec.{eqb, leb, ltb}
 use Rattle.circuit.specs.Circuit as paper
+
+-- "I is 1..512, O 1..256, G 0..4,096": so a circuit has at most maxInputs + maxGates wires
+abbrev pub maxWires : ℕ
+maxWires = 4608
 
 -- the gate of slot k; a kind that is neither 1 nor 2 reads as INV
 unfoldable pub gateOf : List ℕ → ℕ → Gate

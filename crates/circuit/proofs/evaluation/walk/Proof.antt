@@ -4,8 +4,7 @@ use mathlib.Core.Bool.{true}
 use mathlib.Core.Path.{_≡_, refl, sym, _∙_}
 use Prim.Native.Nat.{_≤_}
 use native.Mathlib.Omega.{arith}
-use Rattle.circuit.specs.File.{maxWires}
-use Rattle.circuit.specs.Steps.{walks, walked, wired}
+use Rattle.circuit.specs.Steps.{maxWires, walks, walked, wired}
 use Rattle.circuit.proofs.Run.{walked-end, wired-on, walk-turn}
 use Rattle.circuit.proofs.Chain.{Here, here, inside, next-read, gate-read}
 use Rattle.circuit.proofs.evaluation.walk.Statement.{statement}

@@ -6,8 +6,8 @@ use Prim.Native.Nat.{ℕ, _≤_}
 use native.Mathlib.Omega.{arith}
 use borrow.Author.Tests.{not-true, not-false}
 use lib.ListN.{length-replicate, length, length-set}
-use Rattle.circuit.specs.File.{maxWires, readsWritten}
-use Rattle.circuit.specs.Steps.{walks, gatesFrom, seen, inputsFirst}
+use Rattle.circuit.specs.File.{readsWritten}
+use Rattle.circuit.specs.Steps.{maxWires, walks, gatesFrom, seen, inputsFirst}
 use Rattle.circuit.proofs.Chain.{next-read, reads-turn, reads-fail, inside, here, Here, gates-end, seen-none}
 use Rattle.circuit.proofs.tests.good_reads.Statement.{statement}
 use Rattle.circuit.proofs.tests.good_reads.Tie as tie
