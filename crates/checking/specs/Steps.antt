@@ -8,7 +8,8 @@ use Prim.Native.Nat.{ℕ, _≤_}
 use lib.ListN.{length}
 use Rattle.circuit.specs.Circuit.{Circuit}
 use Rattle.circuit.specs.File.{circuitOf}
-use Rattle.seeds.specs.Operations.{maxInstances, maxMessage, maxOutputBytes}
+use Rattle.choice.specs.Challenge.{maxInstances}
+use Rattle.seeds.specs.Operations.{maxMessage, maxOutputBytes}
 use Rattle.instance.specs.Instance.{Asked}
 use Rattle.instance.specs.Opened.{stretchCommitments, stretchOnline, stretchUnused, stretchOutput}
 use Rattle.proof.specs.Protocol.{hstarOf}

@@ -11,6 +11,10 @@ use Rattle.bits.specs.Bytes.{leAt, leBytes}
 use Rattle.keccak.specs.Sponge.{shake256}
 use Rattle.hashing.specs.Inputs.{challengeInput}
 
+-- "M is 2..512"
+abbrev pub maxInstances : ℕ
+maxInstances = 512
+
 -- a flag for each instance, true where it is chosen: the instance at place x among those not yet chosen, ascending, is chosen
 unfoldable pub choose : ℕ → List Bool → List Bool
 choose x [] = []

@@ -9,11 +9,14 @@ ghost use Prim.Native.Nat.{_+_, _*_, _≤_, _<_};
 ghost use lib.ListN.{length, replicate};
 ghost use Rattle.keccak.specs.Steps.{absorbs, squeezes, squeezed};
 ghost use Rattle.hashing.specs.Inputs.{boundOf, challengeInput};
-ghost use Rattle.choice.specs.Challenge.{choose as «choose-at», drawn, chosenFrom, partiesOf, instances, hiddenParties, beside, challengeOf};
+ghost use Rattle.choice.specs.Challenge.{maxInstances, choose as «choose-at», drawn, chosenFrom, partiesOf, instances, hiddenParties, beside, challengeOf};
 ghost use Rattle.choice.specs.Steps.{ready};
 use keccak::SHAKE_FIRST;
 use keccak::SHAKE256_RATE;
 use keccak::sponge::Sponge;
+
+// The limit on the instances of a proof.
+pub const MAX_INSTANCES: usize = 512;
 
 // Takes in what the challenge is bound to: M, τ and n, the digest of the circuit file, y, and the message behind its length.
 fn absorb_bound(
@@ -130,7 +133,7 @@ fn write_chosen(flags: &[bool], n: u8, sponge: Sponge, out: &mut [u8])
 
 // The chosen instances with their hidden parties, from the stream; the flags are lent, none of them set.
 fn choose_with(tau: usize, n: u8, sponge: Sponge, flags: &mut [bool], out: &mut [u8])
-    requires { ⌜ (sponge .fill ≡ 0) × ((length (now flags) ≤ 512) × ((tau ≤ length (now flags)) × ((0 < n) × ((length (now out) ≡ 3 * tau) × (now flags ≡ replicate (length (now flags)) false))))) ⌝ }
+    requires { ⌜ (sponge .fill ≡ 0) × ((length (now flags) ≤ maxInstances) × ((tau ≤ length (now flags)) × ((0 < n) × ((length (now out) ≡ 3 * tau) × (now flags ≡ replicate (length (now flags)) false))))) ⌝ }
     ensures { λ _. ⌜ now (out .exit) ≡ beside (instances (length (now (flags .entry))) tau (squeezes 136 (9 * tau) sponge)) (hiddenParties tau n (squeezes 136 (9 * tau) sponge)) ⌝ }
 {
     let s = draw(tau, sponge, flags);
@@ -148,10 +151,10 @@ pub fn derive(
     message: &[u8],
     out: &mut [u8],
 )
-    requires { ⌜ (m ≤ 512) × ((tau < m) × ((0 < n) × (length (now out) ≡ 3 * tau))) ⌝ }
+    requires { ⌜ (m ≤ maxInstances) × ((tau < m) × ((0 < n) × (length (now out) ≡ 3 * tau))) ⌝ }
     ensures { λ _. ⌜ now (out .exit) ≡ challengeOf m tau n (now (hstar .entry)) (boundOf m tau n (now (digest .entry)) (now (y .entry)) (now (message .entry))) ⌝ }
 {
     let s = stream(m, tau, n, hstar, digest, y, message);
-    let mut flags = [false; 512];
+    let mut flags = [false; MAX_INSTANCES];
     choose_with(tau, n, s, &mut flags[..m], out);
 }

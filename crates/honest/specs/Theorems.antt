@@ -12,7 +12,8 @@ use Rattle.parties.specs.Parties.{isPartyCount}
 use Rattle.circuit.specs.Circuit.{Circuit}
 use Rattle.circuit.specs.File.{readCircuit, legal}
 use Rattle.hashing.specs.Inputs.{challengeInput}
-use Rattle.seeds.specs.Operations.{maxInstances, maxMessage}
+use Rattle.choice.specs.Challenge.{maxInstances}
+use Rattle.seeds.specs.Operations.{maxMessage}
 use Rattle.proof.specs.Protocol.{challenged}
 use Rattle.proof.specs.File.{headerBytes}
 use Rattle.proof.specs.Prove.{proveOp}

@@ -12,7 +12,8 @@ use Rattle.circuit.specs.File.{circuitOf}
 use Rattle.circuit.specs.declared.Sizes.{Sizes}
 use Rattle.mpc.specs.Steps.{WitnessFits}
 use Rattle.party.specs.Derive.{masterOf}
-use Rattle.seeds.specs.Operations.{maxInstances, maxMessage, maxOutputBytes, areCounts}
+use Rattle.choice.specs.Challenge.{maxInstances}
+use Rattle.seeds.specs.Operations.{maxMessage, maxOutputBytes, areCounts}
 use Rattle.instance.specs.Instance.{masterOnline}
 use Rattle.proof.specs.File.{headerBytes, proofBytes, proofRoom}
 use Rattle.proof.specs.Steps.{asksIn, Asking}

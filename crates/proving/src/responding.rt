@@ -5,7 +5,7 @@ ghost use lib.ListN.{length, take};
 ghost use Rattle.circuit.specs.File.{circuitOf};
 ghost use Rattle.mpc.specs.Steps.{WitnessFits};
 ghost use Rattle.party.specs.Derive.{masterOf};
-ghost use Rattle.seeds.specs.Operations.{maxInstances};
+ghost use Rattle.choice.specs.Challenge.{maxInstances};
 ghost use Rattle.instance.specs.Instance.{masterOnline, stretchOf};
 ghost use Rattle.instance.specs.Stretch.{stretchBytes};
 ghost use Rattle.instance.specs.Steps.{Lent};

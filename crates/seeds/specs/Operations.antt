@@ -14,7 +14,7 @@ use Rattle.seeds.specs.declared.Answer.{Answer}
 use Rattle.seeds.specs.declared.Answer.the-variants.{Done, Refused}
 use Rattle.hashing.specs.Inputs.{boundOf}
 use Rattle.tree.specs.Tree.{leavesBelow, siblingsBelow}
-use Rattle.choice.specs.Challenge.{challengeOf}
+use Rattle.choice.specs.Challenge.{maxInstances, challengeOf}
 
 -- a success has no values
 abbrev pub paper : Answer → outcomes.Answer
@@ -47,10 +47,7 @@ openOp j n p master lent =
     (unless (eqb (length lent) (16 * heightOf n)) 6 (lent ∷ [])
     (done (siblingsBelow j (heightOf n) 1 p master ∷ []))))))
 
--- the limits on M, on the bytes of a message, and on the bytes of y, which hold 256 outputs
-abbrev pub maxInstances : ℕ
-maxInstances = 512
-
+-- the limits on the bytes of a message, and on those of y, which hold 256 outputs
 abbrev pub maxMessage : ℕ
 maxMessage = 4096
 

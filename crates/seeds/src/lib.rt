@@ -1,15 +1,14 @@
 // The operations on seeds of document 01: expand a tree, open it, derive a challenge.
 ghost use mathlib.Core.Path.{_≡_};
 ghost use Rattle.seeds.specs.Operations.{outcome, areCounts, statementFits, expandOp, openOp, challengeOp};
+use choice::MAX_INSTANCES;
 use choice::derive;
 use parties::height;
 use refusal::Refusal;
 use tree::leaves_below;
 use tree::siblings_below;
 
-// The limits on the instances of a proof, on the bytes of a message, and on the bytes of y, which hold 256 outputs.
-pub const MAX_INSTANCES: u32 = 512;
-
+// The limits on the bytes of a message, and on those of y, which hold 256 outputs.
 pub const MAX_MESSAGE: usize = 4096;
 
 pub const MAX_OUTPUT_BYTES: usize = 32;
@@ -69,7 +68,7 @@ pub fn open(j: u32, n: u32, p: u32, master: &[u8], siblings: &mut [u8]) -> Answe
 pub fn counts(m: u32, tau: u32) -> bool
     ensures { λ r. ⌜ r ≡ areCounts m tau ⌝ }
 {
-    2 <= m && (m <= MAX_INSTANCES && (1 <= tau && tau < m))
+    2 <= m && ((m as usize) <= MAX_INSTANCES && (1 <= tau && tau < m))
 }
 
 // Whether h* and the digest have 32 bytes, y 1 to 32 and the message no more than a message may have.
