@@ -2,13 +2,14 @@
  * wivulameno: functions over lent buffers, in the static library
  * libwivulameno.a, for x86-64 Linux.
  *
- * Every function but wv_fault_slot, which tells a slot, returns 0 (WV_ACCEPTED)
- * for success, or the number of a refusal. A refused call leaves every lent
- * byte as it was.
+ * Every function of the library but wv_fault_slot, which tells a slot, returns 0
+ * (WV_ACCEPTED) for success, or the number of a refusal. A refused call leaves
+ * every lent byte as it was.
  *
  * A lent buffer is a pointer and its length in bytes. The pointer is valid for
- * that length and is never NULL, not even for length 0. A const buffer is only
- * read; of another buffer, no byte outside of its length is read or written.
+ * that length and is never NULL, not even for length 0. An output without a
+ * length (sizes, written, digest, root) is a buffer of its type's size. A const
+ * buffer is only read; of another buffer, no byte outside of its length is read or written.
  * In one call, a buffer that is written overlaps nothing else that is lent.
  * Buffers that are only read may be the same or overlap.
  */
@@ -69,7 +70,7 @@ enum wv_answer {
     WV_REFUSED_CHAIN_BEYOND = 19,
     /* the chain ends before every slot is visited; see wv_fault_slot */
     WV_REFUSED_CHAIN_SHORT = 20,
-    /* the chain does not end after as many slots as there are; see there too */
+    /* the chain goes on after as many slots as there are; see wv_fault_slot */
     WV_REFUSED_CHAIN_LONG = 21,
     /* a text breaks the rules of Bristol Fashion; see wv_bristol */
     WV_REFUSED_TEXT = 22,
@@ -126,7 +127,8 @@ uint32_t wv_shake256(const uint8_t *data, size_t len,
  * after the last), 16 bits each. INV reads a, and its b is 0. Wires 0 to I - 1
  * are the inputs; slot k writes wire I + k - 1.
  *
- * Every function that is lent a circuit refuses it in this order:
+ * Every function that is lent a circuit, but wv_fault_slot, refuses it in this
+ * order:
  *    1  it is shorter than 8 bytes
  *    2  I, O or G is out of its limits
  *    1  its length is not 8 + 2 O + 8 G
@@ -178,10 +180,11 @@ uint32_t wv_evaluate(const uint8_t *circuit, size_t circuit_len,
  * The text is lines that end in LF, the last one too. Empty lines are skipped.
  * A line is tokens with one space between them and nothing before or behind;
  * CR and tab are bytes like others. A number is 1 to 9 decimal digits without a
- * leading zero.
+ * leading zero; 0 is a number too.
  *
- *   line 1  G, the gates, and the wires, which number I + G
- *   line 2  the number of input groups and the size of each; I is their sum
+ *   line 1  G, the gates, and the number of wires
+ *   line 2  the number of input groups and the size of each; I is their sum, and
+ *           the wires number I + G
  *   line 3  the same of the outputs; O, their sum, is at most I + G
  *   then    G gate lines: 2 1 a b c XOR, 2 1 a b c AND or 1 1 a c INV
  *

@@ -1,4 +1,4 @@
--- Worked cases: what reading some texts gives.
+-- Worked cases (document 02, order 3): what reading some texts gives.
 -- Assumes nothing.
 use mathlib.Core.Path.{_≡_}
 use mathlib.Core.Bool.{true, false}

@@ -36,7 +36,7 @@ firstSlot I (g ∷ gs) = slotOf I g
 unfoldable pub fields : ℕ → ℕ → ℕ → ℕ → List ℕ
 fields a b c d = leBytes 2 a ++ (leBytes 2 b ++ (leBytes 2 c ++ leBytes 2 d))
 
--- "kind u8 (1 XOR, 2 AND, 3 INV), zero u8, wires a and b (u16), next (u16)": kind and zero are the two bytes of the kind
+-- "kind u8 (1 XOR, 2 AND, 3 INV), zero u8, wires a and b (u16), next (u16, ..)": kind and zero are the two bytes of the kind
 unfoldable pub recordBytes : GateLine → ℕ → List ℕ
 recordBytes (xor a b c) next = fields 1 a b next
 recordBytes (and a b c) next = fields 2 a b next

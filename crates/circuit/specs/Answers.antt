@@ -1,4 +1,5 @@
--- The answers of read and evaluate in the paper's terms: a refusal's number, or the values of a success.
+-- The answers of read and evaluate in the paper's terms: a refusal's number, for read with the slot that it tells, or the values of
+-- a success.
 -- Assumes nothing.
 use mathlib.Core.List.{List, [], _∷_}
 use Prim.Native.Nat.{ℕ}

@@ -43,8 +43,8 @@ pub record Partner (c : Circuit) (n p : ℕ) (tapes w w′ r r′ : List ℕ) : 
   pub only : (x : List ℕ) → Row c n p x
       → showing c n p (length (c .gates)) w (withRow c p r tapes) ≡ showing c n p (length (c .gates)) w′ (withRow c p x tapes) → x ≡ r′
 
--- "every legal circuit, any n, any hidden p < n, whatever rows the others hold, any two witnesses of the same output: each row of p
--- under the one has exactly one partner under the other"
+-- Demand 3: every legal circuit, any n, any hidden p < n, whatever rows the others hold, any two witnesses of the same output: each
+-- row of p under the one has exactly one partner under the other
 abbrev pub Hiding : Type 0
 Hiding =
     (s : List ℕ) (c : Circuit) → readCircuit s ≡ legal c → (n p : ℕ) → p < n → (tapes : List ℕ) → Tapes c n tapes

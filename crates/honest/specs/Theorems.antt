@@ -47,7 +47,7 @@ pub record GoodHeader (proof : List ℕ) (header : Header) : Type 0 where
 -- what the published check asks: the rules of document 01 for circuit, y, message and proof file, and the "Verification" of Figure 2 for
 -- the response in the file, with the challenge of the header's h*
 pub record Accepts (s y message proof : List ℕ) : Type 0 where
-  -- "Check: 1 to 5"
+  -- "Check: 1 to 5" (by document 02, order 2: 1, 2, 3, 19, 20, 21 and 5)
   pub circuit : Circuit
   pub read : readCircuit s ≡ legal circuit
   -- "6 for y and message; 7 for y"
@@ -108,12 +108,12 @@ pub record OneStatement (s y message proof s′ y′ message′ proof′ : List 
   pub M : decodeHeader proof .M ≡ decodeHeader proof′ .M
   pub tau : decodeHeader proof .tau ≡ decodeHeader proof′ .tau
   pub n : decodeHeader proof .n ≡ decodeHeader proof′ .n
-  -- "one transcript could be offered under two circuits": now only under two files with one SHA3-256
+  -- "one transcript could be offered under two circuits": only under two files with one SHA3-256
   pub circuits : sha3-256 s ≡ sha3-256 s′
   pub same-y : oct (length (c .outputs)) ≡ oct (length (c′ .outputs)) → y ≡ y′
   pub same-message : oct (length (c .outputs)) ≡ oct (length (c′ .outputs)) → message ≡ message′
 
--- Theorem, the challenge covers the statement: where two accepted files draw their challenges from one input, they have one h*, M, τ and
+-- Theorem, the challenge covers the statement (document 02, order 1): where two accepted files draw their challenges from one input, they have one h*, M, τ and
 -- n, their circuit files have one SHA3-256, and, where the outputs of the circuits have equally many bytes, y and message are the same
 abbrev pub StatementCovered : Type 0
 StatementCovered =

@@ -1,6 +1,6 @@
 -- The operations prepare, run, show and replay: answer and lent memory (document 01, "Each operation's refusals, in order"):
--- "1 to 5, then 8 for n, 9 for p at or above n or a cut above G, 6 a lent length not as stated, 7 a nonzero unused bit, each where the
--- operation has that input." "A refusal returns its number alone, and all lent buffers hold what they held."
+-- "1 to 5 [by document 02, order 2: 1, 2, 3, 19, 20, 21 and 5], then 8 for n, 9 for p at or above n or a cut above G, 6 a lent
+-- length not as stated, 7 a nonzero unused bit, each where the operation has that input." "A refusal returns its number alone, and all lent buffers hold what they held."
 -- Assumes nothing.
 use mathlib.Core.Bool.{Bool, not, _&&_, _||_}
 use mathlib.Core.List.{List, [], _∷_}

@@ -1,4 +1,4 @@
--- Theorem, two openings (document 02, order 6): replays of one run with two different hidden parties give up the witness. Over the
+-- Theorem, two openings (document 02, order 6): replays of the same parts with two different hidden parties give up the witness. Over the
 -- definition of a replay, for any number of parties, and over the operation replay, for the party counts that it takes.
 -- Assumes nothing.
 use mathlib.Core.Path.{_≡_}

@@ -222,7 +222,7 @@ pub fn chi(a: [u64; 25]) -> [u64; 25]
     ]
 }
 
-// RC[ir] of Algorithm 6, as lanes.
+// RC of each round by Algorithm 6, as a lane.
 const ROUND_CONSTANTS: [u64; 24] = [
     0x0000000000000001,
     0x0000000000008082,

@@ -46,6 +46,6 @@ checkLegal s y message proof c =
     (challenged (headerM proof) (headerTau proof) (headerN proof) (headerHstar proof)
     (statementOf (headerM proof) (headerTau proof) (headerN proof) s y message)))))
 
--- "Check: 1 to 5", then these; it is lent no buffer to fill
+-- "Check: 1 to 5" (by document 02, order 2: 1, 2, 3, 19, 20, 21 and 5), then these; it is lent no buffer to fill
 unfoldable pub checkOp : List ℕ → List ℕ → List ℕ → List ℕ → Outcome
 checkOp s y message proof = onLegal (readCircuit s) [] (checkLegal s y message proof)

@@ -43,7 +43,7 @@ proveLegal s witness y message root M tau n buffer c =
     (unless (witnesses c witness y) 10 lent
     (written (proofOf c M tau n witness (statementOf M tau n s y message) (mastersOf root)) buffer))))
 
--- "Prove: 1 to 5", then these
+-- "Prove: 1 to 5" (by document 02, order 2: 1, 2, 3, 19, 20, 21 and 5), then these
 unfoldable pub proveOp : List ℕ → List ℕ → List ℕ → List ℕ → List ℕ → ℕ → ℕ → ℕ → List ℕ → Outcome
 proveOp s witness y message root M tau n buffer =
     onLegal (readCircuit s) (buffer ∷ []) (proveLegal s witness y message root M tau n buffer)

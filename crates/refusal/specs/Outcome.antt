@@ -1,5 +1,5 @@
 -- The outcome of an operation, in one form for all of them. Document 01, "Each operation's refusals, in order":
--- "A refusal returns its number alone, and all lent buffers hold what they held."
+-- "A refusal returns its number alone, and all lent buffers hold what they held." By document 02, order 2, read tells a slot with it.
 -- Assumes nothing.
 use mathlib.Core.Bool.{Bool, cond}
 use mathlib.Core.List.{List, []}

@@ -44,11 +44,11 @@ pub enum Refusal {
     EndsEarly,
     // 21: a link other than 0 after G slots.
     GoesOn,
-    // 22: a text that breaks the rules of its format.
+    // 22: text that breaks these rules, as any line too many.
     Text,
     // 23: a gate kind other than XOR, AND, INV.
     GateKind,
-    // 24: sizes of a text beyond our limits.
+    // 24: sizes beyond our limits.
     TextLimits,
 }
 

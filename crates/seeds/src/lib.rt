@@ -1,4 +1,4 @@
-// The operations on seeds of document 01: expand a tree, open it, derive a challenge.
+// The operations on seeds: expand a tree, open it (document 01), derive a challenge (document 02, order 1).
 ghost use mathlib.Core.Path.{_≡_};
 ghost use Rattle.seeds.specs.Operations.{outcome, areCounts, statementFits, expandOp, openOp, challengeOp};
 use choice::MAX_INSTANCES;

@@ -510,7 +510,7 @@ mod tests {
     }
 
     #[test]
-    fn damages_differ_and_most_are_refused() {
+    fn most_damages_are_refused() {
         let mut random = Random::new(2);
         let text = adder(4);
         let refused = (0..400).filter(|_| {

@@ -90,8 +90,8 @@ fn the_input_of_many_calls() {
     }
 }
 
-/// Bytes that move from y to the message, or counts that are others, make another
-/// challenge; so does each bit of what is lent.
+/// Bytes that move from y to the message make another challenge; so does each bit of
+/// what is lent.
 #[test]
 fn every_part_counts() {
     let mut random = Random::new(112);
@@ -130,6 +130,7 @@ fn counts_change_the_stream() {
         [[256, 1, 4], [512, 1, 4]],
         [[512, 1, 4], [512, 1, 8]],
         [[512, 1, 4], [512, 1, 2]],
+        [[512, 1, 4], [512, 2, 4]],
     ] {
         let mut alike = 0;
         for _ in 0..64 {
@@ -137,11 +138,13 @@ fn counts_change_the_stream() {
             let [first, second] = [one, other].map(|counts| {
                 let call = Challenge {
                     counts,
+                    out_len: 3 * counts[1] as usize,
                     ..call.clone()
                 };
                 compare_challenge(&mut random, &call).expect("no refusal")
             });
-            // With one stream the numbers would be equal modulo 256.
+            // With one stream the numbers would be equal modulo 256; for two chosen, in half
+            // of the calls.
             alike += usize::from(first[0] == second[0]);
         }
         assert!(alike < 16, "{one:?} and {other:?}: {alike} of 64");

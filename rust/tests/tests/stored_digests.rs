@@ -1,6 +1,5 @@
-//! Hashes, seed trees and tapes give the bytes that they gave when the digests
-//! here were stored, before order 4 of document 02: no text of the permutation may
-//! change them. A digest is SHA3-256, by the second implementation, of all bytes
+//! Hashes and seed trees, and SHAKE128 of the inputs of tapes, give the bytes whose
+//! digests are stored here: no text of the permutation may change them. A digest is SHA3-256, by the second implementation, of all bytes
 //! of a kind.
 
 use reference::fips202;
@@ -91,7 +90,7 @@ fn opened_trees() {
     assert_eq!(digest(&all), SIBLINGS);
 }
 
-/// Tape rows of the most inputs and AND gates: SHAKE128(4, j, i, seed).
+/// SHAKE128 of the inputs of tape rows, 4, j, i, seed, to the longest row.
 #[test]
 fn tapes() {
     let mut all = vec![];

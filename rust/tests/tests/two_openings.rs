@@ -68,11 +68,16 @@ impl Parts {
         self.replay(setting, p, y) == Ok(vec![self.rows.clone()])
     }
 
-    /// Are the masked inputs XOR the input masks a witness of y?
-    fn give_a_witness(&self, setting: &Setting, y: &[u8]) -> bool {
+    /// The masked inputs XOR the input masks.
+    fn bytes(&self, setting: &Setting) -> Vec<u8> {
         let tapes = setting.tapes.chunks(setting.sizes.tape_row_len());
         let tapes: Vec<Vec<u8>> = tapes.map(<[u8]>::to_vec).collect();
-        let bytes = unmasked(setting.sizes, &self.masked_inputs, &tapes);
+        unmasked(setting.sizes, &self.masked_inputs, &tapes)
+    }
+
+    /// Are these bytes a witness of y?
+    fn give_a_witness(&self, setting: &Setting, y: &[u8]) -> bool {
+        let bytes = self.bytes(setting);
         let mut output = vec![0; y.len()];
         let answer = wivulameno::circuit::evaluate(&setting.circuit, &bytes, &mut output);
         answer.expect("the bytes are a witness in form");
@@ -93,8 +98,8 @@ fn two_parties(random: &mut Random, n: u32) -> [u32; 2] {
     [p, q]
 }
 
-/// Of every run with right corrections all replays succeed, and the bytes are its
-/// witness.
+/// Of every run with right corrections the replays of two parties succeed, and the
+/// bytes are its witness.
 #[test]
 fn openings_of_runs() {
     let mut random = Random::new(61);
@@ -105,6 +110,7 @@ fn openings_of_runs() {
             assert!(parts.replays(&setting, p, &y), "p {p}, {setting:02x?}");
         }
         assert!(parts.give_a_witness(&setting, &y), "{setting:02x?}");
+        assert_eq!(parts.bytes(&setting), setting.witness);
     }
 }
 
@@ -162,7 +168,7 @@ fn wrong_corrections_can_break_it() {
     assert!(opened > 500 && broken > 50, "{broken} of {opened}");
 }
 
-/// One opening gives no witness, and neither does a second one whose replay has the
+/// One opening need not give a witness, and neither does a second one whose replay has the
 /// output but other rows: a row of p is forged, and the others follow it.
 #[test]
 fn both_replays_must_give_the_rows() {

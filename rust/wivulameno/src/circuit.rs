@@ -1,7 +1,8 @@
 //! Circuit files. `include/wivulameno.h` has their layout, and that of the texts
 //! that can be converted to one.
 //!
-//! Every function that is lent a circuit refuses it with 1, 2, 3, 19, 20, 21 or 5.
+//! Every function that is lent a circuit, but [`fault_slot`], refuses it with 1, 2, 3,
+//! 19, 20, 21 or 5.
 
 use crate::limits::{MAX_CIRCUIT, MAX_GATES, MAX_INPUTS, MAX_OUTPUTS};
 use crate::proof::oct;

@@ -120,7 +120,8 @@ pub fn prove(
 /// message, 11 for what does not begin as a proof, and 12, 7, 10 or 13 for a proof
 /// that does not hold.
 /// With another circuit file, y, message, M, tau or n than the prover's, the
-/// challenge is another one, and the first of these four that is met is given.
+/// challenge is drawn anew, and a proof that does not answer it is refused with the
+/// first of these four that is met.
 pub fn check(statement: Statement, proof: &[u8]) -> Result<(), Refusal> {
     let Statement {
         circuit,

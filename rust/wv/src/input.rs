@@ -10,8 +10,8 @@ use std::io::{self, Read};
 use std::path::Path;
 use wivulameno::limits::{MAX_CIRCUIT, MAX_PROOF};
 
-/// More than the longest proof, which is the longest input, and less than fills
-/// a memory.
+/// More than the longest proof and than a text of the most gates, and less than
+/// fills a memory.
 const LIMIT: u64 = 1 << 24;
 const _: () = assert!(MAX_PROOF < LIMIT as usize && MAX_CIRCUIT < MAX_PROOF);
 
@@ -38,7 +38,7 @@ impl Input {
         let mut bytes = vec![];
         let read = from.take(LIMIT + 1).read_to_end(&mut bytes);
         if read.map_err(at(&name))? as u64 > LIMIT {
-            let text = format!("{name}: more than {LIMIT} bytes, which is no input's length");
+            let text = format!("{name}: more than {LIMIT} bytes, which is too long for an input");
             return Err(Failure::File(text));
         }
         Ok(Input {

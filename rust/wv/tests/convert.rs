@@ -62,6 +62,11 @@ fn refused_texts() {
             "and.txt: it ends before its last gate\n",
         ),
         (
+            "1 3\n2 1 1\n1 1\n2 1 0 1 2 AND \n",
+            23,
+            "and.txt: line 4; `--tidy` mends the ends of lines\n",
+        ),
+        (
             "1 3\n2 1 1\n1 1\n\n\n2 1 0 1 2 EQ\n",
             23,
             "and.txt: line 6\n",

@@ -33,7 +33,8 @@ Refused, whichever comes first in the order of the lines:
   23  a gate of another kind
   24  more than 4096 gates, 512 inputs or 256 outputs, or no input or output
 
-The number of the line is told, but for a 22 in the first three lines.
+The number of the line is told, but for a 22 in the first three lines or at the
+text's end.
 ",
     example: "  wv convert and.txt --out and.circuit\n",
     places: 1,
@@ -68,7 +69,8 @@ fn converted(input: &Input, text: &[u8]) -> Result<Vec<u8>, Failure> {
     let failure = |refusal| {
         let name = input.name_or("the typed text");
         let place = Place::of(text, refusal).told();
-        let advice = match refusal == Refusal::Text && Tidy::of(text).text != text {
+        let of_lines = matches!(refusal, Refusal::Text | Refusal::GateKind);
+        let advice = match of_lines && Tidy::of(text).text != text {
             true => "; `--tidy` mends the ends of lines",
             false => "",
         };
