@@ -1,0 +1,3 @@
+pub mod Cover
+pub mod Masters
+pub mod Steps
