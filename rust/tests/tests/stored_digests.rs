@@ -1,8 +1,11 @@
-//! Hashes and seed trees, and SHAKE128 of the inputs of tapes, give the bytes whose
-//! digests are stored here: no text of the permutation may change them. A digest is SHA3-256, by the second implementation, of all bytes
-//! of a kind.
+//! Hashes and seed trees, SHAKE128 of the inputs of tapes, and whole proofs give
+//! the bytes whose digests are stored here: no text of the permutation may change
+//! them. A digest is SHA3-256, by the second implementation, of all bytes of a kind,
+//! or of one proof.
 
 use reference::fips202;
+use tests::circuits::{File, Gate, AND, INV, XOR};
+use wivulameno::proof::{prove, Counts, Statement};
 use wivulameno::seeds;
 
 const LENGTHS: [usize; 8] = [0, 1, 135, 136, 168, 1000, 65_536, 100_003];
@@ -104,4 +107,117 @@ fn tapes() {
         }
     }
     assert_eq!(digest(&all), TAPES);
+}
+
+/// Proofs by the library of commit 3c53f4c, the last one whose permutation was not
+/// the five steps: the circuit with its witness and output, M, tau, n, and the digest
+/// of the whole proof. A request that moves the bytes of proofs replaces the digests
+/// and the commit.
+const PROOFS: [(Circuit, [u32; 3], &str); 8] = [
+    (
+        adder,
+        [2, 1, 2],
+        "5d1f0965e7dfdb0f1312e3282e5016666c1794bdc81a7aec231219818078c57c",
+    ),
+    (
+        adder,
+        [40, 13, 4],
+        "f295bfd0b6002ca900c3c319759ebbe321710a6388ce229a053e4aa1656b9f76",
+    ),
+    (
+        adder,
+        [145, 66, 8],
+        "8ad83a615836561b816310087525ccd23928e6ec08257916cc0611c34b827ff1",
+    ),
+    (
+        adder,
+        [343, 27, 16],
+        "d4fb528b34f0b9de5e5867826421f24ecb470b74c211ad33dbb87b8691b863e0",
+    ),
+    (
+        ladder,
+        [64, 36, 2],
+        "1ac8c9b9d83fd78e2298e86f9a55538be4c0a4d1fca51b9f212c8b6fcbbbf93c",
+    ),
+    (
+        ladder,
+        [17, 5, 4],
+        "a830acbb5d6f42aa9978ce8d7457fd56a68862325d767a8cdcbbc190110fb01d",
+    ),
+    (
+        ladder,
+        [252, 44, 8],
+        "41d74bef8f8df1b1e7af56a6daf866180c539facf8ea5832bff813d94985feee",
+    ),
+    (
+        ladder,
+        [47, 17, 16],
+        "e6673c72bdbabb693182ce8690e3c079fbc9f24ab8aeb968f532b02d4144e2a6",
+    ),
+];
+
+const ROOT: [u8; 16] = *b"sixteen bytes...";
+const MESSAGE: &[u8] = b"order 17 of depot 4, 2026-03-01.";
+
+/// A circuit file, a witness, and the output for it.
+type Circuit = fn() -> (Vec<u8>, Vec<u8>, Vec<u8>);
+
+/// The file of gates, each a kind and two wires, in the order of their slots.
+fn file(inputs: u16, outputs: Vec<u16>, gates: Vec<(u8, u16, u16)>) -> Vec<u8> {
+    let gate = |&(kind, a, b): &_| Gate {
+        kind,
+        zero: 0,
+        a,
+        b,
+        next: 0,
+    };
+    let mut file = File {
+        counts: [inputs, outputs.len() as u16, gates.len() as u16],
+        head: 0,
+        gates: gates.iter().map(gate).collect(),
+        outputs,
+    };
+    file.link(&(1..=gates.len()).collect::<Vec<_>>());
+    file.bytes()
+}
+
+/// The sum and the carry of three bits, which are 1, 0 and 1, and the sum inverted.
+fn adder() -> (Vec<u8>, Vec<u8>, Vec<u8>) {
+    let gates = vec![
+        (XOR, 0, 1),
+        (AND, 0, 1),
+        (XOR, 3, 2),
+        (AND, 3, 2),
+        (XOR, 4, 6),
+        (INV, 5, 0),
+    ];
+    (file(3, vec![5, 7, 8], gates), vec![0b101], vec![0b110])
+}
+
+/// 600 gates above 64 inputs, the k-th of wires k and k + 37, XOR but for every third,
+/// which is AND. The outputs are the last 16 wires.
+fn ladder() -> (Vec<u8>, Vec<u8>, Vec<u8>) {
+    let gate = |k: u16| (if k % 3 == 2 { AND } else { XOR }, k, k + 37);
+    let circuit = file(64, (648..664).collect(), (0..600).map(gate).collect());
+    (
+        circuit,
+        (0..8).map(|k| 255 - 16 * k).collect(),
+        vec![18, 68],
+    )
+}
+
+#[test]
+fn proofs() {
+    for (circuit, [m, tau, n], stored) in PROOFS {
+        let (circuit, witness, y) = circuit();
+        let counts = Counts { m, tau, n };
+        let statement = Statement {
+            circuit: &circuit,
+            y: &y,
+            message: MESSAGE,
+        };
+        let mut proof = vec![0; 1 << 16];
+        let len = prove(statement, &witness, &ROOT, counts, &mut proof).expect("a proof");
+        assert_eq!(digest(&proof[..len]), stored, "{counts:?}");
+    }
 }
