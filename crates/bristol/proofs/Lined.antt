@@ -11,16 +11,17 @@ use native.Mathlib.Omega.{arith}
 use lib.Dec.{eqb, leb, ltb}
 use lib.ListN.{length, getD, take, drop, set, length-set}
 use lib.Seq.{getD-set-same, getD-set-other}
-use borrow.Author.Tests.{eq-eqb, ne-eqb, lt-ltb, le-ltb, le-leb, lt-leb, ltb-true}
+use borrow.Author.Tests.{eq-eqb, ne-eqb, lt-ltb, le-ltb, le-leb, lt-leb, ltb-true, eqb-true}
 use Rattle.bits.proofs.Tests.{and-true-left, and-true-right}
 use Rattle.bristol_text.specs.Text.{Line, lines, tokens, allButLast, valueOf, allNumbers}
-use Rattle.bristol_text.specs.Steps.{LineAt, valuesBefore, isFields, FieldsTold}
+use Rattle.bristol_text.specs.Steps.{LineAt, valuesBefore, areFields, FieldsTold}
 use Rattle.bristol_text.specs.declared.Cursor.{Cursor}
 use Rattle.refusal.specs.declared.Refusal.{Refusal}
 use Rattle.refusal.specs.Refusal.{numberOf}
 use Rattle.bristol_text.proofs.Lines.{no-line, line-here, line-after, lines-end}
 use Rattle.bristol.specs.Rules.{GateLine, xor, and, inv, Reading, refused, isKnown, kindOn, begins, gateNamed, gateOn, writes, written, readable, writable, fitsBelow, gateElse22, gateLines}
-use Rattle.bristol.specs.Steps.{lineOf, gateOf, readAs, gateRead, firstGate, WiresTold, GateAt, flagged, mayRead, mayWrite, fitsFlags, lineRefusal, Writing, LineTold, Few, gatesAt, refusalOf}
+use Rattle.bristol.specs.Steps.{lineOf, gateOf, readAs, gateRead, gateFrom, startsWith, kindFinding, formFinding, firstOf, firstGate, GateAt, flagged, writtenOn, mayRead, mayWrite, fitsFlags, lineRefusal, Writing, LineTold, Few, gatesAt, refusalOf}
+use Rattle.bristol.specs.declared.Kind.{Kind}
 use Rattle.bristol.specs.declared.Kind.the-variants.{Xor, And, Inv, Other}
 use Rattle.bristol.specs.declared.Gate.{Gate}
 use Rattle.bristol.specs.declared.Gate.the-variants as gate
@@ -29,7 +30,8 @@ use Rattle.bristol.specs.declared.GateRead.the-variants.{Read, Unknown, 
 use Rattle.bristol.specs.declared.LineCheck.{LineCheck}
 use Rattle.bristol.specs.declared.LineCheck.the-variants as lineCheck
 use Rattle.bristol.specs.declared.Sizes.{Sizes}
-use Rattle.bristol.specs.declared.Wires.{Wires}
+use Rattle.bristol.specs.declared.Finding.{Finding}
+use Rattle.bristol.specs.declared.Finding.the-variants as finding
 use Rattle.bristol.proofs.Chained.{written-more}
 use Rattle.bristol.proofs.Heads.{length-values}
 
@@ -47,103 +49,84 @@ module _ (I G w : ℕ) (flags : List ℕ) where
   unfolding mayWrite
   write-none h l = rw (le-leb I w h, le-ltb w (I + G) l)
 
--- the tests on the numbers before the kind
-tests-assoc : (e a b c d : Bool) → e && (a && b) && c && d ≡ e && a && (b && c && d)
-tests-assoc false a b c d = refl
-tests-assoc true false b c d = refl
-tests-assoc true true b c d = refl
-
-tests-same : (e g : Bool) (x y u v i : ℕ) → (g ≡ true → x ≡ u) → (g ≡ true → y ≡ v)
-    → e && g && eqb x i && eqb y 1 ≡ e && g && eqb u i && eqb v 1
-tests-same false g x y u v i p q = refl
-tests-same true false x y u v i p q = refl
-tests-same true true x y u v i p q = rw (p refl, q refl)
-
-module _ (l : List ℕ) (ended : Bool) (i : ℕ) (some-inputs : 1 ≤ i) (good : Bool) (ns : List ℕ) (f : FieldsTold l (i + 3) good ns) where
-  wires-tested : ended && good && eqb (getD ns 0 0) i && eqb (getD ns 1 0) 1 ≡ ended && allNumbers (allButLast (tokens l)) && begins i (i + 3) (valuesBefore l)
-  unfolding begins valuesBefore isFields
-  wires-tested =
-      let so : length (map valueOf (allButLast (tokens l))) ≡ length (allButLast (tokens l)) = length-values (allButLast (tokens l)) in
-      tests-same ended good (getD ns 0 0) (getD ns 1 0) (getD (valuesBefore l) 0 0) (getD (valuesBefore l) 1 0) i
-      (λ e. sym (f .values e 0 (omega arith))) (λ e. sym (f .values e 1 (omega arith)))
-      ∙ ap (λ (g : Bool). ended && g && eqb (getD (valuesBefore l) 0 0) i && eqb (getD (valuesBefore l) 1 0) 1)
-      (f .tested ∙ ap (λ (k : ℕ). allNumbers (allButLast (tokens l)) && eqb k (i + 3)) (sym so))
-      ∙ tests-assoc ended (allNumbers (allButLast (tokens l))) (eqb (length (valuesBefore l)) (i + 3)) (eqb (getD (valuesBefore l) 0 0) i) (eqb (getD (valuesBefore l) 1 0) 1)
-
-  is-good : ended && good && eqb (getD ns 0 0) i && eqb (getD ns 1 0) 1 ≡ true → good ≡ true
-  is-good e = and-true-right ended good (and-true-left (ended && good) _ (and-true-left (ended && good && eqb (getD ns 0 0) i) _ e))
-
-  pub wires-told : (w : Wires) → w .good ≡ ended && good && eqb (getD ns 0 0) i && eqb (getD ns 1 0) 1
-      → w .first ≡ getD ns 2 0 → w .second ≡ getD ns 3 0 → w .last ≡ getD ns (i + 2) 0 → WiresTold (record { bytes = l; ended = ended }) i w
-  wires-told w e a b c =
-      record {
-        tested = e ∙ wires-tested;
-        first = λ g. a ∙ sym (f .values (is-good (sym e ∙ g)) 2 (omega arith));
-        second = λ g. b ∙ sym (f .values (is-good (sym e ∙ g)) 3 (omega arith));
-        last = λ g. c ∙ sym (f .values (is-good (sym e ∙ g)) (i + 2) (omega arith));
-      }
-
--- a gate line by its tests
-read-when : (a b : Bool) (g : GateLine) → a && b ≡ true → readAs (cond a (cond b (some g) none) none) ≡ Read (gateOf g)
+-- a gate by the numbers before its kind
+read-cond : (b : Bool) (g : GateLine) → cond b (Read (gateOf g)) Malformed ≡ readAs (cond b (some g) none)
 unfolding readAs
-read-when true true g e = refl
-read-when true false g e =
-    let z : false ≡ true = e in
-    cc
-read-when false b g e =
-    let z : false ≡ true = e in
-    cc
+read-cond true g = refl
+read-cond false g = refl
 
-unread-when : (a b : Bool) (g : GateLine) → a && b ≡ false → readAs (cond a (cond b (some g) none) none) ≡ Malformed
-unfolding readAs
-unread-when true true g e =
-    let z : true ≡ false = e in
-    cc
-unread-when true false g e = refl
-unread-when false b g e = refl
-
-pub gate-unknown : (l : Line) → kindOn (l .bytes) ≡ Other → Unknown ≡ gateRead l
-unfolding gateRead isKnown
-gate-unknown l e = rw e
-
-module _ (l : Line) (w : Wires) where
+module _ (l : List ℕ) (count : ℕ) (ns : List ℕ) (f : FieldsTold l true count ns) where
   abbrev vs : List ℕ
-  vs = valuesBefore (l .bytes)
+  vs = valuesBefore l
 
-  abbrev formed : Bool
-  formed = l .ended && allNumbers (allButLast (tokens (l .bytes)))
+  same-value : (i j : ℕ) → count ≡ i + 3 → i ≤ 2 → j < i + 3 → getD ns j 0 ≡ getD vs j 0
+  same-value i j e h k = sym (f .values refl j (omega arith) (omega arith))
 
-  module _ (two : WiresTold l 2 w) where
-    pub xor-good : kindOn (l .bytes) ≡ Xor → w .good ≡ true → Read (gate.Xor (w .first) (w .second) (w .last)) ≡ gateRead l
-    unfolding gateRead isKnown gateOn gateNamed valuesBefore
-    xor-good e g =
-        rw (e, two .first g, two .second g, two .last g)
-        (sym (read-when formed (begins 2 5 vs) (xor (getD vs 2 0) (getD vs 3 0) (getD vs 4 0)) (sym (two .tested) ∙ g)))
+  -- the gate with i inputs
+  module _ (i : ℕ) (low : 1 ≤ i) (high : i ≤ 2) (g : ℕ → ℕ → ℕ → GateLine) where
+    by-count : (b : Bool) → eqb count (i + 3) ≡ b
+        → cond (startsWith i count (getD ns 0 0) (getD ns 1 0)) (Read (gateOf (g (getD ns 2 0) (getD ns 3 0) (getD ns (i + 2) 0)))) Malformed
+        ≡ readAs (cond (begins i (i + 3) vs) (some (g (getD vs 2 0) (getD vs 3 0) (getD vs (i + 2) 0))) none)
+    unfolding startsWith begins readAs
+    by-count false e = rw (sym (f .counted refl), e)
+    by-count true e =
+        let n : count ≡ i + 3 = eqb-true count (i + 3) e in
+        rw (sym (f .counted refl), same-value i 0 n high (omega arith), same-value i 1 n high (omega arith), same-value i 2 n high (omega arith), same-value i 3 n high (omega arith), same-value i (i + 2) n high (omega arith))
+        (read-cond (eqb count (i + 3) && eqb (getD vs 0 0) i && eqb (getD vs 1 0) 1) (g (getD vs 2 0) (getD vs 3 0) (getD vs (i + 2) 0)))
 
-    pub xor-bad : kindOn (l .bytes) ≡ Xor → w .good ≡ false → Malformed ≡ gateRead l
-    unfolding gateRead isKnown gateOn gateNamed valuesBefore
-    xor-bad e g = rw e (sym (unread-when formed (begins 2 5 vs) (xor (getD vs 2 0) (getD vs 3 0) (getD vs 4 0)) (sym (two .tested) ∙ g)))
+  pub gate-same : (k : Kind) → isKnown k ≡ true → gateFrom k count ns ≡ readAs (gateNamed k vs)
+  unfolding gateFrom gateNamed isKnown
+  gate-same Xor e = by-count 2 (omega arith) (omega arith) xor (eqb count 5) refl
+  gate-same And e = by-count 2 (omega arith) (omega arith) and (eqb count 5) refl
+  gate-same Inv e = by-count 1 (omega arith) (omega arith) (λ a b c. inv a c) (eqb count 4) refl
+  gate-same Other e = cc
 
-    pub and-good : kindOn (l .bytes) ≡ And → w .good ≡ true → Read (gate.And (w .first) (w .second) (w .last)) ≡ gateRead l
-    unfolding gateRead isKnown gateOn gateNamed valuesBefore
-    and-good e g =
-        rw (e, two .first g, two .second g, two .last g)
-        (sym (read-when formed (begins 2 5 vs) (and (getD vs 2 0) (getD vs 3 0) (getD vs 4 0)) (sym (two .tested) ∙ g)))
+-- a gate line by what is found first
+found-unknown : (b w : Bool) (x : GateRead) → firstOf (cond b finding.Good finding.Unknown) (formFinding w) ≡ finding.Unknown → Unknown ≡ cond (not b) Unknown x
+unfolding firstOf formFinding
+found-unknown true true x e = let z : _≡_ {A = ℕ} 0 1 = cc in absurd (omega arith)
+found-unknown true false x e = let z : _≡_ {A = ℕ} 0 1 = cc in absurd (omega arith)
+found-unknown false w x e = refl
 
-    pub and-bad : kindOn (l .bytes) ≡ And → w .good ≡ false → Malformed ≡ gateRead l
-    unfolding gateRead isKnown gateOn gateNamed valuesBefore
-    and-bad e g = rw e (sym (unread-when formed (begins 2 5 vs) (and (getD vs 2 0) (getD vs 3 0) (getD vs 4 0)) (sym (two .tested) ∙ g)))
+found-malformed : (b w : Bool) (o : Option GateLine) → firstOf (cond b finding.Good finding.Unknown) (formFinding w) ≡ finding.Malformed → Malformed ≡ cond (not b) Unknown (readAs (cond w o none))
+unfolding firstOf formFinding readAs
+found-malformed true true o e = let z : _≡_ {A = ℕ} 0 1 = cc in absurd (omega arith)
+found-malformed true false o e = refl
+found-malformed false w o e = let z : _≡_ {A = ℕ} 0 1 = cc in absurd (omega arith)
 
-  module _ (one : WiresTold l 1 w) where
-    pub inv-good : kindOn (l .bytes) ≡ Inv → w .good ≡ true → Read (gate.Inv (w .first) (w .last)) ≡ gateRead l
-    unfolding gateRead isKnown gateOn gateNamed valuesBefore
-    inv-good e g =
-        rw (e, one .first g, one .last g)
-        (sym (read-when formed (begins 1 4 vs) (inv (getD vs 2 0) (getD vs 3 0)) (sym (one .tested) ∙ g)))
+found-good : (b w : Bool) → firstOf (cond b finding.Good finding.Unknown) (formFinding w) ≡ finding.Good → (b ≡ true) × (w ≡ true)
+unfolding firstOf formFinding
+found-good true true e = (refl, refl)
+found-good true false e = let z : _≡_ {A = ℕ} 0 1 = cc in absurd (omega arith)
+found-good false w e = let z : _≡_ {A = ℕ} 0 1 = cc in absurd (omega arith)
 
-    pub inv-bad : kindOn (l .bytes) ≡ Inv → w .good ≡ false → Malformed ≡ gateRead l
-    unfolding gateRead isKnown gateOn gateNamed valuesBefore
-    inv-bad e g = rw e (sym (unread-when formed (begins 1 4 vs) (inv (getD vs 2 0) (getD vs 3 0)) (sym (one .tested) ∙ g)))
+read-whole : (b w : Bool) (o : Option GateLine) → b ≡ true → w ≡ true → readAs o ≡ cond (not b) Unknown (readAs (cond w o none))
+read-whole b w o e f = rw (e, f)
+
+module _ (l : Line) (good : Bool) (count : ℕ) (ns : List ℕ) (f : FieldsTold (l .bytes) good count ns) (k : Kind) (named : k ≡ kindOn (l .bytes)) (found : Finding) (first : found ≡ firstOf (kindFinding k) (formFinding (l .ended && good))) where
+  abbrev whole : Bool
+  whole = l .ended && areFields (l .bytes)
+
+  first-is : (x : Finding) → found ≡ x → firstOf (cond (isKnown (kindOn (l .bytes))) finding.Good finding.Unknown) (formFinding whole) ≡ x
+  unfolding kindFinding
+  first-is x e = rw (sym named, sym (f .tested)) (sym first ∙ e)
+
+  pub gate-unknown : found ≡ finding.Unknown → Unknown ≡ gateRead l
+  unfolding gateRead
+  gate-unknown e = found-unknown (isKnown (kindOn (l .bytes))) whole _ (first-is finding.Unknown e)
+
+  pub gate-malformed : found ≡ finding.Malformed → Malformed ≡ gateRead l
+  unfolding gateRead gateOn areFields
+  gate-malformed e = found-malformed (isKnown (kindOn (l .bytes))) whole _ (first-is finding.Malformed e)
+
+  pub gate-good : found ≡ finding.Good → gateFrom k count ns ≡ gateRead l
+  unfolding gateRead gateOn areFields valuesBefore
+  gate-good e =
+      let both = found-good (isKnown (kindOn (l .bytes))) whole (first-is finding.Good e) in
+      let all : FieldsTold (l .bytes) true count ns =
+      subst (λ (b : Bool). FieldsTold (l .bytes) b count ns) (f .tested ∙ and-true-right (l .ended) (areFields (l .bytes)) (both .1)) f in
+      gate-same (l .bytes) count ns all k (ap isKnown named ∙ both .0) ∙ ap (λ (k : Kind). readAs (gateNamed k (valuesBefore (l .bytes)))) named
+      ∙ read-whole (isKnown (kindOn (l .bytes))) whole _ (both .0) (both .1)
 
 -- the next line as a gate line
 module _ (s : List ℕ) (at first last : ℕ) (k : LineAt s at first last) where
@@ -188,19 +171,41 @@ refused-fits true k r e =
 refused-fits false k r e = ap refused (cc)
 
 module _ (I O G : ℕ) (flags : List ℕ) (above : List GateLine) (marks : (w : ℕ) → flagged flags w ≡ written above w) where
-  may-read : (w : ℕ) → mayRead I flags w ≡ readable I G above w
-  unfolding mayRead readable
-  may-read w = rw (marks w)
-
   may-write : (w : ℕ) → mayWrite I G flags w ≡ writable I G above w
   unfolding mayWrite writable
   may-write w = rw (marks w)
 
+  -- where the wire that a line writes is not written above, the line reads as if it wrote none
+  may-read : (c w : ℕ) → flagged flags c ≡ false → mayRead I flags c w ≡ readable I G above w
+  unfolding mayRead writtenOn readable flagged
+  may-read c w h =
+      ⊎-elim
+      (λ e. rw (eq-eqb w c e) (ap (λ (b : Bool). ltb w I || b) (sym (ap (written above) e ∙ sym (marks c) ∙ h))))
+      (λ n. rw (ne-eqb w c n) (ap (λ (b : Bool). ltb w I || b) (marks w)))
+      (eq-or-ne w c)
+
+  and-false : (b : Bool) → b && false ≡ false
+  and-false true = refl
+  and-false false = refl
+
+  never : (c : ℕ) → flagged flags c ≡ true → mayWrite I G flags c ≡ false
+  unfolding mayWrite
+  never c e = rw e (and-false (leb I c && ltb c (I + G)))
+
+  by-flag : (c : ℕ) (p q : Bool) → (flagged flags c ≡ false → p ≡ q) → p && mayWrite I G flags c ≡ q && writable I G above c
+  by-flag c p q f = cases (flagged flags c) refl
+    where
+      cases : (b : Bool) → flagged flags c ≡ b → p && mayWrite I G flags c ≡ q && writable I G above c
+      cases true e = rw (sym (may-write c), never c e) (and-false p ∙ sym (and-false q))
+      cases false e = rw (f e, may-write c)
+
   fits-same : (g : GateLine) → fitsFlags I G flags g ≡ fitsBelow I G above g
   unfolding fitsFlags fitsBelow
-  fits-same (xor a b c) = rw (may-read a, may-read b, may-write c)
-  fits-same (and a b c) = rw (may-read a, may-read b, may-write c)
-  fits-same (inv a c) = rw (may-read a, may-write c)
+  fits-same (xor a b c) =
+      by-flag c (mayRead I flags c a && mayRead I flags c b) (readable I G above a && readable I G above b) (λ h. rw (may-read c a h, may-read c b h))
+  fits-same (and a b c) =
+      by-flag c (mayRead I flags c a && mayRead I flags c b) (readable I G above a && readable I G above b) (λ h. rw (may-read c a h, may-read c b h))
+  fits-same (inv a c) = by-flag c _ _ (may-read c a)
 
   refusal-step : (b : Bool) (o : Option GateLine) (f : GateLine → Reading) (k : ℕ) → lineRefusal I G flags (cond (not b) Unknown (readAs o)) ≡ some k
       → cond (not b) (refused 23) (gateElse22 o (λ g. cond (not (fitsBelow I G above g)) (refused 22) (f g))) ≡ refused k
@@ -256,9 +261,9 @@ write-low I G flags w e = ltb-true w (I + G) (and-true-right (leb I w) (ltb w (I
 
 pub fits-low : (I G : ℕ) (flags : List ℕ) (g : GateLine) → fitsFlags I G flags g ≡ true → writes g < I + G
 unfolding fitsFlags writes
-fits-low I G flags (xor a b c) e = write-low I G flags c (and-true-right (mayRead I flags a && mayRead I flags b) _ e)
-fits-low I G flags (and a b c) e = write-low I G flags c (and-true-right (mayRead I flags a && mayRead I flags b) _ e)
-fits-low I G flags (inv a c) e = write-low I G flags c (and-true-right (mayRead I flags a) _ e)
+fits-low I G flags (xor a b c) e = write-low I G flags c (and-true-right (mayRead I flags c a && mayRead I flags c b) _ e)
+fits-low I G flags (and a b c) e = write-low I G flags c (and-true-right (mayRead I flags c a && mayRead I flags c b) _ e)
+fits-low I G flags (inv a c) e = write-low I G flags c (and-true-right (mayRead I flags c a) _ e)
 
 -- what is known after some of the gate lines: what the lines that are left give is what all of them give
 pub record Walked (s : List ℕ) (z : Sizes) (start : ℕ) (flags : List ℕ) (left at : ℕ) : Type 0 where

@@ -9,10 +9,9 @@ use lib.Dec.{eqb, leb, ltb}
 use lib.ListN.{length, getD, drop}
 use lib.Seq.{sets}
 use Rattle.refusal.specs.Refusal.{numberOf}
-use Rattle.bristol_text.specs.Text.{Line, lines, tokens, allButLast, allNumbers, valueOf, sum}
-use Rattle.bristol_text.specs.Steps.{valuesBefore}
+use Rattle.bristol_text.specs.Text.{Line, lines, allNumbers, valueOf, sum}
 use Rattle.circuit.specs.File.{maxInputs, maxOutputs, maxGates}
-use Rattle.bristol.specs.Rules.{GateLine, xor, and, inv, Reading, refused, says, numbersOn, isCounts, isGroups, groupSum, kindOn, isKnown, begins, gateOn, writes, gateLines}
+use Rattle.bristol.specs.Rules.{GateLine, xor, and, inv, Reading, refused, says, numbersOn, isCounts, isGroups, groupSum, kindOn, isKnown, gateOn, writes, gateLines}
 use Rattle.bristol.specs.Conversion.{firstSlot, recordBytes, fileOf}
 use Rattle.bristol.specs.declared.Counts.{Counts}
 use Rattle.bristol.specs.declared.Counts.the-variants as counts
@@ -30,8 +29,11 @@ use Rattle.bristol.specs.declared.GateRead.{GateRead}
 use Rattle.bristol.specs.declared.GateRead.the-variants.{Read, Unknown, Malformed}
 use Rattle.bristol.specs.declared.LineCheck.{LineCheck}
 use Rattle.bristol.specs.declared.LineCheck.the-variants as lineCheck
+use Rattle.bristol.specs.declared.Kind.{Kind}
+use Rattle.bristol.specs.declared.Kind.the-variants.{Xor, And, Inv, Other}
+use Rattle.bristol.specs.declared.Finding.{Finding}
+use Rattle.bristol.specs.declared.Finding.the-variants as finding
 use Rattle.bristol.specs.declared.Sizes.{Sizes}
-use Rattle.bristol.specs.declared.Wires.{Wires}
 
 -- a line that an LF ends
 abbrev pub whole : List ℕ → Line
@@ -109,12 +111,27 @@ unfoldable pub firstGate : List Line → GateRead
 firstGate [] = Malformed
 firstGate (l ∷ ls) = gateRead l
 
--- what is told of the numbers before the kind on a gate line with i inputs
-pub record WiresTold (l : Line) (i : ℕ) (w : Wires) : Type 0 where
-  pub tested : w .good ≡ (l .ended && allNumbers (allButLast (tokens (l .bytes))) && begins i (i + 3) (valuesBefore (l .bytes)))
-  pub first : w .good ≡ true → w .first ≡ getD (valuesBefore (l .bytes)) 2 0
-  pub second : w .good ≡ true → w .second ≡ getD (valuesBefore (l .bytes)) 3 0
-  pub last : w .good ≡ true → w .last ≡ getD (valuesBefore (l .bytes)) (i + 2) 0
+-- the gate of a kind with k numbers before it, of which ns are the first
+unfoldable pub startsWith : ℕ → ℕ → ℕ → ℕ → Bool
+startsWith i k x y = eqb k (i + 3) && eqb x i && eqb y 1
+
+unfoldable pub gateFrom : Kind → ℕ → List ℕ → GateRead
+gateFrom Xor k ns = cond (startsWith 2 k (getD ns 0 0) (getD ns 1 0)) (Read (gate.Xor (getD ns 2 0) (getD ns 3 0) (getD ns 4 0))) Malformed
+gateFrom And k ns = cond (startsWith 2 k (getD ns 0 0) (getD ns 1 0)) (Read (gate.And (getD ns 2 0) (getD ns 3 0) (getD ns 4 0))) Malformed
+gateFrom Inv k ns = cond (startsWith 1 k (getD ns 0 0) (getD ns 1 0)) (Read (gate.Inv (getD ns 2 0) (getD ns 3 0))) Malformed
+gateFrom Other k ns = Unknown
+
+-- what is found of a gate line's kind and of its form, and the first of two findings that is not good
+unfoldable pub kindFinding : Kind → Finding
+kindFinding k = cond (isKnown k) finding.Good finding.Unknown
+
+unfoldable pub formFinding : Bool → Finding
+formFinding b = cond b finding.Good finding.Malformed
+
+unfoldable pub firstOf : Finding → Finding → Finding
+firstOf finding.Good b = b
+firstOf finding.Unknown b = finding.Unknown
+firstOf finding.Malformed b = finding.Malformed
 
 -- what is told of the first of the lines from a place on as a gate line: how it reads, and the place after it
 pub record GateAt (s : List ℕ) (at : ℕ) (r : GateRead) (next : ℕ) : Type 0 where
@@ -125,16 +142,20 @@ pub record GateAt (s : List ℕ) (at : ℕ) (r : GateRead) (next : ℕ) : Type 0
 unfoldable pub flagged : List ℕ → ℕ → Bool
 flagged flags w = eqb (getD flags w 0) 1
 
-unfoldable pub mayRead : ℕ → List ℕ → ℕ → Bool
-mayRead I flags w = ltb w I || flagged flags w
+-- where a wire is written, on a line that writes wire c: 0 nowhere yet, 1 above, 2 here
+unfoldable pub writtenOn : List ℕ → ℕ → ℕ → ℕ
+writtenOn flags c w = cond (eqb w c) 2 (getD flags w 0)
+
+unfoldable pub mayRead : ℕ → List ℕ → ℕ → ℕ → Bool
+mayRead I flags c w = ltb w I || eqb (writtenOn flags c w) 1
 
 unfoldable pub mayWrite : ℕ → ℕ → List ℕ → ℕ → Bool
 mayWrite I G flags w = leb I w && ltb w (I + G) && not (flagged flags w)
 
 unfoldable pub fitsFlags : ℕ → ℕ → List ℕ → GateLine → Bool
-fitsFlags I G flags (xor a b c) = mayRead I flags a && mayRead I flags b && mayWrite I G flags c
-fitsFlags I G flags (and a b c) = mayRead I flags a && mayRead I flags b && mayWrite I G flags c
-fitsFlags I G flags (inv a c) = mayRead I flags a && mayWrite I G flags c
+fitsFlags I G flags (xor a b c) = mayRead I flags c a && mayRead I flags c b && mayWrite I G flags c
+fitsFlags I G flags (and a b c) = mayRead I flags c a && mayRead I flags c b && mayWrite I G flags c
+fitsFlags I G flags (inv a c) = mayRead I flags c a && mayWrite I G flags c
 
 -- the refusal of a gate line, if it is refused
 unfoldable pub lineRefusal : ℕ → ℕ → List ℕ → GateRead → Option ℕ

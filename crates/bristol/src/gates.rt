@@ -7,12 +7,12 @@ ghost use Rattle.bits.specs.Bytes.{sameBytes};
 ghost use Rattle.circuit.specs.File.{maxInputs, maxGates};
 ghost use Rattle.circuit.specs.Steps.{maxWires};
 ghost use Rattle.bristol.specs.Rules.{kindNamed, kindOn, writes};
-ghost use Rattle.bristol.specs.Steps.{lineOf, gateRead, WiresTold, GateAt, mayRead, mayWrite, fitsFlags};
+ghost use Rattle.bristol.specs.Steps.{lineOf, gateRead, gateFrom, startsWith, kindFinding, formFinding, firstOf, GateAt, writtenOn, mayRead, mayWrite, fitsFlags};
+use crate::Finding;
 use crate::Gate;
 use crate::GateRead;
 use crate::Kind;
 use crate::NextGate;
-use crate::Wires;
 use crate::both;
 use bristol_text::Cursor;
 use bristol_text::last_token;
@@ -54,54 +54,93 @@ fn line_kind(l: &[u8]) -> Kind
     kind_named(l[at], l[at + 1], l[at + 2])
 }
 
-// The wires of a gate with one or two inputs.
-fn line_wires(l: &[u8], ended: bool, inputs: usize) -> Wires
-    requires { ⌜ (1 ≤ inputs) × (inputs ≤ 2) ⌝ }
-    ensures { λ r. ⌜ WiresTold (record { bytes = now (l .entry); ended = ended }) inputs r ⌝ }
+// What is found of a kind.
+fn kind_finding(kind: Kind) -> Finding
+    ensures { λ r. ⌜ r ≡ kindFinding kind ⌝ }
 {
-    let f = read_fields(l, inputs + 3);
-    let n = f.numbers;
-    let whole = both(ended, f.good);
-    let formed = both(both(whole, n[0] == inputs), n[1] == 1);
-    Wires {
-        good: formed,
-        first: n[2],
-        second: n[3],
-        last: n[inputs + 2],
+    match kind {
+        Kind::Xor => Finding::Good,
+        Kind::And => Finding::Good,
+        Kind::Inv => Finding::Good,
+        Kind::Other => Finding::Unknown,
     }
 }
 
-// The gate on a line, which an LF ends or not.
-fn line_gate(l: &[u8], ended: bool) -> GateRead
-    ensures { λ r. ⌜ r ≡ gateRead (record { bytes = now (l .entry); ended = ended }) ⌝ }
+// What is found of a form.
+fn form_finding(whole: bool) -> Finding
+    ensures { λ r. ⌜ r ≡ formFinding whole ⌝ }
 {
-    let kind = line_kind(l);
+    if whole {
+        Finding::Good
+    } else {
+        Finding::Malformed
+    }
+}
+
+// The first of two findings, but the second where the first is good.
+fn first_of(first: Finding, second: Finding) -> Finding
+    ensures { λ r. ⌜ r ≡ firstOf first second ⌝ }
+{
+    match first {
+        Finding::Good => second,
+        Finding::Unknown => Finding::Unknown,
+        Finding::Malformed => Finding::Malformed,
+    }
+}
+
+// Whether so many numbers, with these first, are those of a gate with one or two inputs.
+fn begins_with(inputs: usize, count: usize, first: usize, second: usize) -> bool
+    requires { ⌜ inputs ≤ 2 ⌝ }
+    ensures { λ r. ⌜ r ≡ startsWith inputs count first second ⌝ }
+{
+    both(both(count == inputs + 3, first == inputs), second == 1)
+}
+
+// The gate of a kind with so many numbers, of which these are the first.
+fn gate_of(kind: Kind, count: usize, n: [usize; 5]) -> GateRead
+    ensures { λ r. ⌜ r ≡ gateFrom kind count n ⌝ }
+{
     match kind {
         Kind::Xor => {
-            let w = line_wires(l, ended, 2);
-            if w.good {
-                GateRead::Read(Gate::Xor(w.first, w.second, w.last))
+            if begins_with(2, count, n[0], n[1]) {
+                GateRead::Read(Gate::Xor(n[2], n[3], n[4]))
             } else {
                 GateRead::Malformed
             }
         }
         Kind::And => {
-            let w = line_wires(l, ended, 2);
-            if w.good {
-                GateRead::Read(Gate::And(w.first, w.second, w.last))
+            if begins_with(2, count, n[0], n[1]) {
+                GateRead::Read(Gate::And(n[2], n[3], n[4]))
             } else {
                 GateRead::Malformed
             }
         }
         Kind::Inv => {
-            let w = line_wires(l, ended, 1);
-            if w.good {
-                GateRead::Read(Gate::Inv(w.first, w.last))
+            if begins_with(1, count, n[0], n[1]) {
+                GateRead::Read(Gate::Inv(n[2], n[3]))
             } else {
                 GateRead::Malformed
             }
         }
         Kind::Other => GateRead::Unknown,
+    }
+}
+
+// The gate on a line, which an LF ends or not. Its kind is tested first, then its form: an LF, and numbers before the kind.
+fn line_gate(l: &[u8], ended: bool) -> GateRead
+    ensures { λ r. ⌜ r ≡ gateRead (record { bytes = now (l .entry); ended = ended }) ⌝ }
+{
+    let kind = line_kind(l);
+    let f = read_fields(l);
+    let whole = both(f.good, ended);
+    let found = first_of(kind_finding(kind), form_finding(whole));
+    match found {
+        Finding::Good => {
+            let n = f.numbers;
+            gate_of(kind, f.count, n)
+        }
+        Finding::Unknown => GateRead::Unknown,
+        Finding::Malformed => GateRead::Malformed,
     }
 }
 
@@ -136,18 +175,29 @@ pub(crate) fn output_wire(g: Gate) -> usize
     }
 }
 
-// Whether a wire is an input, or its flag is set.
-fn may_read(flags: &[u8; MAX_WIRES], inputs: usize, wire: usize) -> bool
+// Where a wire is written, on a line that writes wire `own`: 0 for nowhere yet, 1 for a line above, 2 for this line.
+fn written_on(flags: &[u8; MAX_WIRES], own: usize, wire: usize) -> u8
     requires { ⌜ length (now flags) ≡ maxWires ⌝ }
-    ensures { λ r. ⌜ r ≡ mayRead inputs (now (flags .entry)) wire ⌝ }
+    ensures { λ r. ⌜ r ≡ writtenOn (now (flags .entry)) own wire ⌝ }
+{
+    if wire == own {
+        return 2;
+    }
+    if wire < MAX_WIRES {
+        return flags[wire];
+    }
+    0
+}
+
+// Whether a wire is an input or written on a line above, on a line that writes wire `own`.
+fn may_read(flags: &[u8; MAX_WIRES], inputs: usize, own: usize, wire: usize) -> bool
+    requires { ⌜ length (now flags) ≡ maxWires ⌝ }
+    ensures { λ r. ⌜ r ≡ mayRead inputs (now (flags .entry)) own wire ⌝ }
 {
     if wire < inputs {
         return true;
     }
-    if wire < MAX_WIRES {
-        return flags[wire] == 1;
-    }
-    false
+    written_on(flags, own, wire) == 1
 }
 
 // Whether a wire is no input, and its flag is not set.
@@ -164,22 +214,22 @@ fn may_write(flags: &[u8; MAX_WIRES], inputs: usize, gates: usize, wire: usize) 
     false
 }
 
-// Whether a gate reads only inputs or flagged wires, and writes another wire that is not flagged.
+// Whether a gate reads only inputs or wires written above, and writes another wire that is not written yet.
 pub(crate) fn fits(flags: &[u8; MAX_WIRES], inputs: usize, gates: usize, g: Gate) -> bool
     requires { ⌜ (length (now flags) ≡ maxWires) × ((inputs ≤ maxInputs) × (gates ≤ maxGates)) ⌝ }
     ensures { λ r. ⌜ r ≡ fitsFlags inputs gates (now (flags .entry)) (lineOf g) ⌝ }
 {
     match g {
         Gate::Xor(a, b, c) => both(
-            both(may_read(flags, inputs, a), may_read(flags, inputs, b)),
+            both(may_read(flags, inputs, c, a), may_read(flags, inputs, c, b)),
             may_write(flags, inputs, gates, c),
         ),
         Gate::And(a, b, c) => both(
-            both(may_read(flags, inputs, a), may_read(flags, inputs, b)),
+            both(may_read(flags, inputs, c, a), may_read(flags, inputs, c, b)),
             may_write(flags, inputs, gates, c),
         ),
         Gate::Inv(a, c) => both(
-            may_read(flags, inputs, a),
+            may_read(flags, inputs, c, a),
             may_write(flags, inputs, gates, c),
         ),
     }

@@ -76,12 +76,11 @@ pub struct NextGate {
     pub next: Cursor,
 }
 
-// The wires on a gate line, where the numbers before its kind are as they should be.
-pub struct Wires {
-    pub good: bool,
-    pub first: usize,
-    pub second: usize,
-    pub last: usize,
+// What is found of a gate line's kind, or of its form.
+pub enum Finding {
+    Good,
+    Unknown,
+    Malformed,
 }
 
 // What a gate line answers: the wire that it writes and the place after it.

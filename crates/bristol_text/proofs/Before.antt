@@ -1,18 +1,19 @@
 -- The numbers before a line's last token, one after the other.
 -- Assumes nothing.
 use mathlib.Core.Path.{_≡_, refl, sym, ap, _∙_}
-use mathlib.Core.Bool.{Bool, true, false, cond, _&&_}
-use mathlib.Core.List.{List, [], _∷_, _++_, map, append-assoc, append-nil}
+use mathlib.Core.Bool.{Bool, true, false, cond}
+use mathlib.Core.List.{List, [], _∷_, map}
 use mathlib.Core.Logic.{_⊎_, inl, inr, ⊎-elim}
-use Prim.Native.Nat.{ℕ, suc, _+_, _-_, _≤_, _<_}
-use native.Mathlib.Numerals.{add-one}
+use Prim.Native.Nat.{ℕ, suc, _+_, _≤_, _<_}
 use native.Mathlib.Omega.{arith}
-use lib.Dec.{eqb, ltb, eqb·suc-suc, eqb·zero-suc, eqb·suc-zero}
-use lib.ListN.{length, take, drop, set, length-set}
-use lib.Seq.{take-suc-set, getD-take}
+use lib.Dec.{eqb, ltb}
+use lib.ListN.{length, getD, drop, set, length-set}
+use lib.Seq.{getD-set-same, getD-set-other}
 use borrow.Author.Tests.{eq-eqb, ne-eqb, lt-ltb, le-ltb, ltb-true, ltb-false}
+use Rattle.bits.proofs.Numbers.{eq-or-ne}
 use Rattle.bristol_text.specs.Text.{space, onFirst, pieces, tokens, allButLast, isNumber, valueOf, allNumbers}
-use Rattle.bristol_text.specs.Steps.{stop, tokenAt, tokensAfter, numberAt, spaceAfter, fieldAt, valuesBefore, isFields, FieldsTold}
+use Rattle.bristol_text.specs.Steps.{stop, tokenAt, tokensAfter, numberAt, spaceAfter, fieldAt, valuesBefore, areFields, FieldsTold}
+use Rattle.bristol_text.specs.declared.Class.{Class}
 use Rattle.bristol_text.specs.declared.Class.the-variants.{InToken}
 use Rattle.bristol_text.specs.declared.Cursor.{Cursor}
 use Rattle.bristol_text.specs.declared.Number.{Number}
@@ -32,10 +33,6 @@ unfolding allButLast tokens pieces
 but-last-more t [] = refl
 but-last-more t (x ∷ s) = but-last-cond t x (eqb x space) (pieces space s)
 
-and-false : (a : Bool) → a && false ≡ false
-and-false true = refl
-and-false false = refl
-
 module _ (l t : List ℕ) where
   -- a line of one token
   module _ (e : tokens l ≡ t ∷ []) where
@@ -43,13 +40,9 @@ module _ (l t : List ℕ) where
     unfolding allButLast
     none-before = ap allButLast e
 
-    pub one-none : isFields 0 l ≡ true
-    unfolding isFields allNumbers
-    one-none = ap (λ (ts : List (List ℕ)). allNumbers ts && eqb (length ts) 0) none-before
-
-    pub one-some : (k : ℕ) → isFields (suc k) l ≡ false
-    unfolding isFields allNumbers
-    one-some k = ap (λ (ts : List (List ℕ)). allNumbers ts && eqb (length ts) (suc k)) none-before ∙ eqb·zero-suc k
+    pub one-good : areFields l ≡ true
+    unfolding areFields allNumbers
+    one-good = ap allNumbers none-before
 
     pub one-values : valuesBefore l ≡ []
     unfolding valuesBefore
@@ -60,22 +53,13 @@ module _ (l t : List ℕ) where
     some-before : allButLast (tokens l) ≡ t ∷ allButLast (tokens r)
     some-before = ap allButLast e ∙ but-last-more t r
 
-    pub more-none : isFields 0 l ≡ false
-    unfolding isFields
-    more-none =
-        ap (λ (ts : List (List ℕ)). allNumbers ts && eqb (length ts) 0) some-before
-        ∙ ap (λ (b : Bool). allNumbers (t ∷ allButLast (tokens r)) && b) (eqb·suc-zero (length (allButLast (tokens r))))
-        ∙ and-false (allNumbers (t ∷ allButLast (tokens r)))
+    pub more-bad : isNumber t ≡ false → areFields l ≡ false
+    unfolding areFields allNumbers
+    more-bad g = ap allNumbers some-before ∙ rw g
 
-    pub more-bad : isNumber t ≡ false → (k : ℕ) → isFields k l ≡ false
-    unfolding isFields allNumbers
-    more-bad g k = ap (λ (ts : List (List ℕ)). allNumbers ts && eqb (length ts) k) some-before ∙ rw g
-
-    pub more-good : isNumber t ≡ true → (k : ℕ) → isFields (suc k) l ≡ isFields k r
-    unfolding isFields allNumbers
-    more-good g k =
-        ap (λ (ts : List (List ℕ)). allNumbers ts && eqb (length ts) (suc k)) some-before
-        ∙ rw g (ap (λ (b : Bool). allNumbers (allButLast (tokens r)) && b) (eqb·suc-suc (length (allButLast (tokens r))) k))
+    pub more-good : isNumber t ≡ true → areFields l ≡ areFields r
+    unfolding areFields allNumbers
+    more-good g = ap allNumbers some-before ∙ rw g
 
     pub more-values : valuesBefore l ≡ valueOf t ∷ valuesBefore r
     unfolding valuesBefore
@@ -131,93 +115,109 @@ module _ (l : List ℕ) (at : ℕ) where
     unfolding tokensAfter
     more-here h = tokens-step l at inside ∙ rw (lt-ltb (stop InToken l at) (length l) h)
 
-    -- a field that cannot be read
-    pub fields-bad : fieldAt l at ≡ Malformed → (k : ℕ) → isFields (suc k) (drop at l) ≡ false
-    fields-bad e k = at-end (ltb (stop InToken l at) (length l)) refl
-      where
-        at-end : (b : Bool) → ltb (stop InToken l at) (length l) ≡ b → isFields (suc k) (drop at l) ≡ false
-        at-end false f = one-some (drop at l) (tokenAt l at) (last-here (ltb-false (stop InToken l at) (length l) f)) k
-        at-end true f =
-            let h : stop InToken l at < length l = ltb-true (stop InToken l at) (length l) f in
-            ⊎-elim
-            (λ g. more-bad (drop at l) (tokenAt l at) (drop (suc (stop InToken l at)) l) (more-here h) g (suc k))
-            (λ g. absurd (omega arith))
-            (field-unread e)
+    -- where no field can be read, the token is the last or no number
+    pub fields-end : fieldAt l at ≡ Malformed → stop InToken l at < length l → areFields (drop at l) ≡ false
+    fields-end e h =
+        ⊎-elim
+        (λ g. more-bad (drop at l) (tokenAt l at) (drop (suc (stop InToken l at)) l) (more-here h) g)
+        (λ g. absurd (omega arith))
+        (field-unread e)
 
--- what is known after j of the k numbers before a line's last token
-pub record Gathered (l : List ℕ) (k : ℕ) (ns : List ℕ) (at j : ℕ) : Type 0 where
-  pub low : j ≤ k
+-- a place is not after the end of what starts there
+stop-after : (k : Class) (l : List ℕ) (at : ℕ) → at ≤ stop k l at
+unfolding stop
+stop-after k l at = omega arith
+
+-- a field ends after the place where it starts
+pub field-after : (l : List ℕ) (at n : ℕ) (c : Cursor) → fieldAt l at ≡ Value n c → at < c .at
+field-after l at n c e =
+    let f = field-read l at n c e in
+    omega (arith, f .ends, stop-after InToken l at)
+
+-- what is known after some of the numbers before a line's last token
+pub record Gathered (l ns : List ℕ) (at count : ℕ) : Type 0 where
+  pub few : count ≤ at
   pub inside : at ≤ length l
   pub room : length ns ≡ 5
-  pub tested : isFields (k - j) (drop at l) ≡ isFields k l
-  pub values : take j ns ++ valuesBefore (drop at l) ≡ valuesBefore l
+  pub tested : areFields (drop at l) ≡ areFields l
+  pub counted : count + length (valuesBefore (drop at l)) ≡ length (valuesBefore l)
+  pub values : (i : ℕ) → i < 5 → i < count → getD (valuesBefore l) i 0 ≡ getD ns i 0
+  pub rest : (i : ℕ) → getD (valuesBefore l) (count + i) 0 ≡ getD (valuesBefore (drop at l)) i 0
 
-module _ (l : List ℕ) (k : ℕ) (few : k ≤ 5) where
-  pub gathered-none : (ns : List ℕ) → length ns ≡ 5 → Gathered l k ns 0 0
-  gathered-none ns r = record { low = omega arith; inside = omega arith; room = r; tested = ap (λ (i : ℕ). isFields i l) (omega arith); values = refl }
+module _ (l : List ℕ) where
+  pub gathered-none : (ns : List ℕ) → length ns ≡ 5 → Gathered l ns 0 0
+  gathered-none ns r =
+      record { few = omega arith; inside = omega arith; room = r; tested = refl; counted = omega arith; values = λ i a b. absurd (omega arith); rest = λ i. ap (λ (k : ℕ). getD (valuesBefore l) k 0) (omega arith) }
 
-  module _ (ns : List ℕ) (at j : ℕ) (g : Gathered l k ns at j) where
-    pub gathered-more : (n : ℕ) (c : Cursor) → fieldAt l at ≡ Value n c → j < k → Gathered l k (set ns j n) (c .at) (j + 1)
-    gathered-more n c e h =
-        let f = field-read l at n c e in
-        let ts = more-here l at (g .inside) (f .room) in
-        let left : k - j ≡ suc (k - (j + 1)) = omega arith in
-        let here : j < length ns = omega (arith, g .room) in
-        let first : valuesBefore (drop at l) ≡ n ∷ valuesBefore (drop (suc (stop InToken l at)) l) =
-        more-values (drop at l) (tokenAt l at) _ ts ∙ ap (λ (x : ℕ). x ∷ valuesBefore (drop (suc (stop InToken l at)) l)) (sym (f .value)) in
+  module _ (ns : List ℕ) (at count : ℕ) (g : Gathered l ns at count) where
+    -- a number more, in its place if it has one
+    gathered-more : (n : ℕ) (c : Cursor) → fieldAt l at ≡ Value n c → (ms : List ℕ) → length ms ≡ 5
+        → ((i : ℕ) → i < count → getD ms i 0 ≡ getD ns i 0) → (count < 5 → getD ms count 0 ≡ n) → Gathered l ms (c .at) (count + 1)
+    gathered-more n c e ms room same new =
         record {
-          low = omega arith;
+          few = omega (arith, f .ends, g .few, stop-after InToken l at);
           inside = omega (arith, f .ends, f .room);
-          room = length-set ns j n ∙ g .room;
-          tested =
-              rw (f .ends)
-              (sym (more-good (drop at l) (tokenAt l at) _ ts (f .number) (k - (j + 1)))
-              ∙ sym (ap (λ (i : ℕ). isFields i (drop at l)) left) ∙ g .tested);
-          values =
-              rw (f .ends, add-one j, take-suc-set ns j n here)
-              (append-assoc (take j ns) (n ∷ []) _ ∙ sym (ap (λ (t : List ℕ). take j ns ++ t) first) ∙ g .values);
+          room = room;
+          tested = rw (f .ends) (sym (more-good (drop at l) (tokenAt l at) _ ts (f .number)) ∙ g .tested);
+          counted = rw (f .ends) (omega (arith, g .counted, ap length first));
+          values = λ i a b. ⊎-elim (λ e. here i a e) (λ d. g .values i a (omega arith) ∙ sym (same i (omega arith))) (eq-or-ne i count);
+          rest = λ i. rw (f .ends) (ap (λ (k : ℕ). getD (valuesBefore l) k 0) (omega arith) ∙ g .rest (suc i) ∙ ap (λ (vs : List ℕ). getD vs (suc i) 0) first);
         }
-
-    pub gathered-bad : fieldAt l at ≡ Malformed → j < k → FieldsTold l k false ns
-    gathered-bad e h =
-        let left : k - j ≡ suc (k - (j + 1)) = omega arith in
-        record {
-          tested = sym (sym (g .tested) ∙ ap (λ (i : ℕ). isFields i (drop at l)) left ∙ fields-bad l at (g .inside) e (k - (j + 1)));
-          room = g .room;
-          values = λ z. let w : _≡_ {A = ℕ} 0 1 = cc in absurd (omega arith);
-        }
-
-    pub gathered-all : (end : ℕ) → end ≡ stop InToken l at → k ≤ j → FieldsTold l k (eqb end (length l)) ns
-    gathered-all end e h = at-end (ltb end (length l)) refl
       where
-        none : k - j ≡ 0
-        none = omega (arith, g .low)
+        f : Spaced l at n c
+        f = field-read l at n c e
 
-        is-last : length l ≤ end → tokens (drop at l) ≡ tokenAt l at ∷ []
-        is-last f = last-here l at (g .inside) (omega arith)
+        ts : tokens (drop at l) ≡ tokenAt l at ∷ tokens (drop (suc (stop InToken l at)) l)
+        ts = more-here l at (g .inside) (f .room)
 
-        at-end : (b : Bool) → ltb end (length l) ≡ b → FieldsTold l k (eqb end (length l)) ns
-        at-end true f =
-            let lt : end < length l = ltb-true end (length l) f in
+        first : valuesBefore (drop at l) ≡ n ∷ valuesBefore (drop (suc (stop InToken l at)) l)
+        first =
+            more-values (drop at l) (tokenAt l at) _ ts
+            ∙ ap (λ (x : ℕ). x ∷ valuesBefore (drop (suc (stop InToken l at)) l)) (sym (f .value))
+
+        here : (i : ℕ) → i < 5 → i ≡ count → getD (valuesBefore l) i 0 ≡ getD ms i 0
+        here i a e =
+            ap (λ (k : ℕ). getD (valuesBefore l) k 0) (omega arith) ∙ g .rest 0 ∙ ap (λ (vs : List ℕ). getD vs 0 0) first
+            ∙ sym (ap (λ (k : ℕ). getD ms k 0) e ∙ new (omega arith))
+
+    pub gathered-set : (n : ℕ) (c : Cursor) → fieldAt l at ≡ Value n c → count < 5 → Gathered l (set ns count n) (c .at) (count + 1)
+    gathered-set n c e h =
+        gathered-more n c e (set ns count n) (length-set ns count n ∙ g .room)
+        (λ i b. getD-set-other ns count i n 0 (λ q. omega arith)) (λ b. getD-set-same ns count n 0 (omega (arith, g .room)))
+
+    pub gathered-kept : (n : ℕ) (c : Cursor) → fieldAt l at ≡ Value n c → 5 ≤ count → Gathered l ns (c .at) (count + 1)
+    gathered-kept n c e h = gathered-more n c e ns (g .room) (λ i b. refl) (λ b. absurd (omega arith))
+
+    -- the rest of the line is its last token
+    gathered-all : length l ≤ stop InToken l at → FieldsTold l true count ns
+    gathered-all h =
+        let ts = last-here l at (g .inside) h in
+        record {
+          tested = sym (sym (g .tested) ∙ one-good (drop at l) (tokenAt l at) ts);
+          room = g .room;
+          counted = λ z. omega (arith, g .counted, ap length (one-values (drop at l) (tokenAt l at) ts));
+          values = λ z. g .values;
+        }
+
+    -- the line's end
+    pub gathered-end : length l ≤ at → FieldsTold l true count ns
+    gathered-end h = gathered-all (omega (arith, stop-after InToken l at))
+
+    -- no field can be read
+    pub gathered-stop : (end : ℕ) → end ≡ stop InToken l at → fieldAt l at ≡ Malformed → FieldsTold l (eqb end (length l)) count ns
+    gathered-stop end e f = at-end (ltb end (length l)) refl
+      where
+        at-end : (b : Bool) → ltb end (length l) ≡ b → FieldsTold l (eqb end (length l)) count ns
+        at-end true h =
+            let lt : end < length l = ltb-true end (length l) h in
             let no : eqb end (length l) ≡ false = ne-eqb end (length l) (omega arith) in
             record {
-              tested =
-                  no ∙ sym (sym (g .tested) ∙ ap (λ (i : ℕ). isFields i (drop at l)) none
-                  ∙ more-none (drop at l) (tokenAt l at) _ (more-here l at (g .inside) (omega arith)));
+              tested = no ∙ sym (sym (g .tested) ∙ fields-end l at (g .inside) f (omega arith));
               room = g .room;
+              counted = λ z. let w : _≡_ {A = ℕ} 0 1 = cc in absurd (omega arith);
               values = λ z. let w : _≡_ {A = ℕ} 0 1 = cc in absurd (omega arith);
             }
-        at-end false f =
-            let ge : length l ≤ end = ltb-false end (length l) f in
+        at-end false h =
+            let ge : length l ≤ end = ltb-false end (length l) h in
             let same : end ≡ length l = omega (arith, token-inside l at (g .inside)) in
-            let q : j ≡ k = omega (arith, g .low) in
-            let all : take k ns ≡ valuesBefore l =
-            sym (append-nil (take k ns)) ∙ ap (λ (i : ℕ). take i ns ++ []) (sym q)
-            ∙ sym (ap (λ (t : List ℕ). take j ns ++ t) (one-values (drop at l) (tokenAt l at) (is-last ge))) ∙ g .values in
-            record {
-              tested =
-                  eq-eqb end (length l) same ∙ sym (sym (g .tested) ∙ ap (λ (i : ℕ). isFields i (drop at l)) none
-                  ∙ one-none (drop at l) (tokenAt l at) (is-last ge));
-              room = g .room;
-              values = λ z i b. rw (← all) (getD-take k ns i 0 b);
-            }
+            rw (eq-eqb end (length l) same) (gathered-all (omega arith))

@@ -3,7 +3,7 @@
 use mathlib.Core.Path.{_≡_}
 use mathlib.Core.Bool.{Bool, true, cond, not, _&&_}
 use mathlib.Core.List.{List, [], _∷_, map}
-use Prim.Native.Nat.{ℕ, suc, _+_, _≤_}
+use Prim.Native.Nat.{ℕ, suc, _+_, _≤_, _<_}
 use lib.Dec.{eqb, ltb}
 use lib.ListN.{length, drop, getD}
 use lib.Seq.{slice}
@@ -71,12 +71,13 @@ pub record LastToken (l : List ℕ) (r : ℕ) : Type 0 where
 unfoldable pub valuesBefore : List ℕ → List ℕ
 valuesBefore l = map valueOf (allButLast (tokens l))
 
--- before a line's last token stand k numbers and nothing else
-unfoldable pub isFields : ℕ → List ℕ → Bool
-isFields k l = allNumbers (allButLast (tokens l)) && eqb (length (allButLast (tokens l))) k
+-- before a line's last token stand numbers and nothing else
+unfoldable pub areFields : List ℕ → Bool
+areFields l = allNumbers (allButLast (tokens l))
 
--- what is told of the k numbers before a line's last token
-pub record FieldsTold (l : List ℕ) (k : ℕ) (good : Bool) (ns : List ℕ) : Type 0 where
-  pub tested : good ≡ isFields k l
+-- what is told of the numbers before a line's last token: how many there are, and the first five
+pub record FieldsTold (l : List ℕ) (good : Bool) (count : ℕ) (ns : List ℕ) : Type 0 where
+  pub tested : good ≡ areFields l
   pub room : length ns ≡ 5
-  pub values : good ≡ true → (j : ℕ) → suc j ≤ k → getD (valuesBefore l) j 0 ≡ getD ns j 0
+  pub counted : good ≡ true → count ≡ length (valuesBefore l)
+  pub values : good ≡ true → (j : ℕ) → j < 5 → j < count → getD (valuesBefore l) j 0 ≡ getD ns j 0

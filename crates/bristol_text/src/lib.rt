@@ -37,9 +37,10 @@ pub enum Number {
     Malformed,
 }
 
-// The numbers before a line's last token, where the line has as many as are wanted and no other token.
+// The tokens before a line's last: whether all are numbers; if so, how many, and the first five.
 pub struct Fields {
     pub good: bool,
+    pub count: usize,
     pub numbers: [usize; 5],
 }
 
@@ -138,11 +139,11 @@ pub fn read_number(l: &[u8], c: Cursor) -> Number
     ensures { λ r. ⌜ r ≡ numberAt (now (l .entry)) (c .at) ⌝ }
 {
     let at = c.at;
-    let end = stop_at(Class::InToken, l, at);
+    let digits = stop_at(Class::Digit, l, at);
+    let end = stop_at(Class::InToken, l, digits);
     if end <= at {
         return Number::Malformed;
     }
-    let digits = stop_at(Class::Digit, l, at);
     if !good_number(digits == end, end - at, l[at]) {
         return Number::Malformed;
     }
@@ -163,28 +164,31 @@ pub fn read_field(l: &[u8], c: Cursor) -> Number
     Number::Value(n, Cursor { at: at + 1 })
 }
 
-// The k numbers before a line's last token.
-pub fn read_fields(l: &[u8], k: usize) -> Fields
-    requires { ⌜ k ≤ 5 ⌝ }
-    ensures { λ r. ⌜ FieldsTold (now (l .entry)) k (r .good) (r .numbers) ⌝ }
+// The numbers before a line's last token.
+pub fn read_fields(l: &[u8]) -> Fields
+    ensures { λ r. ⌜ FieldsTold (now (l .entry)) (r .good) (r .count) (r .numbers) ⌝ }
 {
     let mut numbers = [0usize; 5];
     let mut at = 0;
-    let mut j = 0;
-    while j < k {
+    let mut count = 0;
+    while at < l.len() {
         let Number::Value(n, next) = read_field(l, Cursor { at }) else {
+            let end = stop_at(Class::InToken, l, at);
             return Fields {
-                good: false,
+                good: end == l.len(),
+                count,
                 numbers,
             };
         };
-        numbers[j] = n;
+        if count < 5 {
+            numbers[count] = n;
+        }
         at = next.at;
-        j += 1;
+        count += 1;
     }
-    let end = stop_at(Class::InToken, l, at);
     Fields {
-        good: end == l.len(),
+        good: true,
+        count,
         numbers,
     }
 }

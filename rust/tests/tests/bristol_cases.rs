@@ -265,14 +265,18 @@ fn broken_gates() -> Vec<Broken> {
 }
 
 /// In the places of the other gate lines.
-const LATER_GATES: [Broken; 8] = [
+const LATER_GATES: [Broken; 12] = [
     (4, "1 1 3 3 INV", 22),
+    (4, "1 1 4 4 INV", 22),
+    (4, "2 1 3 4 4 XOR", 22),
     (4, "2 1 3 0 3 XOR", 22),
     (4, "1 1 5 4 INV", 22),
     (4, "1 1 3 4 EQW", 23),
     (5, "2 1 4 2 4 AND", 22),
     (5, "2 1 4 2 3 AND", 22),
     (5, "2 1 5 2 5 AND", 22),
+    (5, "2 1 4 5 5 AND", 22),
+    (5, "2 1 5 5 5 AND", 22),
     (5, "2 1 4 2 5 NAND", 23),
 ];
 
@@ -357,6 +361,30 @@ fn one_line_broken_twice() {
     for (changes, expected) in known {
         let text = with(changes);
         assert_eq!(number(&text), expected, "{text:?}");
+    }
+}
+
+/// Whatever else is wrong with a gate line, an unknown kind comes first.
+#[test]
+fn an_unknown_kind_comes_first() {
+    let gates = [&broken_gates()[..], &LATER_GATES].concat();
+    for (place, line, _) in gates {
+        let before = line.rfind(' ').map_or("", |space| &line[..=space]);
+        for kind in [
+            "", "OR", "MAND", "EQ", "EQW", "XOR\r", "XOR\t", "XOR\0", "7",
+        ] {
+            let other = format!("{before}{kind}");
+            if other.is_empty() {
+                continue;
+            }
+            let text = with(&[(place, &other)]);
+            assert_eq!(number(&text), 23, "{text:?}");
+            let unended = text
+                .split_inclusive('\n')
+                .take(place + 1)
+                .collect::<String>();
+            assert_eq!(number(unended.trim_end_matches('\n')), 23, "{unended:?}");
+        }
     }
 }
 
@@ -539,6 +567,26 @@ fn one_line_too_many() {
                 assert_eq!(number(&text), 22, "{text:?}");
             }
         }
+    }
+}
+
+/// A line of the header twice: the second is read as the line below it.
+#[test]
+fn one_header_line_too_many() {
+    let known = [
+        // Three groups, of which one has a size.
+        ("3 6\n3 6\n2 2 1\n1 2\n", 22),
+        // Two groups of outputs, then a gate line of kind 2.
+        ("3 6\n2 2 1\n2 2 1\n1 2\n", 23),
+        ("3 6\n2 2 1\n1 2\n1 2\n", 23),
+        ("0 3\n0 3\n1 3\n1 2\n", 22),
+        ("0 3\n1 3\n1 3\n1 2\n", 22),
+        ("0 3\n1 3\n1 2\n1 2\n", 22),
+    ];
+    for (header, expected) in known {
+        let text = format!("{header}{}", text_of(&LINES[3..]));
+        assert_eq!(number(&text), expected, "{text:?}");
+        assert_eq!(number(header), expected, "{header:?}");
     }
 }
 

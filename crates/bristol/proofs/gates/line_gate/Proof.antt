@@ -1,79 +1,80 @@
--- `bristol::gates::line_gate` meets its contract: by the kind and the tests on the numbers before it.
+-- `bristol::gates::line_gate` meets its contract: by what is found first.
 -- Assumes nothing.
 use borrow.Author.Needs.{needs}
-use native.Mathlib.Omega.{arith}
-use mathlib.Core.Path.{sym, _∙_}
-use Rattle.bristol.proofs.Lined.{gate-unknown, xor-good, xor-bad, and-good, and-bad, inv-good, inv-bad}
+use mathlib.Core.Path.{_∙_}
+use mathlib.Core.Bool.{and-comm}
+use Rattle.bristol.proofs.Lined.{gate-unknown, gate-malformed, gate-good}
 use Rattle.bristol.proofs.gates.line_gate.Statement.{statement}
 use Rattle.bristol.proofs.gates.line_gate.Tie as tie
 
 line-kind-requires : tie.Need-line-kind-requires
 line-kind-requires c κs = search needs
 
+read-fields-requires : tie.Need-read-fields-requires
+read-fields-requires c κs = search needs
+
+both-requires : tie.Need-both-requires
+both-requires c κs = search needs
+
+kind-finding-requires : tie.Need-kind-finding-requires
+kind-finding-requires c κs = search needs
+
+form-finding-requires : tie.Need-form-finding-requires
+form-finding-requires c κs = search needs
+
+first-of-requires : tie.Need-first-of-requires
+first-of-requires c κs = search needs
+
 enum-told : tie.Need-enum-told
 enum-told c = search needs
 
-line-wires-requires : tie.Need-line-wires-requires
-line-wires-requires c κs = (omega arith, omega arith)
+gate-of-requires : tie.Need-gate-of-requires
+gate-of-requires c κs = search needs
 
 enum-told-2 : tie.Need-enum-told-2
 enum-told-2 c = search needs
 
-line-wires-requires-2 : tie.Need-line-wires-requires-2
-line-wires-requires-2 c κs = (omega arith, omega arith)
-
 enum-told-3 : tie.Need-enum-told-3
 enum-told-3 c = search needs
 
-line-wires-requires-3 : tie.Need-line-wires-requires-3
-line-wires-requires-3 c κs = (omega arith, omega arith)
-
-enum-told-4 : tie.Need-enum-told-4
-enum-told-4 c = search needs
-
 returns : tie.Need-returns
 returns c =
-    xor-good _ _ (c .before .line-wires .ensures) (sym (c .before .before .before .before .line-kind .ensures) ∙ c .before .before .enum-told .given .1) (c .if1 .taken)
+    let m = c .before .before .before .before in
+    let f = m .before .before .before .before .read-fields in
+    let x = m .before .before .before .before .before .before .before .args in
+    let order = and-comm (x .ended) (f .result .good) in
+    c .gate-of .ensures ∙ gate-good _ _ _ _ (f .ensures) _ (m .before .before .before .before .before .line-kind .ensures) _ (cc) (c .before .before .enum-told .given .1)
 
 returns-2 : tie.Need-returns-2
 returns-2 c =
-    xor-bad _ _ (c .before .line-wires .ensures) (sym (c .before .before .before .before .line-kind .ensures) ∙ c .before .before .enum-told .given .1) (c .if1 .left)
+    let m = c .before .before in
+    let f = m .before .before .before .before .read-fields in
+    let x = m .before .before .before .before .before .before .before .args in
+    let order = and-comm (x .ended) (f .result .good) in
+    gate-unknown _ _ _ _ (f .ensures) _ (m .before .before .before .before .before .line-kind .ensures) _ (cc) (c .enum-told2 .given .1)
 
 returns-3 : tie.Need-returns-3
 returns-3 c =
-    and-good _ _ (c .before .line-wires2 .ensures) (sym (c .before .before .before .before .line-kind .ensures) ∙ c .before .before .enum-told2 .given .1) (c .if2 .taken)
-
-returns-4 : tie.Need-returns-4
-returns-4 c =
-    and-bad _ _ (c .before .line-wires2 .ensures) (sym (c .before .before .before .before .line-kind .ensures) ∙ c .before .before .enum-told2 .given .1) (c .if2 .left)
-
-returns-5 : tie.Need-returns-5
-returns-5 c =
-    inv-good _ _ (c .before .line-wires3 .ensures) (sym (c .before .before .before .before .line-kind .ensures) ∙ c .before .before .enum-told3 .given .1) (c .if3 .taken)
-
-returns-6 : tie.Need-returns-6
-returns-6 c =
-    inv-bad _ _ (c .before .line-wires3 .ensures) (sym (c .before .before .before .before .line-kind .ensures) ∙ c .before .before .enum-told3 .given .1) (c .if3 .left)
-
-returns-7 : tie.Need-returns-7
-returns-7 c = gate-unknown _ (sym (c .before .before .line-kind .ensures) ∙ c .enum-told4 .given .1)
+    let m = c .before .before in
+    let f = m .before .before .before .before .read-fields in
+    let x = m .before .before .before .before .before .before .before .args in
+    let order = and-comm (x .ended) (f .result .good) in
+    gate-malformed _ _ _ _ (f .ensures) _ (m .before .before .before .before .before .line-kind .ensures) _ (cc) (c .enum-told3 .given .1)
 
 pub line-gate-spec : {M : Type 1} → statement M
 line-gate-spec =
     tie.close
     (tie.spec
     line-kind-requires
+    read-fields-requires
+    both-requires
+    kind-finding-requires
+    form-finding-requires
+    first-of-requires
     enum-told
-    line-wires-requires
+    gate-of-requires
     enum-told-2
-    line-wires-requires-2
     enum-told-3
-    line-wires-requires-3
-    enum-told-4
     returns
     returns-2
-    returns-3
-    returns-4
-    returns-5
-    returns-6
-    returns-7)
+    returns-3)

@@ -1,34 +1,28 @@
--- `bristol::gates::may_read` meets its contract: by cases of the wire.
+-- `bristol::gates::may_read` meets its contract: an input, or by where the wire is written.
 -- Assumes nothing.
 use borrow.Author.Needs.{needs}
-use native.Mathlib.Omega.{arith}
-use lib.ListN.{List·getD-eq-default}
+use mathlib.Core.Path.{ap, _∙_}
+use mathlib.Core.Bool.{Bool}
 use borrow.Author.Tests.{lt-ltb, le-ltb}
-use Rattle.bristol.specs.Steps.{flagged, mayRead}
+use Rattle.bristol.specs.Steps.{mayRead}
 use Rattle.bristol.proofs.gates.may_read.Statement.{statement}
 use Rattle.bristol.proofs.gates.may_read.Tie as tie
 
 returns : tie.Need-returns
-unfolding mayRead flagged
+unfolding mayRead
 returns c = rw (lt-ltb _ _ (c .if1 .taken))
 
-element-copy-out-result : tie.Need-element-copy-out-result
-element-copy-out-result c = search needs
+written-on-requires : tie.Need-written-on-requires
+written-on-requires c κs = c .before .pre
 
 returns-2 : tie.Need-returns-2
-unfolding mayRead flagged
-returns-2 c = rw (le-ltb _ _ (c .before .before .if1 .left))
-
-returns-3 : tie.Need-returns-3
-unfolding mayRead flagged
-returns-3 c =
-    rw (le-ltb _ _ (c .before .if1 .left), List·getD-eq-default (c .before .before .args .flags .now) 0 {n = c .before .before .args .wire} (omega arith))
+unfolding mayRead
+returns-2 c = rw (le-ltb _ _ (c .before .if1 .left), c .written-on .ensures)
 
 pub may-read-spec : {M : Type 1} → statement M
 may-read-spec =
     tie.close
     (tie.spec
     returns
-    element-copy-out-result
-    returns-2
-    returns-3)
+    written-on-requires
+    returns-2)
