@@ -133,7 +133,9 @@ fn line_gate(l: &[u8], ended: bool) -> GateRead
     let kind = line_kind(l);
     let f = read_fields(l);
     let whole = both(f.good, ended);
-    let found = first_of(kind_finding(kind), form_finding(whole));
+    let of_kind = kind_finding(kind);
+    let of_form = form_finding(whole);
+    let found = first_of(of_kind, of_form);
     match found {
         Finding::Good => {
             let n = f.numbers;

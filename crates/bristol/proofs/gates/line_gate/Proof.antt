@@ -1,8 +1,9 @@
 -- `bristol::gates::line_gate` meets its contract: by what is found first.
 -- Assumes nothing.
 use borrow.Author.Needs.{needs}
-use mathlib.Core.Path.{_∙_}
-use mathlib.Core.Bool.{and-comm}
+use mathlib.Core.Path.{_≡_, ap, ap₂, _∙_}
+use mathlib.Core.Bool.{_&&_, and-comm}
+use Rattle.bristol.specs.Steps.{formFinding, firstOf}
 use Rattle.bristol.proofs.Lined.{gate-unknown, gate-malformed, gate-good}
 use Rattle.bristol.proofs.gates.line_gate.Statement.{statement}
 use Rattle.bristol.proofs.gates.line_gate.Tie as tie
@@ -43,7 +44,10 @@ returns c =
     let f = m .before .before .before .before .read-fields in
     let x = m .before .before .before .before .before .before .before .args in
     let order = and-comm (x .ended) (f .result .good) in
-    c .gate-of .ensures ∙ gate-good _ _ _ _ (f .ensures) _ (m .before .before .before .before .before .line-kind .ensures) _ (cc) (c .before .before .enum-told .given .1)
+    let whole : m .before .before .before .both .result ≡ x .ended && f .result .good = cc in
+    c .gate-of .ensures
+    ∙ gate-good _ _ _ _ (f .ensures) _ (m .before .before .before .before .before .line-kind .ensures) _
+    (m .first-of .ensures ∙ ap₂ firstOf (m .before .before .kind-finding .ensures) (m .before .form-finding .ensures ∙ ap formFinding whole)) (c .before .before .enum-told .given .1)
 
 returns-2 : tie.Need-returns-2
 returns-2 c =
@@ -51,7 +55,9 @@ returns-2 c =
     let f = m .before .before .before .before .read-fields in
     let x = m .before .before .before .before .before .before .before .args in
     let order = and-comm (x .ended) (f .result .good) in
-    gate-unknown _ _ _ _ (f .ensures) _ (m .before .before .before .before .before .line-kind .ensures) _ (cc) (c .enum-told2 .given .1)
+    let whole : m .before .before .before .both .result ≡ x .ended && f .result .good = cc in
+    gate-unknown _ _ _ _ (f .ensures) _ (m .before .before .before .before .before .line-kind .ensures) _
+    (m .first-of .ensures ∙ ap₂ firstOf (m .before .before .kind-finding .ensures) (m .before .form-finding .ensures ∙ ap formFinding whole)) (c .enum-told2 .given .1)
 
 returns-3 : tie.Need-returns-3
 returns-3 c =
@@ -59,7 +65,9 @@ returns-3 c =
     let f = m .before .before .before .before .read-fields in
     let x = m .before .before .before .before .before .before .before .args in
     let order = and-comm (x .ended) (f .result .good) in
-    gate-malformed _ _ _ _ (f .ensures) _ (m .before .before .before .before .before .line-kind .ensures) _ (cc) (c .enum-told3 .given .1)
+    let whole : m .before .before .before .both .result ≡ x .ended && f .result .good = cc in
+    gate-malformed _ _ _ _ (f .ensures) _ (m .before .before .before .before .before .line-kind .ensures) _
+    (m .first-of .ensures ∙ ap₂ firstOf (m .before .before .kind-finding .ensures) (m .before .form-finding .ensures ∙ ap formFinding whole)) (c .enum-told3 .given .1)
 
 pub line-gate-spec : {M : Type 1} → statement M
 line-gate-spec =
