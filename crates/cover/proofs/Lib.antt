@@ -3,6 +3,7 @@ pub mod Levels
 pub mod Covering
 pub mod Least
 pub mod Rebuilding
+pub mod Masters
 pub mod Marking
 pub mod Nodes
 pub mod Writing

@@ -19,7 +19,7 @@ use Rattle.tree.specs.Tree.{leftChild, rightChild, nodeValue, leavesBelow}
 use Rattle.tree.proofs.Lengths.{length-left, length-right}
 use Rattle.tree.proofs.Numbering.{leaf-node}
 use Rattle.cover.specs.Cover.{those, up, unhidden, opened, cover}
-use Rattle.cover.specs.Masters.{height, valueOf, childOf, opening, given, fromAbove, leafFrom, MastersFollow}
+use Rattle.cover.specs.Masters.{height, valueOf, childOf, opening, given, fromAbove, leafFrom, masterOf, coverOf, masterFrom, MastersFollow, MastersAreLeaves}
 use Rattle.cover.proofs.Search.{length-those}
 use Rattle.cover.proofs.Levels.{up-zero, up-suc, up-le, levels, has-node}
 use Rattle.cover.proofs.Covering.{opened-unhidden, opened-node, one-opened}
@@ -52,14 +52,14 @@ module _ (p : ℕ → Bool) where
       ∙ sym e)
       (lt-or-le k n)
 
-getD-map : (f : ℕ → List ℕ) (xs : List ℕ) (i : ℕ) → i < length xs → getD (map f xs) i [] ≡ f (getD xs i 0)
+pub getD-map : (f : ℕ → List ℕ) (xs : List ℕ) (i : ℕ) → i < length xs → getD (map f xs) i [] ≡ f (getD xs i 0)
 getD-map f [] i l = absurd (omega arith)
 getD-map f (x ∷ xs) zero l = refl
 getD-map f (x ∷ xs) (suc i) l = getD-map f xs i (omega arith)
 
 -- a tree by any rule that gives 16 bytes
 module _ (rule : ℕ → List ℕ → List ℕ) (root : List ℕ) (sized : (x : ℕ) (v : List ℕ) → length (rule x v) ≡ 16) (l : length root ≡ 16) where
-  length-value : (d x : ℕ) → length (valueOf rule root d x) ≡ 16
+  pub length-value : (d x : ℕ) → length (valueOf rule root d x) ≡ 16
   unfolding valueOf
   length-value zero x = l
   length-value (suc d) x = go (ltb x 2) (valueOf rule root d (x / 2))
@@ -125,31 +125,33 @@ module _ (rule : ℕ → List ℕ → List ℕ) (root : List ℕ) (sized : (x : 
         below-opened (suc h) (s .0) (2 ^ h + i) (omega (arith, pow-succ' 2 h)) (omega (arith, s .1)) (ap (opened h M hides) (s .2) ∙ r .1)
 
 -- the tree of instance j
-module _ (j : ℕ) (root : List ℕ) (l : length root ≡ 16) where
-  length-child : (x : ℕ) (v : List ℕ) → length (childOf j x v) ≡ 16
-  unfolding childOf
-  length-child x v = go (eqb (x % 2) 0)
-    where
-      go : (b : Bool) → length (cond b (leftChild j (x / 2) v) (rightChild j (x / 2) v)) ≡ 16
-      go true = length-left j (x / 2) v
-      go false = length-right j (x / 2) v
+pub length-child : (j x : ℕ) (v : List ℕ) → length (childOf j x v) ≡ 16
+unfolding childOf
+length-child j x v = go (eqb (x % 2) 0)
+  where
+    go : (b : Bool) → length (cond b (leftChild j (x / 2) v) (rightChild j (x / 2) v)) ≡ 16
+    go true = length-left j (x / 2) v
+    go false = length-right j (x / 2) v
 
-  pub node-value : (h d x : ℕ) → d ≤ h → 2 ^ d ≤ x → x < 2 ^ suc d → valueOf (childOf j) root h x ≡ nodeValue j root d x
-  unfolding valueOf nodeValue childOf
-  node-value zero zero x w a b = refl
-  node-value (suc h) zero x w a b = rw (lt-ltb x 2 (omega arith))
-  node-value zero (suc d) x w a b = absurd (omega arith)
-  node-value (suc h) (suc d) x w a b =
-      rw (le-ltb x 2 (omega (arith, pow-succ' 2 d)))
-      (ap (childOf j x) (node-value h d (x / 2) (omega arith) (omega (arith, pow-succ' 2 d)) (omega (arith, pow-succ' 2 (suc d)))))
+node-value : (j : ℕ) (root : List ℕ) (h d x : ℕ) → d ≤ h → 2 ^ d ≤ x → x < 2 ^ suc d → valueOf (childOf j) root h x ≡ nodeValue j root d x
+unfolding valueOf nodeValue childOf
+node-value j root zero zero x w a b = refl
+node-value j root (suc h) zero x w a b = rw (lt-ltb x 2 (omega arith))
+node-value j root zero (suc d) x w a b = absurd (omega arith)
+node-value j root (suc h) (suc d) x w a b =
+    rw (le-ltb x 2 (omega (arith, pow-succ' 2 d)))
+    (ap (childOf j x) (node-value j root h d (x / 2) (omega arith) (omega (arith, pow-succ' 2 d)) (omega (arith, pow-succ' 2 (suc d)))))
 
-  -- the leaves that follow from an opening are those of the whole tree
-  leaves-follow : (h M : ℕ) (hides : ℕ → Bool) (p i : ℕ) → M ≤ 2 ^ h → p < M → hides p ≡ true → i < M → hides i ≡ false
-      → leafFrom h M hides (childOf j) (opening h M hides (childOf j) root) i ≡ rowOf (leavesBelow j h 1 root) 16 i
-  leaves-follow h M hides p i fits lp tp li ti =
-      leaf-follows (childOf j) root length-child l h M hides fits p i lp tp li ti
-      ∙ node-value h h (2 ^ h + i) (omega arith) (omega arith) (omega (arith, pow-succ' 2 h))
-      ∙ sym (leaf-node j h i root l (omega arith))
+-- its leaves, by the rule from parent to child, are those of document 01
+leaf-value : (j h i : ℕ) (root : List ℕ) → length root ≡ 16 → i < 2 ^ h → valueOf (childOf j) root h (2 ^ h + i) ≡ rowOf (leavesBelow j h 1 root) 16 i
+leaf-value j h i root l w =
+    node-value j root h h (2 ^ h + i) (omega arith) (omega arith) (omega (arith, pow-succ' 2 h)) ∙ sym (leaf-node j h i root l w)
 
 pub masters-follow : MastersFollow
-masters-follow M hides root p i l lp tp li ti = leaves-follow 65535 root l (height M) M hides p i (least-height .fits M) lp tp li ti
+unfolding masterFrom coverOf masterOf
+masters-follow M hides root p i l lp tp li ti =
+    leaf-follows (childOf 65535) root (length-child 65535) l (height M) M hides (least-height .fits M) p i lp tp li ti
+
+pub masters-are-leaves : MastersAreLeaves
+unfolding masterOf
+masters-are-leaves M root i l w = leaf-value 65535 (height M) i root l (omega (arith, least-height .fits M))

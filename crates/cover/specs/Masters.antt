@@ -5,7 +5,7 @@
 use mathlib.Core.Path.{_≡_}
 use mathlib.Core.Bool.{Bool, true, false, cond}
 use mathlib.Core.List.{List, map, flatten}
-use Prim.Native.Nat.{ℕ, zero, suc, _+_, _/_, _%_, _^_, _≤_, _<_}
+use Prim.Native.Nat.{ℕ, zero, suc, _+_, _*_, _/_, _%_, _^_, _≤_, _<_}
 use lib.Dec.{eqb, leb, ltb}
 use lib.ListN.{length, replicate}
 use Rattle.bits.specs.Bytes.{rowOf}
@@ -48,14 +48,35 @@ fromAbove isOpened rule values (suc d) x =
 unfoldable pub leafFrom : ℕ → ℕ → (ℕ → Bool) → (ℕ → List ℕ → List ℕ) → List ℕ → ℕ → List ℕ
 leafFrom h M hides rule values i = fromAbove (opened h M hides) rule values (suc h) (2 ^ h + i)
 
+-- "Let the masters be the leaves of one tree whose node 1 is the root": the master of instance j is leaf j
+unfoldable pub masterOf : ℕ → List ℕ → ℕ → List ℕ
+masterOf M root j = valueOf (childOf 65535) root (height M) (2 ^ height M + j)
+
+-- "Nodes come ascending after the header": the bytes of the opened nodes
+unfoldable pub coverOf : ℕ → (ℕ → Bool) → List ℕ → List ℕ
+coverOf M hides root = opening (height M) M hides (childOf 65535) root
+
+-- "16 bytes for each opened node"
+unfoldable pub coverBytes : ℕ → (ℕ → Bool) → ℕ
+coverBytes M hides = 16 * length (cover (height M) M hides)
+
+-- "from which every unhidden leaf among the M follows": the master of instance j from the bytes of the opened nodes
+unfoldable pub masterFrom : ℕ → (ℕ → Bool) → List ℕ → ℕ → List ℕ
+masterFrom M hides values j = leafFrom (height M) M hides (childOf 65535) values j
+
 -- "the least power of two that is at least M"
 pub record LeastHeight : Type 0 where
   pub fits : (M : ℕ) → M ≤ 2 ^ height M
   pub least : (M h : ℕ) → M ≤ 2 ^ h → height M ≤ h
 
--- "every unhidden leaf among the M follows": once a leaf p is hidden, the masters from the opened nodes are those of the expansion
+-- "every unhidden leaf among the M follows": once a leaf p is hidden, a master from the opened nodes is the master
 abbrev pub MastersFollow : Type 0
 MastersFollow =
     (M : ℕ) (hides : ℕ → Bool) (root : List ℕ) (p i : ℕ) → length root ≡ 16 → p < M → hides p ≡ true → i < M → hides i ≡ false
-    → leafFrom (height M) M hides (childOf 65535) (opening (height M) M hides (childOf 65535) root) i
-    ≡ rowOf (leavesBelow 65535 (height M) 1 root) 16 i
+    → masterFrom M hides (coverOf M hides root) i ≡ masterOf M root i
+
+-- "the masters be the leaves of one tree": a master is a leaf of the tree of document 01, "a node's subtree is the same rule applied to
+-- its two children"
+abbrev pub MastersAreLeaves : Type 0
+MastersAreLeaves =
+    (M : ℕ) (root : List ℕ) (i : ℕ) → length root ≡ 16 → i < M → masterOf M root i ≡ rowOf (leavesBelow 65535 (height M) 1 root) 16 i
