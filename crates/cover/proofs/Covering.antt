@@ -34,7 +34,7 @@ module _ (M : ℕ) (hides : ℕ → Bool) (i : ℕ) where
   unfolding hidden
   is-hidden t = (ltb-true i M (and-first _ _ t), and-second (ltb i M) _ t)
 
-  unhidden-is : i < M → hides i ≡ false → unhidden M hides i ≡ true
+  pub unhidden-is : i < M → hides i ≡ false → unhidden M hides i ≡ true
   unfolding unhidden
   unhidden-is l t = both (lt-ltb i M l) (ap not t)
 
@@ -53,7 +53,7 @@ module _ (h M : ℕ) (hides : ℕ → Bool) where
   unfolding opened
   opened-unhidden k t = and-first _ _ t
 
-  opened-rest : (k : ℕ) → opened h M hides k ≡ true → (hasLeaf h (hidden M hides) k ≡ false) × (hasLeaf h (hidden M hides) (k / 2) ≡ true)
+  pub opened-rest : (k : ℕ) → opened h M hides k ≡ true → (hasLeaf h (hidden M hides) k ≡ false) × (hasLeaf h (hidden M hides) (k / 2) ≡ true)
   unfolding opened
   opened-rest k t =
       let H : ℕ → Bool = hasLeaf h (hidden M hides) in

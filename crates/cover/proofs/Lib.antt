@@ -5,5 +5,6 @@ pub mod Least
 pub mod Rebuilding
 pub mod Masters
 pub mod Marking
-pub mod Nodes
 pub mod Writing
+pub mod Growing
+pub mod Following

@@ -18,7 +18,7 @@ use Rattle.bits.specs.Bits.{bitVal, tabulate}
 use Rattle.bits.proofs.Numbers.{lt-or-le, eq-or-ne}
 use Rattle.bits.proofs.Tabulate.{length-tabulate, getD-tabulate, getD-tabulate-end}
 use Rattle.cover.specs.Cover.{those, hasLeaf, hidden, unhidden, opened, cover}
-use Rattle.cover.specs.Steps.{flagged, markOf, marksOf, leafMark, nodeMark, openedBy, coverBy}
+use Rattle.cover.specs.Steps.{hiddenBy, markOf, marksOf, leafMark, nodeMark, openedBy, coverBy}
 use Rattle.cover.proofs.Search.{not-so, length-those}
 use Rattle.cover.proofs.Levels.{has-node, at-leaf, at-node}
 use Rattle.cover.proofs.Covering.{opened-node}
@@ -78,10 +78,10 @@ module _ (h M : ℕ) where
     opened-outside k w =
         rw (getD-tabulate-end (2 ^ suc h) (markOf h M hides) k 0 w) (sym (not-so (opened h M hides k) (λ o. omega (arith, opened-node h M hides k o))))
 
-    same-opened : openedBy (marksOf h M hides) ≡ opened h M hides
+    pub same-opened : openedBy (marksOf h M hides) ≡ opened h M hides
     same-opened = fun-ext (λ k. ⊎-elim (opened-marked k) (opened-outside k) (lt-or-le k (2 ^ suc h)))
 
-    length-marks : length (marksOf h M hides) ≡ 2 ^ suc h
+    pub length-marks : length (marksOf h M hides) ≡ 2 ^ suc h
     unfolding marksOf
     length-marks = length-tabulate (2 ^ suc h) (markOf h M hides)
 
@@ -90,12 +90,12 @@ module _ (h M : ℕ) where
     unfolding cover
     cover-marked = ap (λ (n : ℕ). those n (openedBy (marksOf h M hides))) length-marks ∙ ap (those (2 ^ suc h)) same-opened
 
-  module _ (flags : List ℕ) where
-    mark-leaf : (i : ℕ) → i < 2 ^ h → leafMark flags M i ≡ markOf h M (flagged flags) (2 ^ h + i)
-    unfolding leafMark markOf hidden unhidden flagged
+  module _ (table : List ℕ) (clear : ℕ) where
+    mark-leaf : (i : ℕ) → i < 2 ^ h → leafMark table clear M i ≡ markOf h M (hiddenBy table clear) (2 ^ h + i)
+    unfolding leafMark markOf hidden unhidden hiddenBy
     mark-leaf i l =
-        go (ltb i M) (eqb (getD flags i 0) 0)
-        ∙ sym (ap₂ (λ (a b : Bool). bitVal a + 2 * bitVal b) (at-leaf h (unhidden M (flagged flags)) i l) (at-leaf h (hidden M (flagged flags)) i l))
+        go (ltb i M) (eqb (getD table i 0) clear)
+        ∙ sym (ap₂ (λ (a b : Bool). bitVal a + 2 * bitVal b) (at-leaf h (unhidden M (hiddenBy table clear)) i l) (at-leaf h (hidden M (hiddenBy table clear)) i l))
       where
         go : (a b : Bool) → cond a (cond b 1 2) 0 ≡ bitVal (a && not (not b)) + 2 * bitVal (a && not b)
         go true true = refl
@@ -104,24 +104,24 @@ module _ (h M : ℕ) where
 
     -- the nodes from k on have their marks
     pub Marked : List ℕ → ℕ → Type 0
-    Marked marks k = (x : ℕ) → k ≤ x → x < 2 ^ suc h → getD marks x 0 ≡ markOf h M (flagged flags) x
+    Marked marks k = (x : ℕ) → k ≤ x → x < 2 ^ suc h → getD marks x 0 ≡ markOf h M (hiddenBy table clear) x
 
-    node-right : (marks : List ℕ) (k : ℕ) → k < 2 ^ suc h → ((x : ℕ) → k < x → x < 2 ^ suc h → getD marks x 0 ≡ markOf h M (flagged flags) x)
-        → nodeMark flags M (2 ^ h) marks k ≡ markOf h M (flagged flags) k
+    node-right : (marks : List ℕ) (k : ℕ) → k < 2 ^ suc h → ((x : ℕ) → k < x → x < 2 ^ suc h → getD marks x 0 ≡ markOf h M (hiddenBy table clear) x)
+        → nodeMark table clear M (2 ^ h) marks k ≡ markOf h M (hiddenBy table clear) k
     unfolding nodeMark
     node-right marks k u done =
         let t : 2 ^ suc h ≡ 2 * 2 ^ h = pow-succ' 2 h in
         ⊎-elim
         (λ (w : k < 2 ^ h).
         ⊎-elim
-        (λ (z : k ≡ 0). rw (lt-leb (2 ^ h) k w, z) (mark-none (flagged flags)))
+        (λ (z : k ≡ 0). rw (lt-leb (2 ^ h) k w, z) (mark-none (hiddenBy table clear)))
         (λ nz.
         rw (lt-leb (2 ^ h) k w, ne-eqb k 0 nz, done (2 * k) (omega (arith, nz)) (omega arith), done (2 * k + 1) (omega arith) (omega arith))
-        (mark-parent (flagged flags) k (omega (arith, nz)) w))
+        (mark-parent (hiddenBy table clear) k (omega (arith, nz)) w))
         (eq-or-ne k 0))
         (λ (w : 2 ^ h ≤ k).
         let e : 2 ^ h + (k - 2 ^ h) ≡ k = omega arith in
-        rw (le-leb (2 ^ h) k w) (mark-leaf (k - 2 ^ h) (omega arith) ∙ ap (markOf h M (flagged flags)) e))
+        rw (le-leb (2 ^ h) k w) (mark-leaf (k - 2 ^ h) (omega arith) ∙ ap (markOf h M (hiddenBy table clear)) e))
         (lt-or-le k (2 ^ h))
 
     pub marked-none : (marks : List ℕ) (k : ℕ) → 2 ^ suc h ≤ k → Marked marks k
@@ -129,7 +129,7 @@ module _ (h M : ℕ) where
     marked-none marks k w = λ x a b. absurd (omega arith)
 
     pub marked-more : (marks : List ℕ) (leaves k v : ℕ) → length marks ≡ 2 ^ suc h → leaves ≡ length marks / 2 → 1 ≤ k → k ≤ length marks
-        → Marked marks k → v ≡ nodeMark flags M leaves marks (k - 1) → Marked (set marks (k - 1) v) (k - 1)
+        → Marked marks k → v ≡ nodeMark table clear M leaves marks (k - 1) → Marked (set marks (k - 1) v) (k - 1)
     unfolding Marked
     marked-more marks leaves k v l n p u done q =
         let e : leaves ≡ 2 ^ h = omega (arith, pow-succ' 2 h) in
@@ -137,40 +137,40 @@ module _ (h M : ℕ) where
         ⊎-elim
         (λ (z : x ≡ k - 1).
         rw (z, getD-set-same marks (k - 1) v 0 (omega arith))
-        (q ∙ ap (λ (y : ℕ). nodeMark flags M y marks (k - 1)) e ∙ node-right marks (k - 1) (omega arith) (λ y c d. done y (omega arith) d)))
+        (q ∙ ap (λ (y : ℕ). nodeMark table clear M y marks (k - 1)) e ∙ node-right marks (k - 1) (omega arith) (λ y c d. done y (omega arith) d)))
         (λ nz. getD-set-other marks (k - 1) x v 0 nz ∙ done x (omega (arith, nz)) b)
         (eq-or-ne x (k - 1))
 
-    pub marked-all : (marks : List ℕ) (k : ℕ) → length marks ≡ 2 ^ suc h → k ≤ 0 → Marked marks k → marks ≡ marksOf h M (flagged flags)
+    pub marked-all : (marks : List ℕ) (k : ℕ) → length marks ≡ 2 ^ suc h → k ≤ 0 → Marked marks k → marks ≡ marksOf h M (hiddenBy table clear)
     unfolding Marked marksOf
     marked-all marks k l z done =
-        ext-getD 0 marks (tabulate (2 ^ suc h) (markOf h M (flagged flags))) (l ∙ sym (length-tabulate (2 ^ suc h) (markOf h M (flagged flags))))
-        (λ i w. done i (omega arith) (omega arith) ∙ sym (getD-tabulate (2 ^ suc h) (markOf h M (flagged flags)) i 0 (omega arith)))
+        ext-getD 0 marks (tabulate (2 ^ suc h) (markOf h M (hiddenBy table clear))) (l ∙ sym (length-tabulate (2 ^ suc h) (markOf h M (hiddenBy table clear))))
+        (λ i w. done i (omega arith) (omega arith) ∙ sym (getD-tabulate (2 ^ suc h) (markOf h M (hiddenBy table clear)) i 0 (omega arith)))
 
 -- the mark of a leaf, and of a node, by the code's tests
-module _ (flags : List ℕ) (m i : ℕ) where
-  pub mark-spare : m ≤ i → 0 ≡ leafMark flags m i
+module _ (table : List ℕ) (clear m i : ℕ) where
+  pub mark-spare : m ≤ i → 0 ≡ leafMark table clear m i
   unfolding leafMark
   mark-spare w = rw (le-ltb i m w)
 
-  pub mark-shown : i < m → getD flags i 0 ≡ 0 → 1 ≡ leafMark flags m i
+  pub mark-shown : i < m → getD table i 0 ≡ clear → 1 ≡ leafMark table clear m i
   unfolding leafMark
-  mark-shown w e = rw (lt-ltb i m w, eq-eqb (getD flags i 0) 0 e)
+  mark-shown w e = rw (lt-ltb i m w, eq-eqb (getD table i 0) clear e)
 
-  pub mark-hid : i < m → (getD flags i 0 ≡ 0 → ⊥) → 2 ≡ leafMark flags m i
+  pub mark-hid : i < m → (getD table i 0 ≡ clear → ⊥) → 2 ≡ leafMark table clear m i
   unfolding leafMark
-  mark-hid w e = rw (lt-ltb i m w, ne-eqb (getD flags i 0) 0 e)
+  mark-hid w e = rw (lt-ltb i m w, ne-eqb (getD table i 0) clear e)
 
-module _ (flags : List ℕ) (m leaves : ℕ) (marks : List ℕ) (k : ℕ) where
-  pub mark-of-leaf : leaves ≤ k → leafMark flags m (k - leaves) ≡ nodeMark flags m leaves marks k
+module _ (table : List ℕ) (clear : ℕ) (m leaves : ℕ) (marks : List ℕ) (k : ℕ) where
+  pub mark-of-leaf : leaves ≤ k → leafMark table clear m (k - leaves) ≡ nodeMark table clear m leaves marks k
   unfolding nodeMark
   mark-of-leaf w = rw (le-leb leaves k w)
 
-  pub mark-of-none : k < leaves → k ≡ 0 → 0 ≡ nodeMark flags m leaves marks k
+  pub mark-of-none : k < leaves → k ≡ 0 → 0 ≡ nodeMark table clear m leaves marks k
   unfolding nodeMark
   mark-of-none w e = rw (lt-leb leaves k w, eq-eqb k 0 e)
 
-  pub mark-of-pair : k < leaves → (k ≡ 0 → ⊥) → bitOr (getD marks (2 * k) 0) (getD marks (2 * k + 1) 0) ≡ nodeMark flags m leaves marks k
+  pub mark-of-pair : k < leaves → (k ≡ 0 → ⊥) → bitOr (getD marks (2 * k) 0) (getD marks (2 * k + 1) 0) ≡ nodeMark table clear m leaves marks k
   unfolding nodeMark
   mark-of-pair w e = rw (lt-leb leaves k w, ne-eqb k 0 e)
 

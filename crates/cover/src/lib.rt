@@ -1,12 +1,16 @@
 // The nodes of a tree that are opened for a set of hidden leaves, and their values.
 ghost use mathlib.Core.Path.{_≡_};
-ghost use mathlib.Core.List.{map, flatten};
-ghost use Prim.Native.Nat.{suc, _*_, _^_, _≤_, _<_};
-ghost use lib.ListN.{length};
+ghost use mathlib.Core.List.{_++_, map, flatten};
+ghost use Prim.Native.Nat.{suc, _+_, _*_, _^_, _≤_, _<_};
+ghost use lib.ListN.{length, replicate};
+ghost use Rattle.bits.specs.Bytes.{rowOf};
+ghost use Rattle.tree.specs.Tree.{children as «children-of»};
 ghost use Rattle.cover.specs.Cover.{those};
-ghost use Rattle.cover.specs.Masters.{height as «height-of», valueOf, childOf};
-ghost use Rattle.cover.specs.Steps.{flagged, marksOf, leafMark, nodeMark, openedBy, coverBy};
+ghost use Rattle.cover.specs.Masters.{height as «height-of», childOf};
+ghost use Rattle.cover.specs.Steps.{hiddenBy, marksOf, leafMark, nodeMark, openedBy, coverBy, nodesOf, putRow, givenBy, followOf};
+use bits::clear;
 use bits::copy;
+use bits::row;
 use tree::children;
 
 // The height of the tree over m masters.
@@ -23,24 +27,32 @@ pub fn height(m: u32) -> u32
     h
 }
 
-// The mark of leaf i, from its flag.
-fn leaf_mark(flags: &[u8], m: usize, i: usize) -> u8
-    requires { ⌜ m ≤ length (now flags) ⌝ }
-    ensures { λ r. ⌜ r ≡ leafMark (now (flags .entry)) m i ⌝ }
+// The leaves of a tree of height h.
+pub fn leaves(h: u32) -> usize
+    requires { ⌜ h ≤ 15 ⌝ }
+    ensures { λ r. ⌜ r ≡ 2 ^ h ⌝ }
+{
+    1 << h
+}
+
+// The mark of leaf i, from its entry in the table.
+fn leaf_mark(table: &[u8], none: u8, m: usize, i: usize) -> u8
+    requires { ⌜ m ≤ length (now table) ⌝ }
+    ensures { λ r. ⌜ r ≡ leafMark (now (table .entry)) none m i ⌝ }
 {
     if i >= m {
         return 0;
     }
-    if flags[i] == 0 { 1 } else { 2 }
+    if table[i] == none { 1 } else { 2 }
 }
 
-// The mark of node k, from its leaf's flag or from its children's marks.
-fn node_mark(flags: &[u8], m: usize, leaves: usize, marks: &[u8], k: usize) -> u8
-    requires { ⌜ (m ≤ length (now flags)) × ((length (now marks) ≡ 2 * leaves) × (k < length (now marks))) ⌝ }
-    ensures { λ r. ⌜ r ≡ nodeMark (now (flags .entry)) m leaves (now (marks .entry)) k ⌝ }
+// The mark of node k, from its leaf's entry or from its children's marks.
+fn node_mark(table: &[u8], none: u8, m: usize, leaves: usize, marks: &[u8], k: usize) -> u8
+    requires { ⌜ (m ≤ length (now table)) × ((length (now marks) ≡ 2 * leaves) × (k < length (now marks))) ⌝ }
+    ensures { λ r. ⌜ r ≡ nodeMark (now (table .entry)) none m leaves (now (marks .entry)) k ⌝ }
 {
     if k >= leaves {
-        return leaf_mark(flags, m, k - leaves);
+        return leaf_mark(table, none, m, k - leaves);
     }
     if k == 0 {
         return 0;
@@ -48,16 +60,17 @@ fn node_mark(flags: &[u8], m: usize, leaves: usize, marks: &[u8], k: usize) -> u
     marks[2 * k] | marks[2 * k + 1]
 }
 
-// The marks of all nodes of a tree of height h, the last first. Flags that are not 0 say which of the first m leaves are hidden.
-pub fn mark(h: u32, flags: &[u8], m: usize, marks: &mut [u8])
-    requires { ⌜ (m ≤ length (now flags)) × (length (now marks) ≡ 2 ^ suc h) ⌝ }
-    ensures { λ _. ⌜ now (marks .exit) ≡ marksOf h m (flagged (now (flags .entry))) ⌝ }
+// The marks of all nodes of a tree of height h, the last first. Of the first m leaves those are hidden whose entry in the table is not
+// the one that stands for none.
+pub fn mark(h: u32, table: &[u8], none: u8, m: usize, marks: &mut [u8])
+    requires { ⌜ (m ≤ length (now table)) × (length (now marks) ≡ 2 ^ suc h) ⌝ }
+    ensures { λ _. ⌜ now (marks .exit) ≡ marksOf h m (hiddenBy (now (table .entry)) none) ⌝ }
 {
     let leaves = marks.len() / 2;
     let mut k = marks.len();
     while k > 0 {
         k -= 1;
-        marks[k] = node_mark(flags, m, leaves, marks, k);
+        marks[k] = node_mark(table, none, m, leaves, marks, k);
     }
 }
 
@@ -84,39 +97,45 @@ pub fn opened_before(marks: &[u8], n: usize) -> usize
     r
 }
 
-// The value of node k from that of its parent, in its place.
-fn child(j: u32, k: u32, value: &mut [u8])
-    requires { ⌜ length (now value) ≡ 16 ⌝ }
-    ensures { λ _. ⌜ now (value .exit) ≡ childOf j k (now (value .entry)) ⌝ }
+// The first two rows: zeros, and the root.
+fn put_root(root: &[u8], nodes: &mut [u8])
+    requires { ⌜ (length (now root) ≡ 16) × (32 ≤ length (now nodes)) ⌝ }
+    ensures { λ _. ⌜ now (nodes .exit) ≡ putRow 32 (now (nodes .entry)) 0 (replicate 16 0 ++ now (root .entry)) ⌝ }
 {
-    let mut c = [0u8; 32];
-    children(j, k / 2, value, &mut c);
-    if k % 2 == 0 {
-        copy(&c[..16], value);
-    } else {
-        copy(&c[16..], value);
+    clear(&mut nodes[..16]);
+    copy(root, &mut nodes[16..32]);
+}
+
+// The two nodes below node k, in their rows.
+fn spread(j: u32, k: usize, nodes: &mut [u8])
+    requires { ⌜ (1 ≤ k) × ((k < 32768) × (k * 32 + 32 ≤ length (now nodes))) ⌝ }
+    ensures { λ _. ⌜ now (nodes .exit) ≡ putRow 32 (now (nodes .entry)) k («children-of» j k (rowOf (now (nodes .entry)) 16 k)) ⌝ }
+{
+    let mut value = [0u8; 16];
+    copy(row(nodes, 16, k), &mut value);
+    let a = k * 32;
+    let e = a + 32;
+    children(j, k as u32, &value, &mut nodes[a..e]);
+}
+
+// The nodes of a tree of height h, each in its row.
+pub fn grow(j: u32, h: u32, root: &[u8], nodes: &mut [u8])
+    requires { ⌜ (h ≤ 15) × ((length (now root) ≡ 16) × (length (now nodes) ≡ 16 * 2 ^ suc h)) ⌝ }
+    ensures { λ _. ⌜ now (nodes .exit) ≡ nodesOf (childOf j) (now (root .entry)) h ⌝ }
+{
+    put_root(root, nodes);
+    let end = leaves(h);
+    let mut k: usize = 1;
+    while k < end {
+        spread(j, k, nodes);
+        k += 1;
     }
 }
 
-// The value of node k, at most h levels below the root.
-fn node_value(j: u32, root: &[u8], h: u32, k: u32, out: &mut [u8])
-    requires { ⌜ (length (now root) ≡ 16) × (length (now out) ≡ 16) ⌝ }
-    ensures { λ _. ⌜ now (out .exit) ≡ valueOf (childOf j) (now (root .entry)) h k ⌝ }
-{
-    if h == 0 {
-        copy(root, out);
-    } else if k < 2 {
-        copy(root, out);
-    } else {
-        node_value(j, root, h - 1, k / 2, out);
-        child(j, k, out);
-    }
-}
-
-// The values of the opened nodes, ascending.
-pub fn open_cover(j: u32, root: &[u8], h: u32, marks: &[u8], out: &mut [u8])
-    requires { ⌜ (length (now root) ≡ 16) × ((length (now marks) ≤ 65536) × (length (now out) ≡ 16 * length (coverBy (now marks)))) ⌝ }
-    ensures { λ _. ⌜ now (out .exit) ≡ flatten (map (valueOf (childOf j) (now (root .entry)) h) (coverBy (now (marks .entry)))) ⌝ }
+// The values of the opened nodes, ascending, from those of all nodes.
+pub fn gather(marks: &[u8], nodes: &[u8], out: &mut [u8])
+    requires { ⌜ (length (now nodes) ≡ 16 * length (now marks)) × (length (now out) ≡ 16 * length (coverBy (now marks))) ⌝ }
+    ensures { λ _. ⌜ now (out .exit) ≡ flatten (map (rowOf (now (nodes .entry)) 16) (coverBy (now (marks .entry)))) ⌝ }
 {
     let mut at: usize = 0;
     let mut k: usize = 0;
@@ -124,9 +143,73 @@ pub fn open_cover(j: u32, root: &[u8], h: u32, marks: &[u8], out: &mut [u8])
         let o = is_opened(marks, k);
         if o {
             let end = at + 16;
-            node_value(j, root, h, k as u32, &mut out[at..end]);
+            copy(row(nodes, 16, k), &mut out[at..end]);
             at = end;
         }
+        k += 1;
+    }
+}
+
+// Node x from the values of the opened nodes: number n of these if it is opened, else zeros. The number of the next value.
+fn take_value(marks: &[u8], x: usize, values: &[u8], n: usize, out: &mut [u8]) -> usize
+    requires { ⌜ (x < length (now marks)) × ((length (now values) ≡ 16 * length (coverBy (now marks))) × ((n ≡ length (those x (openedBy (now marks)))) × (length (now out) ≡ 16))) ⌝ }
+    ensures { λ r. ⌜ (r ≡ length (those (suc x) (openedBy (now (marks .entry))))) × (now (out .exit) ≡ givenBy (now (marks .entry)) (now (values .entry)) x) ⌝ }
+{
+    let o = is_opened(marks, x);
+    if o {
+        copy(row(values, 16, n), out);
+        return n + 1;
+    }
+    clear(out);
+    n
+}
+
+// The two nodes below node k: by the node rule where it has unhidden leaves alone, else from the values of the opened nodes, of which n
+// came before. The number of the next value.
+fn follow_pair(
+    j: u32,
+    k: usize,
+    marks: &[u8],
+    value: &[u8],
+    values: &[u8],
+    n: usize,
+    out: &mut [u8],
+) -> usize
+    requires { ⌜ ((1 ≤ k) × ((k < 32768) × (2 * k + 1 < length (now marks)))) × ((length (now values) ≡ 16 * length (coverBy (now marks))) × ((n ≡ length (those (2 * k) (openedBy (now marks)))) × (length (now out) ≡ 32))) ⌝ }
+    ensures { λ r. ⌜ (r ≡ length (those (2 * k + 2) (openedBy (now (marks .entry))))) × (now (out .exit) ≡ followOf j (now (marks .entry)) (now (values .entry)) (2 * k) (now (value .entry)) ++ followOf j (now (marks .entry)) (now (values .entry)) (2 * k + 1) (now (value .entry))) ⌝ }
+{
+    if marks[k] == 1 {
+        children(j, k as u32, value, out);
+        return n;
+    }
+    let m = take_value(marks, 2 * k, values, n, &mut out[..16]);
+    take_value(marks, 2 * k + 1, values, m, &mut out[16..])
+}
+
+// The two nodes below node k, in their rows.
+fn follow(j: u32, k: usize, marks: &[u8], values: &[u8], n: usize, nodes: &mut [u8]) -> usize
+    requires { ⌜ ((1 ≤ k) × ((k < 32768) × (2 * k + 1 < length (now marks)))) × ((length (now values) ≡ 16 * length (coverBy (now marks))) × ((n ≡ length (those (2 * k) (openedBy (now marks)))) × (k * 32 + 32 ≤ length (now nodes)))) ⌝ }
+    ensures { λ r. ⌜ (r ≡ length (those (2 * k + 2) (openedBy (now (marks .entry))))) × (now (nodes .exit) ≡ putRow 32 (now (nodes .entry)) k (followOf j (now (marks .entry)) (now (values .entry)) (2 * k) (rowOf (now (nodes .entry)) 16 k) ++ followOf j (now (marks .entry)) (now (values .entry)) (2 * k + 1) (rowOf (now (nodes .entry)) 16 k))) ⌝ }
+{
+    let mut value = [0u8; 16];
+    copy(row(nodes, 16, k), &mut value);
+    let a = k * 32;
+    let e = a + 32;
+    follow_pair(j, k, marks, &value, values, n, &mut nodes[a..e])
+}
+
+// The nodes that follow from the values of the opened nodes, each in its row, with zeros in the others.
+pub fn regrow(j: u32, h: u32, marks: &[u8], values: &[u8], nodes: &mut [u8])
+    requires { ⌜ ((h ≤ 15) × (length (now marks) ≡ 2 ^ suc h)) × ((length (now values) ≡ 16 * length (coverBy (now marks))) × (length (now nodes) ≡ 16 * 2 ^ suc h)) ⌝ }
+    ensures { λ _. ⌜ now (nodes .exit) ≡ nodesOf (followOf j (now (marks .entry)) (now (values .entry))) (replicate 16 0) h ⌝ }
+{
+    let none = [0u8; 16];
+    put_root(&none, nodes);
+    let end = leaves(h);
+    let mut n = opened_before(marks, 2);
+    let mut k: usize = 1;
+    while k < end {
+        n = follow(j, k, marks, values, n, nodes);
         k += 1;
     }
 }
