@@ -46,7 +46,8 @@ enum wv_answer {
     WV_REFUSED_UNUSED_BITS = 7,
     /* the number of instances, of chosen ones or of parties is not allowed */
     WV_REFUSED_COUNTS = 8,
-    /* there is no such party, or the cut is behind the last gate */
+    /* there is no such party or leaf, no leaf is hidden, or the cut is behind
+       the last gate */
     WV_REFUSED_PARTY = 9,
     /* the output is not the claimed one */
     WV_REFUSED_OUTPUT = 10,
@@ -91,7 +92,7 @@ enum wv_answer {
 #define WV_MAX_INSTANCE_NUMBER 65535
 #define WV_MAX_MESSAGE 4096      /* the longest message */
 #define WV_PROOF_HEADER_LEN 38
-#define WV_MAX_PROOF 621462      /* the longest proof; see wv_proof_len */
+#define WV_MAX_PROOF 621462      /* room for every proof; see wv_proof_len */
 #define WV_ROOT_LEN 16           /* also of a master and of a leaf */
 #define WV_DIGEST_LEN 32
 #define WV_MAX_SLOTS 255         /* a shelf page has 1 to 255 slots */
@@ -402,7 +403,9 @@ uint32_t wv_draw(uint8_t *page, size_t page_len, uint64_t count,
 /*
  * A tree of seeds has n leaves, one for each party; n is 2, 4, 8 or 16. The
  * number j of an instance is 0 to 65535. A wider number is refused, not cut
- * down.
+ * down. Never use 65535 for an instance: it is the number of the tree over the
+ * masters (wv_masters), and wv_expand(65535, n, root, ..) gives the masters of n
+ * instances. The instances of a proof have 0 to m - 1.
  */
 
 /*
@@ -427,6 +430,46 @@ uint32_t wv_expand(uint32_t j, uint32_t n,
 uint32_t wv_open(uint32_t j, uint32_t n, uint32_t p,
                  const uint8_t *master, size_t master_len,
                  uint8_t *siblings, size_t siblings_len);
+
+/*
+ * The masters of the m instances of a proof (2 to 512) are the leaves of one
+ * tree over the root (16 bytes). Its nodes have numbers: node 1 is the root, and
+ * nodes 2 k and 2 k + 1 are the two halves of the 32 bytes SHAKE128(2, 65535, k,
+ * value of node k), a byte 2 and two numbers of 16 bits, little-endian. With N
+ * for the least power of two that is at least m, the master of instance j is
+ * leaf j, which is node N + j; leaves from m on are spare. The number 65535 is
+ * this tree's: with it wv_expand and wv_open give its leaves and nodes, so no
+ * instance has it.
+ *
+ * To hide some of the m leaves, nodes are opened instead of the root: each node
+ * that has a leaf numbered under m and no hidden leaf at or below it while its
+ * parent has a hidden one. From these nodes every other leaf numbered under m
+ * follows, and no hidden one does; no fewer nodes do this.
+ */
+
+/*
+ * Writes the m masters to masters: 16 m bytes, instance 0 first. Refuses in this
+ * order:
+ *   8  m is not 2 to 512
+ *   6  the length of the root or of masters is not that
+ */
+uint32_t wv_masters(uint32_t m, const uint8_t *root, size_t root_len,
+                    uint8_t *masters, size_t masters_len);
+
+/*
+ * Opens all leaves but the hidden ones: writes the values of the opened nodes to
+ * nodes, 16 bytes each, in ascending order of their numbers. Hidden is a list
+ * of leaves, 16 bits each, little-endian, in any order; a leaf may be there more
+ * than once. If all m leaves are hidden, no node is opened, and nodes is of 0
+ * bytes. Refuses in this order:
+ *   8  m is not 2 to 512
+ *   9  hidden has no leaf (0 bytes or 1), or one numbered m or above
+ *   6  the root is not of 16 bytes, nodes is not of 16 bytes for each opened
+ *      node, or hidden has an odd number of bytes
+ */
+uint32_t wv_cover(uint32_t m, const uint8_t *hidden, size_t hidden_len,
+                  const uint8_t *root, size_t root_len,
+                  uint8_t *nodes, size_t nodes_len);
 
 /*
  * Derives the challenge of a proof: tau of m instances, each with its hidden
@@ -454,26 +497,32 @@ uint32_t wv_challenge(uint32_t m, uint32_t tau, uint32_t n,
  * is bound to the circuit file, to y and to a message of 0 to 4096 bytes. There
  * are m instances (2 to 512) of a run by n parties (2, 4, 8 or 16); a challenge
  * (wv_challenge) chooses tau of them (1 to m - 1), each with one party that
- * stays hidden. With oct(k) for k / 8, rounded up, and A for the number of AND
- * gates, a proof has at most
- *
- *   38 + 48 (m - tau)
- *      + tau (16 log2 n + oct(A) + 32 + oct(I) + oct(A + O))
- *
- * bytes, and oct(A) less for each chosen instance that hides the last party.
+ * stays hidden.
  *
  * All numbers are little-endian. A proof starts with m and tau (16 bits each),
- * n and a zero (one byte each) and h* (32 bytes). Then the instances follow in
- * ascending order. One that is not chosen has its master (16 bytes) and the
- * digest of its masked inputs and broadcasts (32). A chosen one has the
- * siblings of its tree (16 bytes for each level, top first), the corrections
- * unless the last party is hidden, the commitment of the hidden party (32), the
- * masked inputs, and the broadcast row of the hidden party.
+ * n and a zero (one byte each) and h* (32 bytes). Then come the nodes of the
+ * masters' tree that are opened (wv_cover) when the masters of the chosen
+ * instances are hidden, 16 bytes each, in ascending order of their numbers. Then
+ * the instances follow in ascending order. One that is not chosen has the digest
+ * of its masked inputs and broadcasts (32 bytes). A chosen one has the siblings
+ * of its tree (16 bytes for each level, top first), the corrections unless the
+ * last party is hidden, the commitment of the hidden party (32), the masked
+ * inputs, and the broadcast row of the hidden party.
+ *
+ * With oct(k) for k / 8, rounded up, and A for the number of AND gates, a proof
+ * with c opened nodes has
+ *
+ *   38 + 16 c + 32 (m - tau)
+ *      + tau (16 log2 n + oct(A) + 32 + oct(I) + oct(A + O))
+ *
+ * bytes, less oct(A) for each chosen instance that hides the last party. There
+ * are at most m - tau opened nodes.
  */
 
 /*
- * The most bytes that a proof can have, as above: the room that wv_prove asks
- * for. 0 if a number is out of its limits.
+ * The room that wv_prove asks for: the bytes as above, with m - tau opened nodes
+ * and no chosen instance that hides the last party. No proof is longer. 0 if a
+ * number is out of its limits.
  */
 static inline size_t wv_proof_len(uint32_t inputs, uint32_t outputs,
                                   uint32_t ands,
@@ -501,7 +550,7 @@ static inline size_t wv_proof_len(uint32_t inputs, uint32_t outputs,
  *    8  m is not 2 to 512, tau is not 1 to m - 1, or n is not 2, 4, 8 or 16
  *    6  the witness is not of I bits or y not of O bits, the message is longer
  *       than 4096 bytes, the root is not of 16 bytes, or proof has fewer bytes
- *       than a proof can have (wv_proof_len)
+ *       than wv_proof_len says
  *    7  an unused bit of the witness or of y is not zero
  *   10  the circuit does not give y for the witness
  */
@@ -526,7 +575,8 @@ uint32_t wv_prove(const uint8_t *circuit, size_t circuit_len,
  *    7  an unused bit of y is not zero
  *   11  the proof is shorter than 38 bytes, its m, tau or n is out of the
  *       limits, or its zero byte is not zero
- *   12  its length is not that of the parts that the challenge asks for
+ *   12  its length is not that of the opened nodes and the parts that the
+ *       challenge asks for
  *    7  an unused bit of corrections, masked inputs or a row in it is not zero
  *   10  the replay of a chosen instance has another output than y
  *   13  the h* over all instances is not the one in the proof

@@ -18,7 +18,10 @@ static void equal(const char *what, size_t found, size_t expected)
     failures++;
 }
 
-/* The paper's m10; then a table of the README; then the ends of the limits. */
+/*
+ * The room for the paper's m10; then some counts of the README's table; then
+ * the ends of the limits.
+ */
 static void proof_lengths(void)
 {
     equal("K", wv_proof_len(2, 1, 1, 4, 1, 2), 233);
@@ -65,7 +68,10 @@ static const uint8_t k[18] = {
     2, 0, 1, 0, 1, 0, 1, 0, 2, 0, 2, 0, 0, 0, 1, 0, 0, 0
 };
 
-/* The room that wv_prove asks for is what wv_proof_len says, and no less. */
+/*
+ * The room that wv_prove asks for is what wv_proof_len says, and no less. The
+ * proof has 217 bytes if party 0 is hidden, 216 if party 1 is.
+ */
 static void prove_in(size_t proof_len, uint32_t expected)
 {
     static uint8_t proof[233];
@@ -77,9 +83,52 @@ static void prove_in(size_t proof_len, uint32_t expected)
                                proof, proof_len, &written);
 
     equal("prove", answer, expected);
-    if (answer == WV_ACCEPTED)
+    if (answer == WV_ACCEPTED) {
+        equal("its length", written == 216 || written == 217, 1);
         equal("check", wv_check(k, sizeof k, &y, 1, &message, 1,
                                 proof, (size_t)written), WV_ACCEPTED);
+    }
+}
+
+/*
+ * The masters' tree as the header says: the children of node k are SHAKE128 of
+ * a byte 2, 65535, k and its value. Five masters are leaves of a tree of eight.
+ * With leaf 2 hidden, nodes 3, 4 and 11 are opened.
+ */
+static void masters_and_cover(void)
+{
+    static const uint8_t root[WV_ROOT_LEN] = {3};
+    uint8_t values[16 * 16], input[21] = {2, 255, 255};
+    uint8_t masters[5 * 16], nodes[3 * 16];
+    const uint8_t hidden[7] = {2, 0, 2, 0, 2, 0, 0}, beyond[2] = {5, 0};
+    uint8_t node;
+
+    memcpy(values + 16, root, 16);
+    for (node = 1; node < 8; node++) {
+        input[3] = node;
+        memcpy(input + 5, values + 16 * node, 16);
+        wv_shake128(input, sizeof input, values + 32 * node, 32);
+    }
+    equal("masters", wv_masters(5, root, sizeof root, masters, sizeof masters),
+          WV_ACCEPTED);
+    equal("their bytes", memcmp(masters, values + 16 * 8, 16 * 5) == 0, 1);
+    equal("cover", wv_cover(5, hidden, 6, root, sizeof root, nodes, 48),
+          WV_ACCEPTED);
+    equal("node 3", memcmp(nodes, values + 16 * 3, 16) == 0, 1);
+    equal("node 4", memcmp(nodes + 16, values + 16 * 4, 16) == 0, 1);
+    equal("node 11", memcmp(nodes + 32, values + 16 * 11, 16) == 0, 1);
+    equal("masters of one instance",
+          wv_masters(1, root, sizeof root, masters, 16), WV_REFUSED_COUNTS);
+    equal("a short buffer", wv_masters(5, root, sizeof root, masters, 79),
+          WV_REFUSED_LENGTH);
+    equal("no leaf", wv_cover(5, hidden, 1, root, sizeof root, nodes, 48),
+          WV_REFUSED_PARTY);
+    equal("leaf 5 of 5", wv_cover(5, beyond, 2, root, sizeof root, nodes, 48),
+          WV_REFUSED_PARTY);
+    equal("an odd byte", wv_cover(5, hidden, 7, root, sizeof root, nodes, 48),
+          WV_REFUSED_LENGTH);
+    equal("two nodes", wv_cover(5, hidden, 6, root, sizeof root, nodes, 32),
+          WV_REFUSED_LENGTH);
 }
 
 /* Buffers that are only read may overlap: k[2] is 1, which is y here. */
@@ -206,6 +255,7 @@ int main(void)
     prove_in(wv_proof_len(2, 1, 1, 4, 1, 2), WV_ACCEPTED);
     prove_in(wv_proof_len(2, 1, 1, 4, 1, 2) - 1, WV_REFUSED_LENGTH);
     read_buffers_overlap();
+    masters_and_cover();
     challenge_input();
     chains();
     texts();

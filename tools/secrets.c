@@ -201,6 +201,23 @@ static void test_tree(void)
     follows("siblings", siblings, sizeof siblings);
 }
 
+/*
+ * All masters, and the cover of leaves 1, 4 and 8 of nine. The root is hidden;
+ * which leaves are hidden is no secret.
+ */
+static void test_masters(void)
+{
+    static const uint8_t leaves[6] = {8, 0, 1, 0, 4, 0};
+    uint8_t root[16], masters[16 * 9], nodes[16 * 4];
+
+    hide_bits(root, 128);
+    accepted("masters", wv_masters(9, root, 16, masters, sizeof masters));
+    follows("masters", masters, sizeof masters);
+    accepted("cover", wv_cover(9, leaves, sizeof leaves, root, 16,
+                               nodes, sizeof nodes));
+    follows("nodes", nodes, sizeof nodes);
+}
+
 /* A page of three spare slots; roots are hidden, chains and counts are not. */
 static void test_shelf(void)
 {
@@ -362,6 +379,7 @@ int main(int argc, char **argv)
     }
     test_hashes();
     test_tree();
+    test_masters();
     test_shelf();
     accepted("challenge of a declared h*", challenge(1));
     return failures == 0 ? 0 : 1;

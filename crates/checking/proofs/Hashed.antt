@@ -3,7 +3,7 @@
 use mathlib.Core.List.{List, flatten}
 use Prim.Native.Nat.{ℕ, zero, suc, _+_}
 use native.Mathlib.Omega.{arith}
-use lib.ListN.{take, drop}
+use lib.ListN.{drop}
 use lib.Seq.{getD-drop}
 use Rattle.bits.specs.Bits.{tabulate}
 use Rattle.keccak.proofs.Absorbing.{Bytes}
@@ -28,20 +28,20 @@ rows-bytes zero f h k = omega arith
 rows-bytes (suc n) f h k = bytes-append (f 0) (flatten (tabulate n (λ i. f (suc i)))) (h 0) (rows-bytes n (λ i. f (suc i)) (λ i. h (suc i))) k
 
 -- h_j
-pub commitments-bytes : (c : Circuit) (n j : ℕ) (part : List ℕ) (a : Asked) → Bytes (stretchCommitments c n j part a)
+pub commitments-bytes : (c : Circuit) (n j : ℕ) (master part : List ℕ) (a : Asked) → Bytes (stretchCommitments c n j master part a)
 unfolding stretchCommitments masterCommitments commitmentsDigest
-commitments-bytes c n j part opened =
-    sha3-bytes (commitmentsInput j (commitmentsOf n j (masterSeeds n j (take 16 part)) (masterCorrections c n j (take 16 part))))
-commitments-bytes c n j part (hiding p) = sha3-bytes (commitmentsInput j (openedCommitments c n j p part))
+commitments-bytes c n j master part opened =
+    sha3-bytes (commitmentsInput j (commitmentsOf n j (masterSeeds n j master) (masterCorrections c n j master)))
+commitments-bytes c n j master part (hiding p) = sha3-bytes (commitmentsInput j (openedCommitments c n j p part))
 
 -- h'_j
 pub online-bytes : (c : Circuit) (n j : ℕ) (part : List ℕ) → Bytes part → (a : Asked) → Bytes (stretchOnline c n j part a)
 unfolding stretchOnline onlineDigest
-online-bytes c n j part h opened = rest-bytes 16 part h
+online-bytes c n j part h opened = h
 online-bytes c n j part h (hiding p) = sha3-bytes (onlineInput j (maskedPart c n p part) (rowsOf n (openedRun c n j p part)))
 
 -- a stretch
-pub stretch-bytes : (c : Circuit) (n : ℕ) (ask : ℕ → Asked) (proof : List ℕ) → Bytes proof → (j : ℕ) → Bytes (stretchAt c n ask proof j)
+pub stretch-bytes : (c : Circuit) (M n : ℕ) (ask : ℕ → Asked) (proof : List ℕ) → Bytes proof → (j : ℕ) → Bytes (stretchAt c M n ask proof j)
 unfolding stretchAt
-stretch-bytes c n ask proof h j =
-    front-bytes (stretchBytes c n (ask j)) (drop (stretchStart c n ask j) proof) (rest-bytes (stretchStart c n ask j) proof h)
+stretch-bytes c M n ask proof h j =
+    front-bytes (stretchBytes c n (ask j)) (drop (stretchStart c M n ask j) proof) (rest-bytes (stretchStart c M n ask j) proof h)

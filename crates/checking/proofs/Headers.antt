@@ -14,7 +14,7 @@ use Rattle.parties.specs.Parties.{heightOf, isPartyCount}
 use Rattle.parties.proofs.Counts.{Sizes, sizes}
 use Rattle.seeds.specs.Operations.{areCounts}
 use Rattle.seeds.proofs.Instances.{Fit, counts-fit}
-use Rattle.honest.proofs.Proved.{has-height}
+use Rattle.proof.proofs.Passing.{has-height}
 use Rattle.proof.specs.File.{headerM, headerTau, headerN, headerZero, headerHstar, goodHeader}
 use Rattle.checking.specs.Steps.{Headed}
 
@@ -75,7 +75,3 @@ module _ (M tau n : ℕ) (y message proof : List ℕ) (head : Headed M tau n y m
   -- the instances are few
   pub headed-few : M ≤ 512
   headed-few = counts-fit M tau headed-counts .most
-
-  -- and so are the bytes of a challenge
-  pub headed-choices : 3 * tau ≤ 1533
-  headed-choices = let fit : Fit M tau = counts-fit M tau headed-counts in omega (arith, fit .most, fit .below)

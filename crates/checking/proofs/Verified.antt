@@ -1,13 +1,12 @@
 -- The instances of a proof, checked one after the other: their stretches, their tests, and their digests taken in.
 -- Assumes nothing.
 use mathlib.Core.Path.{_≡_, refl, sym, ap, ap₂, _∙_}
-use mathlib.Core.Bool.{Bool, true, _&&_}
+use mathlib.Core.Bool.{Bool, true, false, _&&_}
 use mathlib.Core.List.{List, [], _∷_, _++_, flatten, append-assoc}
 use Prim.Native.Nat.{ℕ, _+_, _-_, _≤_, _<_}
 use native.Mathlib.Numerals.{add-one}
 use native.Mathlib.Omega.{arith}
-use lib.ListN.{length, take, drop, length-drop}
-use lib.Seq.{length-take-le, take-all}
+use lib.ListN.{length, take, drop}
 use Rattle.bits.specs.Bits.{tabulate}
 use Rattle.bits.proofs.Rows.{flatten-more}
 use Rattle.keccak.specs.declared.sponge.Sponge.{Sponge}
@@ -21,38 +20,26 @@ use Rattle.hashing.specs.Digest.{transcriptOf}
 use Rattle.hashing.specs.Steps.{taken, given}
 use Rattle.hashing.proofs.Digests.{taken-more, taken-room, given-taken}
 use Rattle.hashing.proofs.Hashes.{bytes-append, bytes-one}
-use Rattle.instance.specs.Instance.{Asked, hiding, masterCommitments}
+use Rattle.instance.specs.Instance.{Asked, opened, hiding, isChosen, commitmentsDigest, masterCommitments}
 use Rattle.instance.specs.Stretch.{stretchBytes}
-use Rattle.instance.specs.Opened.{stretchCommitments, stretchOnline, stretchUnused, stretchOutput}
-use Rattle.proof.specs.Steps.{askOf}
+use Rattle.instance.specs.Opened.{openedCommitments, stretchCommitments, stretchOnline, stretchUnused, stretchOutput}
+use Rattle.proof.specs.Steps.{askOf, masterIn}
 use Rattle.proof.specs.Protocol.{hstarOf}
-use Rattle.proof.specs.File.{stretchStart, proofBytes, stretchAt}
+use Rattle.proof.specs.File.{hides, masterAt, stretchStart, proofBytes, stretchAt}
 use Rattle.proof.specs.Check.{every}
 use Rattle.proof.proofs.Sizes.{ask-opened, ask-hiding, start-more}
-use Rattle.honest.proofs.Inside.{stretch-inside, length-stretchAt}
-use Rattle.honest.proofs.Passing.{every-at}
+use Rattle.proof.proofs.Inside.{stretch-inside, length-stretchAt}
+use Rattle.proof.proofs.Passing.{every-at}
 use Rattle.checking.proofs.Hashed.{rows-bytes, commitments-bytes, online-bytes, stretch-bytes}
 
--- the part to the end
-part-rest : (a : ℕ) (s : List ℕ) → take (length s - a) (drop a s) ≡ drop a s
-part-rest a s = take-all (length s - a) (drop a s) (omega (arith, length-drop a s))
-
 -- the stretch of an instance, of which p is asked
-module _ (c : Circuit) (n j p : ℕ) (y part : List ℕ) where
+module _ (c : Circuit) (n j p : ℕ) (y master part : List ℕ) where
   -- the instance is not chosen
   module _ (e : p ≡ n) where
-    -- its stretch is 48 bytes
-    pub open-size : length part ≡ stretchBytes c n (askOf n p) → length part ≡ 48
+    -- its stretch is 32 bytes
+    pub open-online : length part ≡ stretchBytes c n (askOf n p) → 32 ≡ length part
     unfolding stretchBytes
-    open-size h = h ∙ ap (stretchBytes c n) (ask-opened n p e)
-
-    -- of which 16 are the master
-    pub open-master : length part ≡ stretchBytes c n (askOf n p) → length (take 16 part) ≡ 16
-    open-master h = length-take-le 16 part (omega (arith, open-size h))
-
-    -- and 32 the digest
-    pub open-online : length part ≡ stretchBytes c n (askOf n p) → 32 ≡ length (take (length part - 16) (drop 16 part))
-    open-online h = omega (arith, open-size h, ap length (part-rest 16 part), length-drop 16 part)
+    open-online h = sym (h ∙ ap (stretchBytes c n) (ask-opened n p e))
 
     -- it has no unused bits
     pub open-unused : true ≡ stretchUnused c n part (askOf n p)
@@ -60,13 +47,13 @@ module _ (c : Circuit) (n j p : ℕ) (y part : List ℕ) where
     open-unused = ap (stretchUnused c n part) (sym (ask-opened n p e))
 
     -- its answers
-    pub open-answer : (h o : List ℕ) → h ≡ masterCommitments c n j (take 16 part) → o ≡ take (length part - 16) (drop 16 part)
+    pub open-answer : (h o : List ℕ) → h ≡ masterCommitments c n j master → o ≡ part
         → (true ≡ stretchOutput c n j y part (askOf n p))
-        × ((h ≡ stretchCommitments c n j part (askOf n p)) × (o ≡ stretchOnline c n j part (askOf n p)))
+        × ((h ≡ stretchCommitments c n j master part (askOf n p)) × (o ≡ stretchOnline c n j part (askOf n p)))
     unfolding stretchOutput stretchCommitments stretchOnline
     open-answer h o a b = (
       ap (stretchOutput c n j y part) (sym (ask-opened n p e)),
-      (a ∙ ap (stretchCommitments c n j part) (sym (ask-opened n p e)), b ∙ (part-rest 16 part ∙ ap (stretchOnline c n j part) (sym (ask-opened n p e)))),
+      (a ∙ ap (stretchCommitments c n j master part) (sym (ask-opened n p e)), b ∙ ap (stretchOnline c n j part) (sym (ask-opened n p e))),
     )
 
   -- it hides p
@@ -86,13 +73,14 @@ module _ (c : Circuit) (n j p : ℕ) (y part : List ℕ) where
     -- its answers
     pub hidden-answer : (b : Bool) (h o : List ℕ)
         → (b ≡ stretchOutput c n j y part (hiding p))
-        × ((h ≡ stretchCommitments c n j part (hiding p)) × (o ≡ stretchOnline c n j part (hiding p)))
+        × ((h ≡ commitmentsDigest j (openedCommitments c n j p part)) × (o ≡ stretchOnline c n j part (hiding p)))
         → (b ≡ stretchOutput c n j y part (askOf n p))
-        × ((h ≡ stretchCommitments c n j part (askOf n p)) × (o ≡ stretchOnline c n j part (askOf n p)))
+        × ((h ≡ stretchCommitments c n j master part (askOf n p)) × (o ≡ stretchOnline c n j part (askOf n p)))
+    unfolding stretchCommitments
     hidden-answer b h o a = (
       a .0 ∙ ap (stretchOutput c n j y part) (sym (ask-hiding n p e)),
       (
-        a .1 .0 ∙ ap (stretchCommitments c n j part) (sym (ask-hiding n p e)),
+        a .1 .0 ∙ ap (stretchCommitments c n j master part) (sym (ask-hiding n p e)),
         a .1 .1 ∙ ap (stretchOnline c n j part) (sym (ask-hiding n p e)),
       ),
     )
@@ -111,23 +99,30 @@ every-turn f j a b r p q e = e ∙ (ap₂ _&&_ p q ∙ ap (λ (k : ℕ). every k
 pub every-end : (f : ℕ → Bool) (j m : ℕ) (r : Bool) → j ≡ m → r ≡ every j f → r ≡ every m f
 every-end f j m r e q = q ∙ ap (λ (k : ℕ). every k f) e
 
+-- the master of a chosen instance is not looked at
+pub master-unseen : (c : Circuit) (n j : ℕ) (m m′ part : List ℕ) (a : Asked) → (isChosen a ≡ false → m ≡ m′)
+    → stretchCommitments c n j m part a ≡ stretchCommitments c n j m′ part a
+unfolding stretchCommitments isChosen
+master-unseen c n j m m′ part opened h = ap (masterCommitments c n j) (h refl)
+master-unseen c n j m m′ part (hiding p) h = refl
+
 -- what is made of each instance of a proof
-module _ (c : Circuit) (n : ℕ) (ask : ℕ → Asked) (proof : List ℕ) where
+module _ (c : Circuit) (M n : ℕ) (ask : ℕ → Asked) (proof : List ℕ) where
   abbrev pub unusedAt : ℕ → Bool
-  unusedAt i = stretchUnused c n (stretchAt c n ask proof i) (ask i)
+  unusedAt i = stretchUnused c n (stretchAt c M n ask proof i) (ask i)
 
   abbrev pub outputAt : List ℕ → ℕ → Bool
-  outputAt y i = stretchOutput c n i y (stretchAt c n ask proof i) (ask i)
+  outputAt y i = stretchOutput c n i y (stretchAt c M n ask proof i) (ask i)
 
   abbrev pub commitmentsAt : ℕ → List ℕ
-  commitmentsAt i = stretchCommitments c n i (stretchAt c n ask proof i) (ask i)
+  commitmentsAt i = stretchCommitments c n i (masterAt M ask proof i) (stretchAt c M n ask proof i) (ask i)
 
   abbrev pub onlineAt : ℕ → List ℕ
-  onlineAt i = stretchOnline c n i (stretchAt c n ask proof i) (ask i)
+  onlineAt i = stretchOnline c n i (stretchAt c M n ask proof i) (ask i)
 
 -- instance j, of which a is asked: its stretch is the b bytes from k on
 module _ (c : Circuit) (n M : ℕ) (ask : ℕ → Asked) (proof : List ℕ) (size : length proof ≡ proofBytes c M n ask) (j k b : ℕ) (a : Asked)
-    (low : j < M) (place : k ≡ stretchStart c n ask j) (is : a ≡ ask j) (bytes : b ≡ stretchBytes c n a) where
+    (low : j < M) (place : k ≡ stretchStart c M n ask j) (is : a ≡ ask j) (bytes : b ≡ stretchBytes c n a) where
   asked-bytes : b ≡ stretchBytes c n (ask j)
   asked-bytes = bytes ∙ ap (stretchBytes c n) is
 
@@ -136,11 +131,11 @@ module _ (c : Circuit) (n M : ℕ) (ask : ℕ → Asked) (proof : List ℕ) (siz
   turn-inside = omega (arith, stretch-inside c n M ask j low, asked-bytes, place, size)
 
   -- where the next one starts
-  pub turn-place : k + b ≡ stretchStart c n ask (j + 1)
-  turn-place = start-more c n ask j k b place asked-bytes
+  pub turn-place : k + b ≡ stretchStart c M n ask (j + 1)
+  turn-place = start-more c M n ask j k b place asked-bytes
 
   -- it is the instance's
-  turn-part : take (k + b - k) (drop k proof) ≡ stretchAt c n ask proof j
+  turn-part : take (k + b - k) (drop k proof) ≡ stretchAt c M n ask proof j
   unfolding stretchAt
   turn-part =
       let d : k + b - k ≡ stretchBytes c n (ask j) = omega (arith, asked-bytes) in
@@ -151,16 +146,23 @@ module _ (c : Circuit) (n M : ℕ) (ask : ℕ → Asked) (proof : List ℕ) (siz
   turn-size = ap length turn-part ∙ (length-stretchAt c n M ask proof size j low ∙ ap (stretchBytes c n) (sym is))
 
   -- its unused bits are zero where all are
-  pub turn-unused : every M (unusedAt c n ask proof) ≡ true → stretchUnused c n (take (k + b - k) (drop k proof)) a ≡ true
-  turn-unused e = ap₂ (stretchUnused c n) turn-part is ∙ every-at M (unusedAt c n ask proof) e j low
+  pub turn-unused : every M (unusedAt c M n ask proof) ≡ true → stretchUnused c n (take (k + b - k) (drop k proof)) a ≡ true
+  turn-unused e = ap₂ (stretchUnused c n) turn-part is ∙ every-at M (unusedAt c M n ask proof) e j low
 
   -- its tests
-  pub turn-test : (f : List ℕ → Asked → Bool) (r : Bool) → r ≡ f (take (k + b - k) (drop k proof)) a → r ≡ f (stretchAt c n ask proof j) (ask j)
+  pub turn-test : (f : List ℕ → Asked → Bool) (r : Bool) → r ≡ f (take (k + b - k) (drop k proof)) a → r ≡ f (stretchAt c M n ask proof j) (ask j)
   turn-test f r e = e ∙ ap₂ f turn-part is
 
   -- its digests
-  pub turn-digest : (f : List ℕ → Asked → List ℕ) (r : List ℕ) → r ≡ f (take (k + b - k) (drop k proof)) a → r ≡ f (stretchAt c n ask proof j) (ask j)
+  pub turn-digest : (f : List ℕ → Asked → List ℕ) (r : List ℕ) → r ≡ f (take (k + b - k) (drop k proof)) a → r ≡ f (stretchAt c M n ask proof j) (ask j)
   turn-digest f r e = e ∙ ap₂ f turn-part is
+
+  -- its h_j, from the master in its row
+  pub turn-commitments : (nodes master r : List ℕ) → ((i : ℕ) → i < M → hides ask i ≡ false → masterIn nodes i ≡ masterAt M ask proof i)
+      → master ≡ masterIn nodes j → r ≡ stretchCommitments c n j master (take (k + b - k) (drop k proof)) a → r ≡ commitmentsAt c M n ask proof j
+  turn-commitments nodes master r rebuilt q e =
+      turn-digest (stretchCommitments c n j master) r e
+      ∙ master-unseen c n j master (masterAt M ask proof j) (stretchAt c M n ask proof j) (ask j) (λ t. q ∙ rebuilt j low t)
 
 -- a sponge that has taken in anything has room for the next byte
 pub sponge-room : (N : List ℕ) (s : Sponge) → s ≡ taken N → s .fill < 136
@@ -229,13 +231,13 @@ module _ (f : ℕ → List ℕ) where
   online-end i m s r h q e g = tagged-end 10 f i m s r (omega arith) h q e g
 
 -- h* from the two sponges, after m instances
-module _ (c : Circuit) (n : ℕ) (ask : ℕ → Asked) (proof : List ℕ) (bytes : Bytes proof) where
+module _ (c : Circuit) (M n : ℕ) (ask : ℕ → Asked) (proof : List ℕ) (bytes : Bytes proof) where
   pub hstar-made : (i m : ℕ) (s o : Sponge) (h g r : List ℕ) → i ≡ m
-      → s ≡ taken (allCommitmentsInput (flatten (tabulate i (commitmentsAt c n ask proof))))
-      → o ≡ taken (allOnlineInput (flatten (tabulate i (onlineAt c n ask proof))))
-      → h ≡ given s → g ≡ given o → r ≡ transcriptOf h g → r ≡ hstarOf m (commitmentsAt c n ask proof) (onlineAt c n ask proof)
+      → s ≡ taken (allCommitmentsInput (flatten (tabulate i (commitmentsAt c M n ask proof))))
+      → o ≡ taken (allOnlineInput (flatten (tabulate i (onlineAt c M n ask proof))))
+      → h ≡ given s → g ≡ given o → r ≡ transcriptOf h g → r ≡ hstarOf m (commitmentsAt c M n ask proof) (onlineAt c M n ask proof)
   unfolding hstarOf
   hstar-made i m s o h g r e p q a b d =
       d ∙ ap₂ transcriptOf
-      (commitments-end (commitmentsAt c n ask proof) i m s h (λ k. commitments-bytes c n k (stretchAt c n ask proof k) (ask k)) e p a)
-      (online-end (onlineAt c n ask proof) i m o g (λ k. online-bytes c n k (stretchAt c n ask proof k) (stretch-bytes c n ask proof bytes k) (ask k)) e q b)
+      (commitments-end (commitmentsAt c M n ask proof) i m s h (λ k. commitments-bytes c n k (masterAt M ask proof k) (stretchAt c M n ask proof k) (ask k)) e p a)
+      (online-end (onlineAt c M n ask proof) i m o g (λ k. online-bytes c n k (stretchAt c M n ask proof k) (stretch-bytes c M n ask proof bytes k) (ask k)) e q b)

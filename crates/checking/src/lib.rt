@@ -1,9 +1,10 @@
 // The operation check.
 ghost use mathlib.Core.Path.{_≡_};
-ghost use Prim.Native.Nat.{_*_};
+ghost use Prim.Native.Nat.{suc, _*_, _^_};
 ghost use lib.ListN.{length};
 ghost use Rattle.circuit.specs.File.{readCircuit, legal, circuitOf};
 ghost use Rattle.mpc.specs.Steps.{Known};
+ghost use Rattle.cover.specs.Masters.{height as «height-of»};
 ghost use Rattle.instance.specs.Steps.{Tree, Lent};
 ghost use Rattle.proof.specs.Protocol.{statementOf, challenged};
 ghost use Rattle.proof.specs.File.{headerHstar, goodHeader};
@@ -17,11 +18,16 @@ mod verifying;
 use circuit::ReadAnswer;
 use circuit::Sizes;
 use circuit::reading::read;
+use cover::height;
+use cover::regrow;
 use mpc::tests::both;
 use mpc::tests::holds;
+use proof::Counts;
 use proof::HEADER_BYTES;
 use proof::asking::draw_challenge;
 use proof::asking::proof_bytes;
+use proof::nodes::mark_nodes;
+use proof::nodes::row_count;
 use refusal::Refusal;
 use seeds::MAX_MESSAGE;
 use seeds::counts;
@@ -51,28 +57,36 @@ fn good_header(proof: &[u8]) -> bool
 fn check_in(
     s: &[u8],
     z: Sizes,
-    m: u32,
-    tau: u32,
-    n: u32,
-    h: u32,
+    k: Counts,
     y: &[u8],
     message: &[u8],
     proof: &[u8],
-    choices: &mut [u8],
+    table: &mut [u8],
+    marks: &mut [u8],
+    nodes: &mut [u8],
     tapes: &mut [u8],
     memory: &mut [u8],
 ) -> Answer
-    requires { ⌜ Lent (now s) z n h (now tapes) (now memory) × (Headed m tau n (now y) (now message) (now proof) × (length (now choices) ≡ 3 * tau)) ⌝ }
-    ensures { λ r. ⌜ outcome r ≡ checkProof (circuitOf (now (s .entry))) (now (y .entry)) (now (proof .entry)) m n (challenged m tau n (headerHstar (now (proof .entry))) (statementOf m tau n (now (s .entry)) (now (y .entry)) (now (message .entry)))) ⌝ }
+    requires { ⌜ Lent (now s) z (k .parties) (k .height) (now tapes) (now memory) × (Headed (k .instances) (k .chosen) (k .parties) (now y) (now message) (now proof) × ((length (now table) ≡ k .instances) × ((length (now marks) ≡ 2 ^ suc («height-of» (k .instances))) × (length (now nodes) ≡ 16 * 2 ^ suc («height-of» (k .instances)))))) ⌝ }
+    ensures { λ r. ⌜ outcome r ≡ checkProof (circuitOf (now (s .entry))) (now (y .entry)) (now (proof .entry)) (k .instances) (k .parties) (challenged (k .instances) (k .chosen) (k .parties) (headerHstar (now (proof .entry))) (statementOf (k .instances) (k .chosen) (k .parties) (now (s .entry)) (now (y .entry)) (now (message .entry)))) ⌝ }
 {
-    draw_challenge(s, m, tau, n, &proof[6..HEADER_BYTES], y, message, choices);
-    if proof.len() != proof_bytes(s, z, m, n, h, choices) {
+    draw_challenge(s, k, &proof[6..HEADER_BYTES], y, message, table);
+    let opened = mark_nodes(k, table, marks);
+    if proof.len() != proof_bytes(s, z, k, table, opened) {
         return Answer::Refused(Refusal::ProofLength);
     }
-    if !all_unused(s, z, m, n, h, choices, proof) {
+    if !all_unused(s, z, k, table, opened, proof) {
         return Answer::Refused(Refusal::UnusedBits);
     }
-    let v = recompute(s, z, m, n, h, choices, y, proof, tapes, memory);
+    let first = HEADER_BYTES + opened;
+    regrow(
+        65535,
+        height(k.instances),
+        marks,
+        &proof[HEADER_BYTES..first],
+        nodes,
+    );
+    let v = recompute(s, z, k, table, opened, nodes, y, proof, tapes, memory);
     if !v.agrees {
         return Answer::Refused(Refusal::Output);
     }
@@ -83,40 +97,35 @@ fn check_in(
 }
 
 // The same with a work memory of its own.
-fn check_with(
-    s: &[u8],
-    z: Sizes,
-    m: u32,
-    tau: u32,
-    n: u32,
-    h: u32,
-    y: &[u8],
-    message: &[u8],
-    proof: &[u8],
-) -> Answer
-    requires { ⌜ Known (now s) z × (Tree n h × Headed m tau n (now y) (now message) (now proof)) ⌝ }
-    ensures { λ r. ⌜ outcome r ≡ checkProof (circuitOf (now (s .entry))) (now (y .entry)) (now (proof .entry)) m n (challenged m tau n (headerHstar (now (proof .entry))) (statementOf m tau n (now (s .entry)) (now (y .entry)) (now (message .entry)))) ⌝ }
+fn check_with(s: &[u8], z: Sizes, k: Counts, y: &[u8], message: &[u8], proof: &[u8]) -> Answer
+    requires { ⌜ Known (now s) z × (Tree (k .parties) (k .height) × Headed (k .instances) (k .chosen) (k .parties) (now y) (now message) (now proof)) ⌝ }
+    ensures { λ r. ⌜ outcome r ≡ checkProof (circuitOf (now (s .entry))) (now (y .entry)) (now (proof .entry)) (k .instances) (k .parties) (challenged (k .instances) (k .chosen) (k .parties) (headerHstar (now (proof .entry))) (statementOf (k .instances) (k .chosen) (k .parties) (now (s .entry)) (now (y .entry)) (now (message .entry)))) ⌝ }
 {
     let inputs = z.inputs;
     let gates = z.gates;
     let ands = z.ands;
-    let mut choices = [0u8; 1533];
+    let m = k.instances;
+    let n = k.parties;
+    let mut table = [0u8; 512];
+    let mut marks = [0u8; 1024];
+    let mut nodes = [0u8; 16384];
     let mut tapes = [0u8; 17408];
     let mut memory = [0u8; 299008];
-    let c = 3 * (tau as usize);
+    let c = m as usize;
+    let r = row_count(m);
+    let e = 16 * r;
     let t = (n as usize) * bits::oct(inputs + 2 * ands);
     let w = 64 * (inputs + gates) + 4096;
     check_in(
         s,
         z,
-        m,
-        tau,
-        n,
-        h,
+        k,
         y,
         message,
         proof,
-        &mut choices[..c],
+        &mut table[..c],
+        &mut marks[..r],
+        &mut nodes[..e],
         &mut tapes[..t],
         &mut memory[..w],
     )
@@ -140,7 +149,13 @@ fn check_lent(s: &[u8], z: Sizes, y: &[u8], message: &[u8], proof: &[u8]) -> Ans
     let tau = bits::read_u16(proof, 2) as u32;
     let n = proof[4] as u32;
     let h = parties::height(n);
-    check_with(s, z, m, tau, n, h, y, message, proof)
+    let k = Counts {
+        instances: m,
+        chosen: tau,
+        parties: n,
+        height: h,
+    };
+    check_with(s, z, k, y, message, proof)
 }
 
 // Checks a proof that the circuit gives y on some witness, under the message.

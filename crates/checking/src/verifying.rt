@@ -4,11 +4,13 @@ ghost use mathlib.Core.Bool.{true};
 ghost use Prim.Native.Nat.{_≤_};
 ghost use lib.ListN.{length};
 ghost use Rattle.circuit.specs.File.{circuitOf};
+ghost use Rattle.cover.specs.Masters.{coverBytes};
 ghost use Rattle.instance.specs.Stretch.{stretchBytes};
 ghost use Rattle.instance.specs.Opened.{stretchCommitments, stretchOnline, stretchUnused, stretchOutput};
 ghost use Rattle.instance.specs.Steps.{Lent};
+ghost use Rattle.proof.specs.File.{hides};
 ghost use Rattle.proof.specs.Steps.{askOf, asksIn};
-ghost use Rattle.checking.specs.Steps.{allUnused, allOutputs, recomputed, Sized};
+ghost use Rattle.checking.specs.Steps.{allUnused, allOutputs, recomputed, Sized, Rebuilt};
 use bits::copy;
 use circuit::Sizes;
 use hashing::finish;
@@ -21,9 +23,11 @@ use instance::checking::reopen;
 use instance::checking::replay;
 use keccak::SHA3_256_RATE;
 use mpc::tests::both;
+use proof::Counts;
 use proof::HEADER_BYTES;
 use proof::asking::asked;
 use proof::asking::stretch_bytes;
+use proof::nodes::master;
 
 // Whether all replays gave y, and the recomputed h*.
 pub struct Verdict {
@@ -31,25 +35,26 @@ pub struct Verdict {
     pub hstar: [u8; 32],
 }
 
-// Checks instance j from its stretch: its digests, and whether its replay gives y.
+// Checks instance j from its stretch, from its master if it is not chosen: its digests, and whether its replay gives y.
 pub(crate) fn check_instance(
     s: &[u8],
     z: Sizes,
     inst: Instance,
     p: u32,
     y: &[u8],
+    master: &[u8],
     part: &[u8],
     tapes: &mut [u8],
     memory: &mut [u8],
 ) -> Replayed
-    requires { ⌜ Lent (now s) z (inst .parties) (inst .height) (now tapes) (now memory) × ((p ≤ inst .parties) × ((length (now part) ≡ stretchBytes (circuitOf (now s)) (inst .parties) (askOf (inst .parties) p)) × (stretchUnused (circuitOf (now s)) (inst .parties) (now part) (askOf (inst .parties) p) ≡ true))) ⌝ }
-    ensures { λ r. ⌜ (r .agrees ≡ stretchOutput (circuitOf (now (s .entry))) (inst .parties) (inst .number) (now (y .entry)) (now (part .entry)) (askOf (inst .parties) p)) × ((r .commitments ≡ stretchCommitments (circuitOf (now (s .entry))) (inst .parties) (inst .number) (now (part .entry)) (askOf (inst .parties) p)) × (r .online ≡ stretchOnline (circuitOf (now (s .entry))) (inst .parties) (inst .number) (now (part .entry)) (askOf (inst .parties) p))) ⌝ }
+    requires { ⌜ Lent (now s) z (inst .parties) (inst .height) (now tapes) (now memory) × ((p ≤ inst .parties) × ((length (now master) ≡ 16) × ((length (now part) ≡ stretchBytes (circuitOf (now s)) (inst .parties) (askOf (inst .parties) p)) × (stretchUnused (circuitOf (now s)) (inst .parties) (now part) (askOf (inst .parties) p) ≡ true)))) ⌝ }
+    ensures { λ r. ⌜ (r .agrees ≡ stretchOutput (circuitOf (now (s .entry))) (inst .parties) (inst .number) (now (y .entry)) (now (part .entry)) (askOf (inst .parties) p)) × ((r .commitments ≡ stretchCommitments (circuitOf (now (s .entry))) (inst .parties) (inst .number) (now (master .entry)) (now (part .entry)) (askOf (inst .parties) p)) × (r .online ≡ stretchOnline (circuitOf (now (s .entry))) (inst .parties) (inst .number) (now (part .entry)) (askOf (inst .parties) p))) ⌝ }
 {
     let n = inst.parties;
     if p == n {
-        let commitments = reopen(s, z, inst, &part[..16], tapes, memory);
+        let commitments = reopen(s, z, inst, master, tapes, memory);
         let mut online = [0u8; 32];
-        copy(&part[16..], &mut online);
+        copy(part, &mut online);
         return Replayed {
             agrees: true,
             commitments,
@@ -63,32 +68,36 @@ pub(crate) fn check_instance(
 pub(crate) fn recompute(
     s: &[u8],
     z: Sizes,
-    m: u32,
-    n: u32,
-    h: u32,
-    choices: &[u8],
+    k: Counts,
+    table: &[u8],
+    opened: usize,
+    nodes: &[u8],
     y: &[u8],
     proof: &[u8],
     tapes: &mut [u8],
     memory: &mut [u8],
 ) -> Verdict
-    requires { ⌜ Lent (now s) z n h (now tapes) (now memory) × (Sized (now s) m n (now choices) (now proof) × (allUnused (circuitOf (now s)) m n (asksIn n (now choices)) (now proof) ≡ true)) ⌝ }
-    ensures { λ r. ⌜ (r .agrees ≡ allOutputs (circuitOf (now (s .entry))) m n (asksIn n (now (choices .entry))) (now (y .entry)) (now (proof .entry))) × (r .hstar ≡ recomputed (circuitOf (now (s .entry))) m n (asksIn n (now (choices .entry))) (now (proof .entry))) ⌝ }
+    requires { ⌜ Lent (now s) z (k .parties) (k .height) (now tapes) (now memory) × (Sized (now s) (k .instances) (k .parties) (now table) (now proof) × ((allUnused (circuitOf (now s)) (k .instances) (k .parties) (asksIn (k .parties) (now table)) (now proof) ≡ true) × ((opened ≡ coverBytes (k .instances) (hides (asksIn (k .parties) (now table)))) × Rebuilt (k .instances) (k .parties) (now table) (now proof) (now nodes)))) ⌝ }
+    ensures { λ r. ⌜ (r .agrees ≡ allOutputs (circuitOf (now (s .entry))) (k .instances) (k .parties) (asksIn (k .parties) (now (table .entry))) (now (y .entry)) (now (proof .entry))) × (r .hstar ≡ recomputed (circuitOf (now (s .entry))) (k .instances) (k .parties) (asksIn (k .parties) (now (table .entry))) (now (proof .entry))) ⌝ }
 {
+    let m = k.instances;
+    let n = k.parties;
+    let h = k.height;
     let mut agrees = true;
     let mut all = start_all_commitments();
     let mut online = start_all_online();
-    let mut at = HEADER_BYTES;
+    let mut at = HEADER_BYTES + opened;
     let mut j = 0;
     while j < m {
-        let p = asked(choices, n, j);
+        let p = asked(table, n, j);
         let end = at + stretch_bytes(s, z, n, h, p);
         let inst = Instance {
             number: j,
             parties: n,
             height: h,
         };
-        let r = check_instance(s, z, inst, p, y, &proof[at..end], tapes, memory);
+        let seed = master(nodes, j);
+        let r = check_instance(s, z, inst, p, y, seed, &proof[at..end], tapes, memory);
         agrees = both(agrees, r.agrees);
         all = all.absorb(SHA3_256_RATE, &r.commitments);
         online = online.absorb(SHA3_256_RATE, &r.online);

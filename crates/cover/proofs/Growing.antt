@@ -5,7 +5,7 @@ use native.Mathlib.Nat.{pow-succ'}
 use native.Mathlib.Numerals.{add-one}
 use mathlib.Core.Path.{_≡_, refl, sym, ap, ap₂, _∙_}
 use mathlib.Core.Bool.{Bool, true, false, cond}
-use mathlib.Core.List.{List, [], _∷_, _++_, map, flatten, append-assoc}
+use mathlib.Core.List.{List, [], _∷_, _++_, map, flatten, append-assoc, append-nil}
 use Prim.Native.Nat.{ℕ, zero, suc, _+_, _-_, _*_, _/_, _%_, _^_, _≤_, _<_}
 use borrow.Author.Tests.{eq-eqb, ne-eqb}
 use borrow.Rule.Slice.PartMut.{putMid, post-is}
@@ -16,7 +16,7 @@ use lib.Seq.{take-all, take-at, drop-at, drop-drop, take-append-le, drop-append-
 use Rattle.bits.specs.Bits.{tabulate}
 use Rattle.bits.specs.Bytes.{rowOf}
 use Rattle.bits.proofs.Rows.{row-inside, row-tabulate, length-flatten, flatten-more, rows-turn}
-use Rattle.bits.proofs.Tabulate.{length-tabulate, getD-tabulate}
+use Rattle.bits.proofs.Tabulate.{length-tabulate, getD-tabulate, tabulate-cong}
 use Rattle.tree.specs.Tree.{children, leftChild, rightChild}
 use Rattle.cover.specs.Cover.{those, unhidden, opened, cover}
 use Rattle.cover.specs.Masters.{height, valueOf, childOf, opening, masterOf, coverOf}
@@ -74,6 +74,38 @@ value-first : (rule : ℕ → List ℕ → List ℕ) (root : List ℕ) (h : ℕ)
 unfolding valueOf
 value-first rule root zero = refl
 value-first rule root (suc h) = refl
+
+-- rows one after the other, in two parts
+flatten-split : (a b : ℕ) (f : ℕ → List ℕ) → flatten (tabulate (a + b) f) ≡ flatten (tabulate a f) ++ flatten (tabulate b (λ i. f (a + i)))
+unfolding flatten
+flatten-split a zero f =
+    let e : a + 0 ≡ a = omega arith in
+    ap (λ (m : ℕ). flatten (tabulate m f)) e ∙ sym (append-nil (flatten (tabulate a f)))
+flatten-split a (suc b) f =
+    let e : a + suc b ≡ suc (a + b) = omega arith in
+    ap (λ (m : ℕ). flatten (tabulate m f)) e
+    ∙ sym (flatten-more (a + b) f)
+    ∙ ap (λ (z : List ℕ). z ++ f (a + b)) (flatten-split a b f)
+    ∙ append-assoc (flatten (tabulate a f)) (flatten (tabulate b (λ i. f (a + i)))) (f (a + b))
+    ∙ ap (λ (z : List ℕ). flatten (tabulate a f) ++ z) (flatten-more b (λ i. f (a + i)))
+
+pub length-rows : (len n : ℕ) (f : ℕ → List ℕ) → ((i : ℕ) → length (f i) ≡ len) → length (flatten (tabulate n f)) ≡ n * len
+length-rows len n f each =
+    length-flatten len (tabulate n f) (λ i w. ap length (getD-tabulate n f i [] (omega (arith, length-tabulate n f))) ∙ each i)
+    ∙ ap (λ (m : ℕ). m * len) (length-tabulate n f)
+
+-- b rows of len bytes, from row a on
+module _ (len : ℕ) (f : ℕ → List ℕ) (each : (i : ℕ) → length (f i) ≡ len) where
+  rows-part : (n a b : ℕ) → a + b ≤ n → take (b * len) (drop (a * len) (flatten (tabulate n f))) ≡ flatten (tabulate b (λ i. f (a + i)))
+  rows-part n a b w =
+      let c : ℕ = n - (a + b) in
+      let e : n ≡ a + b + c = omega arith in
+      let g : ℕ → List ℕ = λ i. f (a + b + i) in
+      ap (λ (m : ℕ). take (b * len) (drop (a * len) (flatten (tabulate m f)))) e
+      ∙ ap (λ (z : List ℕ). take (b * len) (drop (a * len) z)) (flatten-split (a + b) c f ∙ ap (λ (z : List ℕ). z ++ flatten (tabulate c g)) (flatten-split a b f)
+      ∙ append-assoc (flatten (tabulate a f)) (flatten (tabulate b (λ i. f (a + i)))) (flatten (tabulate c g)))
+      ∙ ap (take (b * len)) (drop-at (flatten (tabulate a f)) (flatten (tabulate b (λ i. f (a + i))) ++ flatten (tabulate c g)) (a * len) (length-rows len a f each))
+      ∙ take-at (flatten (tabulate b (λ i. f (a + i)))) (flatten (tabulate c g)) (b * len) (length-rows len b (λ i. f (a + i)) (λ i. each (a + i)))
 
 -- a tree by any rule
 module _ (rule : ℕ → List ℕ → List ℕ) (root : List ℕ) (h : ℕ) where
@@ -164,11 +196,7 @@ module _ (rule : ℕ → List ℕ → List ℕ) (root : List ℕ) (sized : (x : 
 
   pub length-nodes : length (nodesOf rule root h) ≡ 16 * 2 ^ suc h
   unfolding nodesOf
-  length-nodes =
-      let f : ℕ → List ℕ = nodeRow rule root h in
-      length-flatten 16 (tabulate (2 ^ suc h) f)
-      (λ i w. ap length (getD-tabulate (2 ^ suc h) f i [] (omega (arith, length-tabulate (2 ^ suc h) f))) ∙ length-row i)
-      ∙ omega (arith, length-tabulate (2 ^ suc h) f)
+  length-nodes = length-rows 16 (2 ^ suc h) (nodeRow rule root h) length-row ∙ omega arith
 
 map-append : (f : ℕ → List ℕ) (xs ys : List ℕ) → map f (xs ++ ys) ≡ map f xs ++ map f ys
 map-append f [] ys = refl
@@ -216,3 +244,14 @@ pub grow-master : (M : ℕ) (root : List ℕ) (i : ℕ) → length root ≡ 16 �
 unfolding masterOf
 grow-master M root i l w =
     grow-row 65535 root l (height M) (2 ^ height M + i) (omega (arith, pow-pos (height M))) (omega (arith, pow-succ' 2 (height M), least-height .fits M))
+
+-- all of them, one after the other
+pub masters-part : (M : ℕ) (root : List ℕ) → length root ≡ 16
+    → take (M * 16) (drop (2 ^ height M * 16) (nodesOf (childOf 65535) root (height M))) ≡ flatten (tabulate M (masterOf M root))
+unfolding masterOf nodesOf
+masters-part M root l =
+    let h : ℕ = height M in
+    let f : ℕ → List ℕ = nodeRow (childOf 65535) root h in
+    rows-part 16 f (length-row (childOf 65535) root (length-child 65535) l h) (2 ^ suc h) (2 ^ h) M (omega (arith, pow-succ' 2 h, least-height .fits M))
+    ∙ ap flatten (tabulate-cong M (λ i. f (2 ^ h + i)) (λ i. valueOf (childOf 65535) root h (2 ^ h + i))
+    (λ i w. row-node (childOf 65535) root (length-child 65535) l h (2 ^ h + i) (omega (arith, pow-pos h))))

@@ -8,10 +8,12 @@ use mathlib.Core.List.{List, map}
 use Prim.Native.Nat.{ℕ, zero, suc, _+_, _*_, _/_, _^_, _≤_, _<_}
 use borrow.Author.Tests.{le-ltb}
 use lib.ListN.{length, getD, length-map, length-replicate}
+use Rattle.bits.specs.Bits.{bitVal, tabulate}
 use Rattle.bits.proofs.Numbers.{lt-or-le}
 use Rattle.bits.proofs.Rows.{row-length, length-flatten}
 use Rattle.cover.specs.Cover.{those, hasLeaf, hidden, unhidden, opened, cover}
 use Rattle.cover.specs.Masters.{height, valueOf, childOf, opening, given, fromAbove, leafFrom, masterOf, coverOf, coverBytes, masterFrom}
+use Rattle.cover.specs.Steps.{markOf, marksOf}
 use Rattle.cover.proofs.Covering.{opened-node}
 use Rattle.cover.proofs.Rebuilding.{place-lt, getD-map, length-value, length-child}
 
@@ -66,6 +68,12 @@ module _ (M : ℕ) (hides hides′ : ℕ → Bool) (same : (i : ℕ) → i < M �
   unfolding opened
   opened-same h =
       fun-ext (λ k. ap₂ (λ (u t : ℕ → Bool). hasLeaf h u k && (not (hasLeaf h t k) && hasLeaf h t (k / 2))) unhidden-same hidden-same)
+
+  pub marks-same : (h : ℕ) → marksOf h M hides ≡ marksOf h M hides′
+  unfolding marksOf markOf
+  marks-same h =
+      ap (tabulate (2 ^ suc h))
+      (fun-ext (λ k. ap₂ (λ (u t : ℕ → Bool). bitVal (hasLeaf h u k) + 2 * bitVal (hasLeaf h t k)) unhidden-same hidden-same))
 
   pub cover-same : (h : ℕ) → cover h M hides ≡ cover h M hides′
   unfolding cover

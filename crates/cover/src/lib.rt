@@ -1,4 +1,4 @@
-// The nodes of a tree that are opened for a set of hidden leaves, and their values.
+// The tree over the masters: its nodes, those that are opened for a set of hidden leaves, and the nodes that follow from these.
 ghost use mathlib.Core.Path.{_≡_};
 ghost use mathlib.Core.List.{_++_, map, flatten};
 ghost use Prim.Native.Nat.{suc, _+_, _*_, _^_, _≤_, _<_};
@@ -12,6 +12,9 @@ use bits::clear;
 use bits::copy;
 use bits::row;
 use tree::children;
+
+// What stands for an instance in the node rule of the tree over the masters.
+pub const MASTERS: u32 = 65535;
 
 // The height of the tree over m masters.
 pub fn height(m: u32) -> u32

@@ -8,10 +8,6 @@ use lib.Dec.{eqb}
 use lib.ListN.{length}
 use Rattle.bits.specs.Bytes.{leBytes}
 
--- 5: the master of j, from the root
-unfoldable pub masterInput : ℕ → List ℕ → List ℕ
-masterInput j root = (5 ∷ leBytes 2 j) ++ root
-
 -- 2: the two children of node k, from its value
 unfoldable pub nodeInput : ℕ → ℕ → List ℕ → List ℕ
 nodeInput j k value = (2 ∷ leBytes 2 j ++ leBytes 2 k) ++ value

@@ -20,19 +20,23 @@ use Rattle.circuit.specs.Operations.{holds}
 use Rattle.hiding.specs.Hiding.{Witness}
 use Rattle.seeds.specs.Operations.{areCounts}
 use Rattle.seeds.proofs.Instances.{Fit, counts-fit}
+use Rattle.cover.specs.Masters.{masterOf}
+use Rattle.cover.proofs.Masters.{length-master}
 use Rattle.instance.specs.Instance.{Asked, masterCommitments, masterOnline, stretchOf}
-use Rattle.proof.specs.Protocol.{hstarOf, mastersOf, firstMessage, statementOf, challenged}
-use Rattle.proof.specs.File.{headerM, headerTau, headerN, headerHstar, goodHeader}
+use Rattle.proof.specs.Protocol.{hstarOf, firstMessage, statementOf, challenged}
+use Rattle.proof.specs.File.{headerM, headerTau, headerN, headerHstar, goodHeader, masterAt, stretchAt}
 use Rattle.proof.specs.Prove.{proofOf, witnesses}
 use Rattle.instance.specs.Opened.{openedRun}
 use Rattle.proof.specs.Check.{checkProof, checkLegal, checkOp}
 use Rattle.honest.specs.Theorems.{Complete}
-use Rattle.honest.proofs.Passing.{and-true}
+use Rattle.proof.proofs.Passing.{and-true}
 use Rattle.honest.proofs.Opened.{opened-output}
 use Rattle.honest.proofs.Asking.{Below, challenged-below}
+use Rattle.honest.proofs.Seeds.{master-follows}
 use Rattle.honest.proofs.Stretches.{commitments-given, online-given, unused-given}
-use Rattle.honest.proofs.Written.{length-master, length-proof, stretch-there, hstar-there, M-there, tau-there, n-there, good-there}
-use Rattle.honest.proofs.Proved.{has-height, proved}
+use Rattle.proof.proofs.Written.{length-proof, stretch-there, hstar-there, M-there, tau-there, n-there, good-there}
+use Rattle.proof.proofs.Passing.{has-height}
+use Rattle.honest.proofs.Proved.{proved}
 use Rattle.honest.proofs.Tests.{ProofTests, proof-accepted}
 
 -- equal digests of all instances give one h*
@@ -50,17 +54,20 @@ unfolding checkLegal
 legal-accepts c s y message proof M tau n h eM et en eh a b d e = rw (a, b, d, eM, et, en, eh) e
 
 -- an honest proof, from a witness of y and with counts in their limits
-module _ (c : Circuit) (M tau n : ℕ) (witness bound : List ℕ) (masters : ℕ → List ℕ) (master-size : (j : ℕ) → length (masters j) ≡ 16) (y : List ℕ) (hw : Witness c witness) (hy : pack (evaluate c (bitAt witness)) ≡ y)
-    (counts : areCounts M tau ≡ true) (parties : isPartyCount n ≡ true) where
+module _ (c : Circuit) (M tau n : ℕ) (witness bound root : List ℕ) (root-size : length root ≡ 16) (y : List ℕ) (hw : Witness c witness)
+    (hy : pack (evaluate c (bitAt witness)) ≡ y) (counts : areCounts M tau ≡ true) (parties : isPartyCount n ≡ true) where
   -- its first message, its challenge, and the proof
   abbrev hstar : List ℕ
-  hstar = firstMessage c M n witness masters
+  hstar = firstMessage c M n witness (masterOf M root)
 
   abbrev ask : ℕ → Asked
   ask = challenged M tau n hstar bound
 
   abbrev proof : List ℕ
-  proof = proofOf c M tau n witness bound masters
+  proof = proofOf c M tau n witness bound root
+
+  abbrev master : ℕ → List ℕ
+  master j = masterOf M root j
 
   -- the counts are in their limits
   fit : Fit M tau
@@ -73,21 +80,31 @@ module _ (c : Circuit) (M tau n : ℕ) (witness bound : List ℕ) (masters : ℕ
   below : (j : ℕ) → Below n (ask j)
   below = challenged-below M tau n hstar bound (omega (arith, fit .below)) (omega (arith, sizes n height .some))
 
+  -- a master has 16 bytes
+  master-size : (j : ℕ) → length (master j) ≡ 16
+  master-size j = length-master M root j root-size
+
+  -- the stretch of each instance
+  stretch-is : (j : ℕ) → j < M → stretchAt c M n ask proof j ≡ stretchOf c n j witness (master j) (ask j)
+  stretch-is = stretch-there c M tau n witness bound root root-size
+
   -- the tests of an honest proof pass
   honest : ProofTests c y proof (headerHstar proof) M n ask
   unfolding firstMessage
   honest = record {
-    size = length-proof c M tau n witness bound masters master-size;
-    unused = λ j h. rw (stretch-there c M tau n witness bound masters master-size j h) (unused-given c n j height witness (masters j) (master-size j) (ask j) (below j));
+    size = length-proof c M tau n witness bound root root-size;
+    unused = λ j h. rw (stretch-is j h) (unused-given c n j height witness (master j) (master-size j) (ask j) (below j));
     output = λ j p h e.
-        ap (λ (s : List ℕ). pack (openedRun c n j p s .output))
-        (stretch-there c M tau n witness bound masters master-size j h ∙ ap (stretchOf c n j witness (masters j)) e)
-        ∙ (ap pack (opened-output c n j p height (below j p e) witness (masters j) (master-size j) hw) ∙ hy);
+        ap (λ (s : List ℕ). pack (openedRun c n j p s .output)) (stretch-is j h ∙ ap (stretchOf c n j witness (master j)) e)
+        ∙ (ap pack (opened-output c n j p height (below j p e) witness (master j) (master-size j) hw) ∙ hy);
     digest =
-        hstar-cong M _ (λ j. masterCommitments c n j (masters j)) _ (λ j. masterOnline c n j witness (masters j))
-        (λ j h. rw (stretch-there c M tau n witness bound masters master-size j h) (commitments-given c n j height witness (masters j) (master-size j) (ask j) (below j)))
-        (λ j h. rw (stretch-there c M tau n witness bound masters master-size j h) (online-given c n j height witness (masters j) (master-size j) hw (ask j) (below j)))
-        ∙ sym (hstar-there c M tau n witness bound masters master-size);
+        hstar-cong M _ (λ j. masterCommitments c n j (master j)) _ (λ j. masterOnline c n j witness (master j))
+        (λ j h.
+        rw (stretch-is j h)
+        (commitments-given c n j height witness (master j) (master-size j) (ask j) (below j) (masterAt M ask proof j)
+        (master-follows c M tau n witness bound root root-size counts parties j h)))
+        (λ j h. rw (stretch-is j h) (online-given c n j height witness (master j) (master-size j) hw (ask j) (below j)))
+        ∙ sym (hstar-there c M tau n witness bound root root-size);
   }
 
   -- check accepts it, where it is bound to the statement
@@ -96,9 +113,10 @@ module _ (c : Circuit) (M tau n : ℕ) (witness bound : List ℕ) (masters : ℕ
   accepts s message same a b =
       let m : M < 65536 = omega (arith, fit .most) in
       let t : tau < 65536 = omega (arith, fit .below) in
-      legal-accepts c s y message proof M tau n hstar (M-there c M tau n witness bound masters master-size m)
-      (tau-there c M tau n witness bound masters master-size t) (n-there c M tau n witness bound masters master-size) (hstar-there c M tau n witness bound masters master-size) a b
-      (good-there c M tau n witness bound masters master-size m t counts parties)
+      legal-accepts c s y message proof M tau n hstar (M-there c M tau n witness bound root root-size m)
+      (tau-there c M tau n witness bound root root-size t) (n-there c M tau n witness bound root root-size)
+      (hstar-there c M tau n witness bound root root-size) a b
+      (good-there c M tau n witness bound root root-size m t counts parties)
       (ap (λ (z : List ℕ). checkProof c y proof M n (challenged M tau n hstar z)) (sym same) ∙ proof-accepted c y proof M n ask honest)
 
 -- every honest proof passes
@@ -107,12 +125,12 @@ unfolding witnesses checkOp
 complete s witness y message root buffer left M tau n k bytes e =
     let p = proved s witness y message root buffer left M tau n k e in
     let c : Circuit = p .circuit in
-    let proof : List ℕ = proofOf c M tau n witness (statementOf M tau n s y message) (mastersOf root) in
+    let proof : List ℕ = proofOf c M tau n witness (statementOf M tau n s y message) root in
     let hw : Witness c witness = record {
       bytes = record { size = eqb-true (length witness) (oct (c .inputs)) (p .inputs); small = bytes };
       unused = p .unused-inputs;
     } in
     let q : take k left ≡ proof = ap (take k) (sym (p .content)) ∙ take-at proof (drop k buffer) k (p .size) in
     rw (p .read, q)
-    (accepts c M tau n witness (statementOf M tau n s y message) (mastersOf root) (λ j. length-master j root) y hw (same-eq (pack (evaluate c (bitAt witness))) y (p .gives)) (p .counts) (p .parties)
-    s message refl (and-true _ _ (p .outputs) (p .short)) (p .unused-outputs))
+    (accepts c M tau n witness (statementOf M tau n s y message) root (eqb-true (length root) 16 (p .root-size)) y hw
+    (same-eq (pack (evaluate c (bitAt witness))) y (p .gives)) (p .counts) (p .parties) s message refl (and-true _ _ (p .outputs) (p .short)) (p .unused-outputs))

@@ -17,7 +17,7 @@ use Rattle.hashing.proofs.Fixed.{statement-fixed}
 use Rattle.proof.specs.Protocol.{statementOf}
 use Rattle.honest.specs.Response.{decodeHeader}
 use Rattle.honest.specs.Theorems.{GoodHeader, Accepts, StatementCovered}
-use Rattle.honest.proofs.Proved.{has-height}
+use Rattle.proof.proofs.Passing.{has-height}
 use Rattle.honest.proofs.Published.{same-circuit, check-is-published}
 
 -- what the challenge of a file is drawn from

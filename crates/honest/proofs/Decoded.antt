@@ -14,9 +14,9 @@ use Rattle.parties.specs.Parties.{heightOf}
 use Rattle.circuit.specs.Circuit.{Circuit}
 use Rattle.mpc.specs.Tapes.{andsOf}
 use Rattle.instance.specs.Instance.{Asked, opened, hiding}
-use Rattle.instance.specs.Stretch.{correctionBytes, stretchBytes, sentMaster, sentOnline, siblingsPart, correctionsPart, commitmentPart, maskedPart, rowPart}
-use Rattle.proof.specs.File.{headerM, headerTau, headerN, headerHstar, stretchStart, stretchAt}
-use Rattle.honest.specs.Response.{Sent, unchosen, chosen, decodeHeader, auxBytes, decodeSent, bytesFrom, sentBytes, allBytes}
+use Rattle.instance.specs.Stretch.{correctionBytes, stretchBytes, siblingsPart, correctionsPart, commitmentPart, maskedPart, rowPart}
+use Rattle.proof.specs.File.{headerBytes, headerM, headerTau, headerN, headerHstar, stretchStart, stretchAt}
+use Rattle.honest.specs.Response.{Sent, unchosen, chosen, decodeHeader, auxBytes, decodeSent, bytesFrom, nodesBytes, sentBytes, allBytes}
 
 -- what is dropped of the first n + m is dropped of all
 drop-take : (n m : ℕ) (s : List ℕ) → drop n (take (n + m) s) ≡ take m (drop n s)
@@ -68,7 +68,7 @@ header-is proof =
 module _ (c : Circuit) (n : ℕ) where
   -- what the parts of a stretch send
   abbrev pub partsOf : Asked → List ℕ → Sent
-  partsOf opened part = unchosen (record { seed* = sentMaster part; h′ = sentOnline part })
+  partsOf opened part = unchosen (record { h′ = part })
   partsOf (hiding p) part =
       chosen p (record {
         siblings = siblingsPart n part;
@@ -87,16 +87,13 @@ module _ (c : Circuit) (n : ℕ) where
   -- the bytes after it
   sent-rest : (a : Asked) (s : List ℕ) → decodeSent c n a s .1 ≡ drop (sentBytes c n a) s
   unfolding decodeSent sentBytes
-  sent-rest opened s = drop-drop 32 16 s
+  sent-rest opened s = refl
   sent-rest (hiding p) s = simp drop-drop
 
   -- its parts
   sent-parts : (a : Asked) (s : List ℕ) → decodeSent c n a s .0 ≡ partsOf a (take (stretchBytes c n a) s)
   unfolding decodeSent auxBytes stretchBytes correctionBytes siblingsPart correctionsPart commitmentPart maskedPart rowPart
-  sent-parts opened s =
-      let u : take 16 s ≡ take 16 (take 48 s) = sym (take-take 16 48 s (omega arith)) in
-      let h : take 32 (drop 16 s) ≡ drop 16 (take 48 s) = sym (drop-take 16 32 s) in
-      λ k. unchosen (record { seed* = u k; h′ = h k })
+  sent-parts opened s = refl
   sent-parts (hiding p) s =
       let a : ℕ = 16 * heightOf n in
       let b : ℕ = correctionBytes c n p in
@@ -120,17 +117,23 @@ module _ (c : Circuit) (n : ℕ) where
         sent-rest (ask j) (bytesFrom c n ask s j)
         ∙ (ap (drop (sentBytes c n (ask j))) (bytes-from s j) ∙ drop-drop (sentBytes c n (ask j)) (allBytes c n ask j) s)
 
-    -- they start where their stretch does
-    pub all-bytes : (m : ℕ) → 38 + allBytes c n ask m ≡ stretchStart c n ask m
-    unfolding allBytes stretchStart
-    all-bytes zero = refl
-    all-bytes (suc m) = omega (arith, all-bytes m, sent-bytes (ask m))
+    -- of M instances
+    module _ (M : ℕ) where
+      -- they start where their stretch does
+      pub all-bytes : (m : ℕ) → headerBytes + nodesBytes M ask + allBytes c n ask m ≡ stretchStart c M n ask m
+      unfolding nodesBytes allBytes stretchStart
+      all-bytes zero = omega arith
+      all-bytes (suc m) = omega (arith, all-bytes m, sent-bytes (ask m))
 
-    -- what is decoded of instance j
-    pub decoded-parts : (proof : List ℕ) (j : ℕ)
-        → decodeSent c n (ask j) (bytesFrom c n ask (drop 38 proof) j) .0 ≡ partsOf (ask j) (stretchAt c n ask proof j)
-    unfolding stretchAt
-    decoded-parts proof j =
-        ap (λ (s : List ℕ). decodeSent c n (ask j) s .0)
-        (bytes-from (drop 38 proof) j ∙ (drop-drop (allBytes c n ask j) 38 proof ∙ ap (λ (k : ℕ). drop k proof) (all-bytes j)))
-        ∙ sent-parts (ask j) (drop (stretchStart c n ask j) proof)
+      -- what is decoded of instance j
+      pub decoded-parts : (proof : List ℕ) (j : ℕ)
+          → decodeSent c n (ask j) (bytesFrom c n ask (drop (nodesBytes M ask) (drop headerBytes proof)) j) .0
+          ≡ partsOf (ask j) (stretchAt c M n ask proof j)
+      unfolding stretchAt
+      decoded-parts proof j =
+          let size : ℕ = nodesBytes M ask in
+          ap (λ (s : List ℕ). decodeSent c n (ask j) s .0)
+          (bytes-from (drop size (drop headerBytes proof)) j
+          ∙ (ap (drop (allBytes c n ask j)) (drop-drop size headerBytes proof)
+          ∙ (drop-drop (allBytes c n ask j) (headerBytes + size) proof ∙ ap (λ (k : ℕ). drop k proof) (all-bytes j))))
+          ∙ sent-parts (ask j) (drop (stretchStart c M n ask j) proof)

@@ -1,6 +1,6 @@
 -- What the leaves of an instance give: rows of seeds, and the parties' tapes.
 -- Assumes nothing.
-use mathlib.Core.Path.{_≡_, refl, ap, _∙_}
+use mathlib.Core.Path.{_≡_, refl}
 use mathlib.Core.Bool.{true}
 use mathlib.Core.List.{List, [], _∷_, flatten}
 use Prim.Native.Nat.{ℕ, zero, suc, _-_, _*_, _^_, _≤_, _<_, min}
@@ -10,8 +10,7 @@ use lib.ListN.{length}
 use lib.Pow.{pow-pos, pow-mono}
 use Rattle.bits.specs.Bits.{tabulate}
 use Rattle.bits.specs.Bytes.{rowOf}
-use Rattle.bits.proofs.Rows.{length-flatten, row-tabulate}
-use Rattle.bits.proofs.Tabulate.{length-tabulate, getD-tabulate}
+use Rattle.bits.proofs.Rows.{row-tabulate}
 use Rattle.keccak.proofs.Absorbing.{Bytes}
 use Rattle.keccak.proofs.Lengths.{length-shake128}
 use Rattle.circuit.specs.Circuit.{Circuit}
@@ -22,13 +21,8 @@ use Rattle.party.specs.Derive as derive
 use Rattle.hashing.proofs.Hashes.{bytes-append}
 use Rattle.party.proofs.Clearing.{length-tape, tape-unused}
 use Rattle.instance.specs.Instance.{seedsOf, seedOf, tapesOf}
-use Rattle.honest.proofs.Passing.{and-true}
-
--- n rows of len bytes
-pub length-rows : (len n : ℕ) (f : ℕ → List ℕ) → ((i : ℕ) → length (f i) ≡ len) → length (flatten (tabulate n f)) ≡ n * len
-length-rows len n f h =
-    length-flatten len (tabulate n f) (λ i l. ap length (getD-tabulate n f i [] (omega (arith, length-tabulate n f))) ∙ h i)
-    ∙ ap (λ (m : ℕ). m * len) (length-tabulate n f)
+use Rattle.proof.proofs.Places.{length-rows}
+use Rattle.proof.proofs.Passing.{and-true}
 
 -- n rows of bytes are bytes
 bytes-rows : (n : ℕ) (f : ℕ → List ℕ) → ((i : ℕ) → Bytes (f i)) → Bytes (flatten (tabulate n f))

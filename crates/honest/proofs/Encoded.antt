@@ -14,7 +14,8 @@ use Rattle.parties.specs.Parties.{heightOf}
 use Rattle.circuit.specs.Circuit.{Circuit}
 use Rattle.mpc.specs.Tapes.{andsOf}
 use Rattle.instance.specs.Instance.{Asked, opened, hiding}
-use Rattle.honest.specs.Response.{encodeHeader, encodeSent, encode, decodeHeader, boundIn, challengeIn, auxBytes, decodeSent, bytesFrom, decode, sentBytes, allBytes, impliedLength}
+use Rattle.proof.specs.File.{headerBytes}
+use Rattle.honest.specs.Response.{encodeHeader, encodeSent, encode, decodeHeader, boundIn, challengeIn, auxBytes, decodeSent, bytesFrom, nodesBytes, decode, sentBytes, allBytes, impliedLength}
 use Rattle.honest.specs.Theorems.{AllBytes, GoodHeader, AcceptedEncoding}
 use Rattle.honest.proofs.Decoded.{bytes-from}
 use Rattle.honest.proofs.Published.{check-is-published, same-circuit}
@@ -55,7 +56,7 @@ module _ (c : Circuit) (n : ℕ) where
   -- what is sent of an instance is the bytes that it was decoded from
   sent-encoded : (a : Asked) (s : List ℕ) → encodeSent (decodeSent c n a s .0) ≡ take (sentBytes c n a) s
   unfolding encodeSent decodeSent sentBytes
-  sent-encoded opened s = joined 16 32 s (drop 16 s) refl
+  sent-encoded opened s = refl
   sent-encoded (hiding p) s =
       let k₁ : ℕ = 16 * heightOf n in
       let k₂ : ℕ = auxBytes c n p in
@@ -93,9 +94,15 @@ file-encoded c bound file b g e =
     let n : ℕ = decodeHeader file .n in
     let M : ℕ = decodeHeader file .M in
     let ask : ℕ → Asked = challengeIn bound file in
-    let all : take (allBytes c n ask M) (drop 38 file) ≡ drop 38 file = take-all (allBytes c n ask M) (drop 38 file) (omega (arith, length-drop 38 file)) in
+    let size : ℕ = nodesBytes M ask in
+    let s : List ℕ = drop headerBytes file in
+    let rest : List ℕ = drop size s in
+    let front : encodeHeader (decodeHeader file) ++ take size s ≡ take (headerBytes + size) file =
+    ap (λ (x : List ℕ). x ++ take size s) (header-encoded file b (g .size) (g .zero)) ∙ joined headerBytes size file s refl in
+    let all : take (allBytes c n ask M) rest ≡ rest = take-all (allBytes c n ask M) rest (omega (arith, length-drop headerBytes file, length-drop size s)) in
     sym
-    (ap₂ (λ (x y : List ℕ). x ++ y) (header-encoded file b (g .size) (g .zero)) (all-encoded c n ask (drop 38 file) M ∙ all) ∙ take-append-drop 38 file)
+    (ap₂ (λ (x y : List ℕ). x ++ y) front (all-encoded c n ask rest M ∙ (all ∙ drop-drop size headerBytes file))
+    ∙ take-append-drop (headerBytes + size) file)
 
 -- every accepted file
 pub accepted-encoding : AcceptedEncoding

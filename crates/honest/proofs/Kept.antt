@@ -4,17 +4,16 @@ use mathlib.Core.Path.{_≡_, sym, ap, _∙_}
 use mathlib.Core.List.{List, [], _∷_}
 use Prim.Native.Nat.{ℕ, _≤_}
 use native.Mathlib.Omega.{arith}
-use borrow.Author.Tests.{leb-true}
+use borrow.Author.Tests.{eqb-true, leb-true}
 use lib.ListN.{length, drop, length-append, length-drop}
 use lib.Seq.{drop-at}
 use Rattle.refusal.specs.Outcome.{success}
 use Rattle.circuit.specs.Circuit.{Circuit}
-use Rattle.proof.specs.Protocol.{mastersOf, statementOf}
+use Rattle.proof.specs.Protocol.{statementOf}
 use Rattle.proof.specs.File.{proofRoom}
 use Rattle.proof.specs.Prove.{proofOf, proveOp}
 use Rattle.honest.proofs.Proved.{proved}
-use Rattle.honest.proofs.Written.{length-master}
-use Rattle.honest.proofs.Room.{proof-fits}
+use Rattle.proof.proofs.Room.{proof-fits}
 
 -- k bytes are written inside the buffer, and those beyond them stay
 pub record Kept (buffer left : List ℕ) (k : ℕ) : Type 0 where
@@ -28,9 +27,9 @@ pub prove-keeps : (s witness y message root buffer left : List ℕ) (M tau n k :
 prove-keeps s witness y message root buffer left M tau n k e =
     let p = proved s witness y message root buffer left M tau n k e in
     let c : Circuit = p .circuit in
-    let proof : List ℕ = proofOf c M tau n witness (statementOf M tau n s y message) (mastersOf root) in
+    let proof : List ℕ = proofOf c M tau n witness (statementOf M tau n s y message) root in
     let size : length proof ≡ k = p .size in
-    let fits : length proof ≤ proofRoom c M tau n = proof-fits c M tau n witness (statementOf M tau n s y message) (mastersOf root) (λ j. length-master j root) (p .counts) (p .parties) in
+    let fits : length proof ≤ proofRoom c M tau n = proof-fits c M tau n witness (statementOf M tau n s y message) root (eqb-true (length root) 16 (p .root-size)) (p .counts) (p .parties) in
     let room : proofRoom c M tau n ≤ length buffer = leb-true (proofRoom c M tau n) (length buffer) (p .room) in
     record {
       inside = omega arith;

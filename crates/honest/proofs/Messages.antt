@@ -25,7 +25,7 @@ use Rattle.honest.specs.Response.{Chosen, chosen, decodeHeader, boundIn,
 use Rattle.honest.specs.Verification.{simulation, msgs}
 use Rattle.honest.specs.Theorems.{AllBytes, MessagesAsSent}
 use Rattle.honest.proofs.Asking.{Below}
-use Rattle.honest.proofs.Inside.{length-stretchAt}
+use Rattle.proof.proofs.Inside.{length-stretchAt}
 use Rattle.honest.proofs.Decoded.{partsOf, decoded-parts}
 use Rattle.honest.proofs.Published.{check-is-published, same-circuit, chosen-party, chosen-sent, all-below, implied-is}
 
@@ -38,10 +38,10 @@ bytes-take k s b i =
 bytes-drop : (k : ℕ) (s : List ℕ) → AllBytes s → AllBytes (drop k s)
 bytes-drop k s b i = rw (getD-drop k s i 0) (b (k + i))
 
-bytes-stretch : (c : Circuit) (n : ℕ) (ask : ℕ → Asked) (proof : List ℕ) → AllBytes proof → (j : ℕ) → AllBytes (stretchAt c n ask proof j)
+bytes-stretch : (c : Circuit) (M n : ℕ) (ask : ℕ → Asked) (proof : List ℕ) → AllBytes proof → (j : ℕ) → AllBytes (stretchAt c M n ask proof j)
 unfolding stretchAt
-bytes-stretch c n ask proof b j =
-    let start : ℕ = stretchStart c n ask j in
+bytes-stretch c M n ask proof b j =
+    let start : ℕ = stretchStart c M n ask j in
     bytes-take (stretchBytes c n (ask j)) (drop start proof) (bytes-drop start proof b)
 
 -- a row of A + O bits, unused bits zero, is the one that p sends in the simulation
@@ -92,8 +92,8 @@ messages-as-sent s y message proof c b r e j p x l f =
     let size : length proof ≡ proofBytes c M n ask =
     h .size ∙ (ap (λ (z : Circuit). impliedLength z (boundIn s y message proof) proof) q ∙ implied-is c (boundIn s y message proof) proof) in
     let t : Row c n p x =
-    row-sent c n (stretchAt c n ask proof j) (bytes-stretch c n ask proof b j) (ask j) (length-stretchAt c n M ask proof size j l)
-    (all-below (boundIn s y message proof) proof (h .header) j) p x (sym (decoded-parts c n ask proof j) ∙ f) in
-    let u : UnusedZero (h .circuit) x = h .unused j p x l (ap (λ (z : Circuit). decode z (boundIn s y message proof) proof j) q ∙ f) in
+    row-sent c n (stretchAt c M n ask proof j) (bytes-stretch c M n ask proof b j) (ask j) (length-stretchAt c n M ask proof size j l)
+    (all-below (boundIn s y message proof) proof (h .header) j) p x (sym (decoded-parts c n ask M proof j) ∙ f) in
+    let u : UnusedZero (h .circuit) x = h .unused j p x l (ap (λ (z : Circuit). decode z (boundIn s y message proof) proof .sent j) q ∙ f) in
     let v : UnusedZero c x = subst (λ (z : Circuit). UnusedZero z x) q u in
     msgs-kept c n j p x (t .party) (t .size) (t .bytes) (v .msgs)

@@ -32,9 +32,9 @@ use Rattle.tree.proofs.Opening.{opening-rows}
 use Rattle.instance.specs.Instance.{hiding, leavesOf, tapesOf, commitmentsDigest, onlineDigest, commitmentsOf, masterSeeds, masterTapes, masterCorrections, masterCommitments, masterRun, masterMasked, masterOnline, sentCorrections, stretchOf}
 use Rattle.instance.specs.Stretch.{correctionsPart, commitmentPart, maskedPart, rowPart}
 use Rattle.instance.specs.Opened.{openedSeeds, openedCommitments, openedShowing, openedRun, stretchUnused}
-use Rattle.honest.proofs.Passing.{and-true}
-use Rattle.honest.proofs.Places.{ext-rows}
-use Rattle.honest.proofs.Parts.{length-bits, length-rowBits, siblings-back, corrections-back, commitment-back, masked-back, row-back}
+use Rattle.proof.proofs.Passing.{and-true}
+use Rattle.proof.proofs.Places.{ext-rows}
+use Rattle.proof.proofs.Parts.{length-bits, length-rowBits, siblings-back, corrections-back, commitment-back, masked-back, row-back}
 use Rattle.honest.proofs.Derived.{seeds-row, length-tapes, tapes-row, tapes-made}
 
 -- the tapes with row p all zero do not depend on row p

@@ -1,29 +1,23 @@
 -- What a prove that succeeds has tested, and what it has written.
 -- Assumes nothing.
-use mathlib.Core.Path.{_≡_, refl, sym, ap, _∙_}
-use mathlib.Core.Bool.{Bool, true, false, _&&_}
+use mathlib.Core.Path.{_≡_, refl, ap}
+use mathlib.Core.Bool.{Bool, true, _&&_}
 use mathlib.Core.List.{List, [], _∷_, _++_}
 use Prim.Native.Nat.{ℕ}
-use native.Mathlib.Omega.{arith}
 use lib.Dec.{eqb, leb}
 use lib.ListN.{length, drop}
 use Rattle.bits.specs.Bits.{unusedZero}
 use Rattle.bits.proofs.Tests.{and-true-left, and-true-right}
 use Rattle.refusal.specs.Outcome.{Answer, success, Outcome, unless}
-use Rattle.parties.specs.Parties.{heightOf, isPartyCount}
-use Rattle.parties.proofs.Counts.{count-no}
+use Rattle.parties.specs.Parties.{isPartyCount}
 use Rattle.circuit.specs.Circuit.{Circuit}
 use Rattle.circuit.specs.File.{Reading, refused, legal, readCircuit}
 use Rattle.circuit.specs.Operations.{onLegal, holds}
 use Rattle.seeds.specs.Operations.{areCounts}
 use Rattle.proof.specs.File.{proofRoom}
-use Rattle.proof.specs.Protocol.{mastersOf, statementOf}
+use Rattle.proof.specs.Protocol.{statementOf}
 use Rattle.proof.specs.Prove.{proofOf, witnesses, written, proveLegal, proveOp}
-use Rattle.honest.proofs.Passing.{succeeded, refused-not, unless-test, unless-rest}
-
--- a party count has a height
-pub has-height : (n : ℕ) → isPartyCount n ≡ true → heightOf n ≡ 0 → ⊥
-has-height n h e = let z : _≡_ {A = Bool} true false = sym h ∙ count-no n e in let o : _≡_ {A = ℕ} 0 1 = cc in omega arith
+use Rattle.proof.proofs.Passing.{succeeded, refused-not, unless-test, unless-rest}
 
 -- the outcome is a success that says k and leaves `left` in the buffer
 module _ (s witness y message root buffer left : List ℕ) (M tau n k : ℕ) where
@@ -36,12 +30,13 @@ module _ (s witness y message root buffer left : List ℕ) (M tau n k : ℕ) whe
     pub inputs : holds (circuit .inputs) witness ≡ true
     pub outputs : holds (length (circuit .outputs)) y ≡ true
     pub short : leb (length message) 4096 ≡ true
+    pub root-size : eqb (length root) 16 ≡ true
     pub room : leb (proofRoom circuit M tau n) (length buffer) ≡ true
     pub unused-inputs : unusedZero (circuit .inputs) witness ≡ true
     pub unused-outputs : unusedZero (length (circuit .outputs)) y ≡ true
     pub gives : witnesses circuit witness y ≡ true
-    pub size : length (proofOf circuit M tau n witness (statementOf M tau n s y message) (mastersOf root)) ≡ k
-    pub content : proofOf circuit M tau n witness (statementOf M tau n s y message) (mastersOf root) ++ drop k buffer ≡ left
+    pub size : length (proofOf circuit M tau n witness (statementOf M tau n s y message) root) ≡ k
+    pub content : proofOf circuit M tau n witness (statementOf M tau n s y message) root ++ drop k buffer ≡ left
 
   -- what is written
   module _ (proof : List ℕ) (e : written proof buffer ≡ succeeded (k ∷ []) (left ∷ [])) where
@@ -73,7 +68,7 @@ module _ (s witness y message root buffer left : List ℕ) (M tau n k : ℕ) whe
       let d1 : Bool = unusedZero (c .inputs) witness in
       let d2 : Bool = unusedZero (length (c .outputs)) y in
       let f : Bool = witnesses c witness y in
-      let o4 : Outcome = written (proofOf c M tau n witness (statementOf M tau n s y message) (mastersOf root)) buffer in
+      let o4 : Outcome = written (proofOf c M tau n witness (statementOf M tau n s y message) root) buffer in
       let o3 : Outcome = unless f 10 lent o4 in
       let o2 : Outcome = unless (d1 && d2) 7 lent o3 in
       let o1 : Outcome = unless (b1 && b2 && b3 && b4 && b5) 6 lent o2 in
@@ -84,7 +79,8 @@ module _ (s witness y message root buffer left : List ℕ) (M tau n k : ℕ) whe
       let t3 : d1 && d2 ≡ true = unless-test (d1 && d2) 7 lent o3 (k ∷ []) (left ∷ []) e2 in
       let e3 = unless-rest (d1 && d2) 7 lent o3 (k ∷ []) (left ∷ []) e2 in
       let e4 = unless-rest f 10 lent o4 (k ∷ []) (left ∷ []) e3 in
-      let u3 : b1 && b2 && b3 ≡ true = and-true-left (b1 && b2 && b3) b4 (and-true-left (b1 && b2 && b3 && b4) b5 t2) in
+      let u4 : b1 && b2 && b3 && b4 ≡ true = and-true-left (b1 && b2 && b3 && b4) b5 t2 in
+      let u3 : b1 && b2 && b3 ≡ true = and-true-left (b1 && b2 && b3) b4 u4 in
       let u2 : b1 && b2 ≡ true = and-true-left (b1 && b2) b3 u3 in
       record {
         circuit = c;
@@ -94,12 +90,13 @@ module _ (s witness y message root buffer left : List ℕ) (M tau n k : ℕ) whe
         inputs = and-true-left b1 b2 u2;
         outputs = and-true-right b1 b2 u2;
         short = and-true-right (b1 && b2) b3 u3;
+        root-size = and-true-right (b1 && b2 && b3) b4 u4;
         room = and-true-right (b1 && b2 && b3 && b4) b5 t2;
         unused-inputs = and-true-left d1 d2 t3;
         unused-outputs = and-true-right d1 d2 t3;
         gives = unless-test f 10 lent o4 (k ∷ []) (left ∷ []) e3;
-        size = wrote-size (proofOf c M tau n witness (statementOf M tau n s y message) (mastersOf root)) e4;
-        content = wrote-content (proofOf c M tau n witness (statementOf M tau n s y message) (mastersOf root)) e4;
+        size = wrote-size (proofOf c M tau n witness (statementOf M tau n s y message) root) e4;
+        content = wrote-content (proofOf c M tau n witness (statementOf M tau n s y message) root) e4;
       }
 
   -- of what was read

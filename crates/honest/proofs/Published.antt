@@ -7,8 +7,7 @@ use Prim.Native.Nat.{ℕ, _+_, _<_}
 use native.Mathlib.Omega.{arith}
 use borrow.Author.Tests.{eq-eqb, eqb-true, le-leb, leb-true, lt-ltb}
 use lib.Dec.{eqb, leb}
-use lib.ListN.{length, drop}
-use lib.Seq.{length-take-le}
+use lib.ListN.{length, take, drop}
 use Rattle.bits.specs.Bits.{pack, unusedZero}
 use Rattle.bits.proofs.Tabulate.{tabulate-cong}
 use Rattle.bits.proofs.Tests.{and-true-left, and-true-right}
@@ -24,18 +23,18 @@ use Rattle.hashing.specs.Digest.{transcriptOf}
 use Rattle.seeds.specs.Operations.{areCounts}
 use Rattle.seeds.proofs.Instances.{Fit, counts-fit}
 use Rattle.instance.specs.Instance.{Asked, opened, hiding}
-use Rattle.instance.specs.Stretch.{stretchBytes, sentMaster, sentOnline, correctionsPart, maskedPart, rowPart}
+use Rattle.instance.specs.Stretch.{stretchBytes, correctionsPart, maskedPart, rowPart}
 use Rattle.instance.specs.Opened.{openedRun, stretchCommitments, stretchOnline, stretchUnused}
 use Rattle.proof.specs.Protocol.{hstarOf, statementOf, challenged}
-use Rattle.proof.specs.File.{headerM, headerTau, headerN, headerZero, headerHstar, goodHeader, proofBytes, stretchAt}
-use Rattle.honest.specs.Response.{Unchosen, Chosen, Sent, unchosen, chosen, Response, answered, Header, decodeHeader, boundIn, challengeIn, decodeSent, bytesFrom, decode, impliedLength, UnusedZero}
-use Rattle.honest.specs.Verification.{all, honestCom, openedCom, simulation, msgs, Verified}
+use Rattle.proof.specs.File.{headerM, headerTau, headerN, headerZero, headerHstar, headerBytes, nodesAt, masterAt, goodHeader, proofBytes, stretchAt}
+use Rattle.honest.specs.Response.{Unchosen, Chosen, Sent, unchosen, chosen, Response, answered, Header, decodeHeader, boundIn, challengeIn, decodeSent, bytesFrom, nodesBytes, decode, impliedLength, UnusedZero}
+use Rattle.honest.specs.Verification.{all, seed*, honestCom, openedCom, simulation, msgs, Verified}
 use Rattle.honest.specs.Theorems.{GoodHeader, Accepts, CheckIsPublished, AcceptedLength}
-use Rattle.honest.proofs.Passing.{and-true}
+use Rattle.proof.proofs.Passing.{and-true}
 use Rattle.honest.proofs.Tests.{ProofTests, CheckTests, passed, accepted}
 use Rattle.honest.proofs.Asking.{Below, challenged-below}
-use Rattle.honest.proofs.Inside.{length-stretchAt}
-use Rattle.honest.proofs.Proved.{has-height}
+use Rattle.proof.proofs.Inside.{length-masterAt, length-stretchAt}
+use Rattle.proof.proofs.Passing.{has-height}
 use Rattle.honest.proofs.Decoded.{header-is, partsOf, decoded-parts, all-bytes}
 use Rattle.honest.proofs.Verifies.{unchosen-hj, chosen-hj, simulation-is, chosen-h′j}
 
@@ -54,35 +53,28 @@ module _ (c : Circuit) (n j : ℕ) (count : heightOf n ≡ 0 → ⊥) where
   parts-answer opened s = refl
   parts-answer (hiding p) s = refl
 
-  -- the master has 16 bytes
-  master-size : (s : List ℕ) → length s ≡ stretchBytes c n opened → length (sentMaster s) ≡ 16
-  unfolding stretchBytes
-  master-size s l = length-take-le 16 s (omega arith)
-
   -- the digests of step 1, 2 and 3, and the output of step 3
   abbrev hj-chosen : ℕ → Chosen → List ℕ
   hj-chosen p x = sha3-256 (commitmentsInput j (all n (openedCom n j p x)))
 
-  abbrev hj-unchosen : Unchosen → List ℕ
-  hj-unchosen u = sha3-256 (commitmentsInput j (all n (honestCom c n j (u .seed*))))
+  abbrev hj-unchosen : List ℕ → List ℕ
+  hj-unchosen seed = sha3-256 (commitmentsInput j (all n (honestCom c n j seed)))
 
   abbrev h′j-chosen : ℕ → Chosen → List ℕ
   h′j-chosen p x = sha3-256 (onlineInput j (x .masked) (all n (msgs c n j p x)))
 
   -- h_j
-  commitments-chosen : (a : Asked) (s : List ℕ) → length s ≡ stretchBytes c n a → Below n a
-      → (p : ℕ) (x : Chosen) → partsOf c n a s ≡ chosen p x → stretchCommitments c n j s a ≡ hj-chosen p x
+  commitments-chosen : (a : Asked) (m s : List ℕ) → length s ≡ stretchBytes c n a → Below n a
+      → (p : ℕ) (x : Chosen) → partsOf c n a s ≡ chosen p x → stretchCommitments c n j m s a ≡ hj-chosen p x
   unfolding stretchCommitments
-  commitments-chosen opened s l b p x e = cc
-  commitments-chosen (hiding q) s l b p x e = sym (chosen-hj c n j q count (b q refl) s l) ∙ ap₂ hj-chosen (chosen-party q p _ x e) (chosen-sent q p _ x e)
+  commitments-chosen opened m s l b p x e = cc
+  commitments-chosen (hiding q) m s l b p x e = sym (chosen-hj c n j q count (b q refl) s l) ∙ ap₂ hj-chosen (chosen-party q p _ x e) (chosen-sent q p _ x e)
 
-  commitments-unchosen : (a : Asked) (s : List ℕ) → length s ≡ stretchBytes c n a
-      → (u : Unchosen) → partsOf c n a s ≡ unchosen u → stretchCommitments c n j s a ≡ hj-unchosen u
+  commitments-unchosen : (a : Asked) (m s : List ℕ) → length m ≡ 16
+      → (u : Unchosen) → partsOf c n a s ≡ unchosen u → stretchCommitments c n j m s a ≡ hj-unchosen m
   unfolding stretchCommitments
-  commitments-unchosen opened s l u e =
-      let f : record { seed* = sentMaster s; h′ = sentOnline s } ≡ u = cc in
-      sym (unchosen-hj c n j count (sentMaster s) (master-size s l)) ∙ ap hj-unchosen f
-  commitments-unchosen (hiding q) s l u e = cc
+  commitments-unchosen opened m s l u e = sym (unchosen-hj c n j count m l)
+  commitments-unchosen (hiding q) m s l u e = cc
 
   -- h'_j
   online-chosen : (a : Asked) (s : List ℕ) → length s ≡ stretchBytes c n a → Below n a
@@ -93,7 +85,7 @@ module _ (c : Circuit) (n j : ℕ) (count : heightOf n ≡ 0 → ⊥) where
 
   online-unchosen : (a : Asked) (s : List ℕ) (u : Unchosen) → partsOf c n a s ≡ unchosen u → stretchOnline c n j s a ≡ u .h′
   unfolding stretchOnline
-  online-unchosen opened s u e = let f : record { seed* = sentMaster s; h′ = sentOnline s } ≡ u = cc in ap (λ (z : Unchosen). z .h′) f
+  online-unchosen opened s u e = let f : record { h′ = s } ≡ u = cc in ap (λ (z : Unchosen). z .h′) f
   online-unchosen (hiding q) s u e = cc
 
   -- two digests are equal if they are what each kind of instance gives
@@ -143,32 +135,51 @@ module _ (c : Circuit) (y proof hstar : List ℕ) (M n : ℕ) (ask : ℕ → Ask
     (size : length proof ≡ proofBytes c M n ask) where
   -- the stretch of an instance, and what is decoded of it
   abbrev part : ℕ → List ℕ
-  part j = stretchAt c n ask proof j
+  part j = stretchAt c M n ask proof j
 
-  abbrev sent : Response
-  sent j = decodeSent c n (ask j) (bytesFrom c n ask (drop 38 proof) j) .0
+  abbrev response : Response
+  response = record {
+    nodes = take (nodesBytes M ask) (drop headerBytes proof);
+    sent = λ j. decodeSent c n (ask j) (bytesFrom c n ask (drop (nodesBytes M ask) (drop headerBytes proof)) j) .0;
+  }
+
+  abbrev sent : ℕ → Sent
+  sent j = response .sent j
+
+  -- the master of an instance that is not chosen, as it follows from the opened nodes
+  abbrev master : ℕ → List ℕ
+  master j = masterAt M ask proof j
+
+  master-size : (j : ℕ) → length (master j) ≡ 16
+  master-size = length-masterAt c n M ask proof size
+
+  -- it is seed*_j
+  seed-is : (j : ℕ) → seed* M ask response j ≡ master j
+  unfolding seed* masterAt nodesAt nodesBytes
+  seed-is j = refl
 
   part-size : (j : ℕ) → j < M → length (part j) ≡ stretchBytes c n (ask j)
   part-size j l = length-stretchAt c n M ask proof size j l
 
   -- the parts are what is sent
   parts-are : (j : ℕ) (z : Sent) → sent j ≡ z → partsOf c n (ask j) (part j) ≡ z
-  parts-are j z e = sym (decoded-parts c n ask proof j) ∙ e
+  parts-are j z e = sym (decoded-parts c n ask M proof j) ∙ e
 
   sent-are : (j : ℕ) (z : Sent) → partsOf c n (ask j) (part j) ≡ z → sent j ≡ z
-  sent-are j z e = decoded-parts c n ask proof j ∙ e
+  sent-are j z e = decoded-parts c n ask M proof j ∙ e
 
   -- what passes the tests is verified
-  verified : ProofTests c y proof hstar M n ask → Verified c y hstar M n ask sent
+  verified : ProofTests c y proof hstar M n ask → Verified c y hstar M n ask response
   unfolding hstarOf transcriptOf
   verified t = record {
-    answers = λ j l. ap answered (decoded-parts c n ask proof j) ∙ parts-answer c n j count (ask j) (part j);
-    hj = λ j. stretchCommitments c n j (part j) (ask j);
-    h = sha3-256 (allCommitmentsInput (all M (λ j. stretchCommitments c n j (part j) (ask j))));
+    answers = λ j l. ap answered (decoded-parts c n ask M proof j) ∙ parts-answer c n j count (ask j) (part j);
+    hj = λ j. stretchCommitments c n j (master j) (part j) (ask j);
+    h = sha3-256 (allCommitmentsInput (all M (λ j. stretchCommitments c n j (master j) (part j) (ask j))));
     h′j = λ j. stretchOnline c n j (part j) (ask j);
     h′ = sha3-256 (allOnlineInput (all M (λ j. stretchOnline c n j (part j) (ask j))));
-    step-1 = λ j p x l e. commitments-chosen c n j count (ask j) (part j) (part-size j l) (below j) p x (parts-are j _ e);
-    step-2 = λ j u l e. commitments-unchosen c n j count (ask j) (part j) (part-size j l) u (parts-are j _ e);
+    step-1 = λ j p x l e. commitments-chosen c n j count (ask j) (master j) (part j) (part-size j l) (below j) p x (parts-are j _ e);
+    step-2 = λ j u l e.
+        commitments-unchosen c n j count (ask j) (master j) (part j) (master-size j) u (parts-are j _ e) ∙ ap (hj-unchosen c n j count) (sym (seed-is j));
     step-2-h = refl;
     step-3-output = λ j p x l e. output-chosen c n j count (ask j) (part j) y (part-size j l) (below j) (λ q r. t .output j q l r) p x (parts-are j _ e);
     step-3 = λ j p x l e. online-chosen c n j count (ask j) (part j) (part-size j l) (below j) p x (parts-are j _ e);
@@ -178,15 +189,15 @@ module _ (c : Circuit) (y proof hstar : List ℕ) (M n : ℕ) (ask : ℕ → Ask
   }
 
   -- the digests of what is verified
-  commitments-are : (v : Verified c y hstar M n ask sent) (j : ℕ) → j < M → stretchCommitments c n j (part j) (ask j) ≡ v .hj j
+  commitments-are : (v : Verified c y hstar M n ask response) (j : ℕ) → j < M → stretchCommitments c n j (master j) (part j) (ask j) ≡ v .hj j
   commitments-are v j l =
-      either-way c n j count (ask j) (part j) (stretchCommitments c n j (part j) (ask j)) (v .hj j) (hj-chosen c n j count) (hj-unchosen c n j count)
-      (commitments-chosen c n j count (ask j) (part j) (part-size j l) (below j))
-      (commitments-unchosen c n j count (ask j) (part j) (part-size j l))
+      either-way c n j count (ask j) (part j) (stretchCommitments c n j (master j) (part j) (ask j)) (v .hj j) (hj-chosen c n j count) (λ u. hj-unchosen c n j count (master j))
+      (commitments-chosen c n j count (ask j) (master j) (part j) (part-size j l) (below j))
+      (commitments-unchosen c n j count (ask j) (master j) (part j) (master-size j))
       (λ p x e. v .step-1 j p x l (sent-are j _ e))
-      (λ u e. v .step-2 j u l (sent-are j _ e))
+      (λ u e. v .step-2 j u l (sent-are j _ e) ∙ ap (hj-unchosen c n j count) (seed-is j))
 
-  online-are : (v : Verified c y hstar M n ask sent) (j : ℕ) → j < M → stretchOnline c n j (part j) (ask j) ≡ v .h′j j
+  online-are : (v : Verified c y hstar M n ask response) (j : ℕ) → j < M → stretchOnline c n j (part j) (ask j) ≡ v .h′j j
   online-are v j l =
       either-way c n j count (ask j) (part j) (stretchOnline c n j (part j) (ask j)) (v .h′j j) (h′j-chosen c n j count) (λ u. u .h′)
       (online-chosen c n j count (ask j) (part j) (part-size j l) (below j))
@@ -195,7 +206,7 @@ module _ (c : Circuit) (y proof hstar : List ℕ) (M n : ℕ) (ask : ℕ → Ask
       (λ u e. v .step-3-sent j u l (sent-are j _ e))
 
   -- and the other way round, where the unused bits are zero
-  tested : ((j p : ℕ) (x : Chosen) → j < M → sent j ≡ chosen p x → UnusedZero c x) → Verified c y hstar M n ask sent → ProofTests c y proof hstar M n ask
+  tested : ((j p : ℕ) (x : Chosen) → j < M → sent j ≡ chosen p x → UnusedZero c x) → Verified c y hstar M n ask response → ProofTests c y proof hstar M n ask
   unfolding hstarOf transcriptOf
   tested clean v = record {
     size = size;
@@ -230,17 +241,20 @@ header-passed proof t =
       zero = eqb-true (headerZero proof) 0 (and-true-right d e v);
     }
 
+-- its counts are in their limits
+pub counts-good : (proof : List ℕ) (h : Header) → GoodHeader proof h → areCounts (h .M) (h .tau) ≡ true
+unfolding areCounts
+counts-good proof h g =
+    and-true _ _ (le-leb 2 (h .M) (g .M-least))
+    (and-true _ _ (le-leb (h .M) 512 (g .M-most)) (and-true _ _ (le-leb 1 (h .tau) (g .tau-least)) (lt-ltb (h .tau) (h .M) (g .tau-most))))
+
 -- so it is for check
 header-accepted : (proof : List ℕ)
     → GoodHeader proof (record { M = headerM proof; tau = headerTau proof; n = headerN proof; hstar = headerHstar proof }) → goodHeader proof ≡ true
-unfolding goodHeader areCounts
+unfolding goodHeader
 header-accepted proof g =
     and-true _ _ (le-leb 38 (length proof) (g .size))
-    (and-true _ _
-    (and-true _ _ (le-leb 2 (headerM proof) (g .M-least))
-    (and-true _ _ (le-leb (headerM proof) 512 (g .M-most))
-    (and-true _ _ (le-leb 1 (headerTau proof) (g .tau-least)) (lt-ltb (headerTau proof) (headerM proof) (g .tau-most)))))
-    (and-true _ _ (g .parties) (eq-eqb (headerZero proof) 0 (g .zero))))
+    (and-true _ _ (counts-good proof _ g) (and-true _ _ (g .parties) (eq-eqb (headerZero proof) 0 (g .zero))))
 
 -- the tests of a proof with the header h
 abbrev TestsWith : Circuit → List ℕ → List ℕ → List ℕ → List ℕ → Header → Type 0
@@ -265,7 +279,7 @@ module _ (bound proof : List ℕ) (good : GoodHeader proof (decodeHeader proof))
 pub implied-is : (c : Circuit) (bound proof : List ℕ)
     → impliedLength c bound proof ≡ proofBytes c (decodeHeader proof .M) (decodeHeader proof .n) (challengeIn bound proof)
 unfolding impliedLength
-implied-is c bound proof = all-bytes c (decodeHeader proof .n) (challengeIn bound proof) (decodeHeader proof .M)
+implied-is c bound proof = all-bytes c (decodeHeader proof .n) (challengeIn bound proof) (decodeHeader proof .M) (decodeHeader proof .M)
 
 -- what passes the tests meets the published check
 tests-accept : (s y message proof : List ℕ) → CheckTests s y message proof → Accepts s y message proof
@@ -284,7 +298,7 @@ tests-accept s y message proof t =
       size = tests .size ∙ sym (implied-is c (boundIn s y message proof) proof);
       unused = λ j p x l e.
           unused-chosen c (decodeHeader proof .n) j (height (boundIn s y message proof) proof good) (challengeIn (boundIn s y message proof) proof j) _ (tests .unused j l) p x
-          (sym (decoded-parts c (decodeHeader proof .n) (challengeIn (boundIn s y message proof) proof) proof j) ∙ e);
+          (sym (decoded-parts c (decodeHeader proof .n) (challengeIn (boundIn s y message proof) proof) (decodeHeader proof .M) proof j) ∙ e);
       verified = verified c y proof (decodeHeader proof .hstar) (decodeHeader proof .M) (decodeHeader proof .n) (challengeIn (boundIn s y message proof) proof)
           (height (boundIn s y message proof) proof good) (all-below (boundIn s y message proof) proof good) (tests .size) tests;
     }

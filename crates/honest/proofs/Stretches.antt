@@ -1,32 +1,32 @@
 -- The stretch of an instance, checked: the digests, the unused bits and the output that it gives.
 -- Assumes nothing.
 use mathlib.Core.Path.{_≡_, refl, ap}
-use mathlib.Core.Bool.{true}
+use mathlib.Core.Bool.{true, false}
 use mathlib.Core.List.{List}
 use Prim.Native.Nat.{ℕ}
 use lib.ListN.{length}
 use Rattle.parties.specs.Parties.{heightOf}
 use Rattle.circuit.specs.Circuit.{Circuit}
 use Rattle.hiding.specs.Hiding.{Witness}
-use Rattle.instance.specs.Instance.{Asked, opened, hiding, masterCommitments, masterOnline, stretchOf}
+use Rattle.instance.specs.Instance.{Asked, opened, hiding, isChosen, masterCommitments, masterOnline, stretchOf}
 use Rattle.instance.specs.Opened.{stretchCommitments, stretchOnline, stretchUnused}
-use Rattle.honest.proofs.Parts.{master-back, online-back}
 use Rattle.honest.proofs.Opened.{unused-back, opened-commitments, opened-online}
 use Rattle.honest.proofs.Asking.{Below}
 
 -- instance j of n parties on a witness
 module _ (c : Circuit) (n j : ℕ) (count : heightOf n ≡ 0 → ⊥) (witness master : List ℕ) (size : length master ≡ 16) where
-  -- h_j
-  pub commitments-given : (a : Asked) → Below n a → stretchCommitments c n j (stretchOf c n j witness master a) a ≡ masterCommitments c n j master
-  unfolding stretchCommitments
-  commitments-given opened b = ap (masterCommitments c n j) (master-back c n j witness master size)
-  commitments-given (hiding p) b = opened-commitments c n j p count (b p refl) witness master size
+  -- h_j, where its master is known if it is not chosen
+  pub commitments-given : (a : Asked) → Below n a → (known : List ℕ) → (isChosen a ≡ false → known ≡ master)
+      → stretchCommitments c n j known (stretchOf c n j witness master a) a ≡ masterCommitments c n j master
+  unfolding stretchCommitments isChosen
+  commitments-given opened b known same = ap (masterCommitments c n j) (same refl)
+  commitments-given (hiding p) b known same = opened-commitments c n j p count (b p refl) witness master size
 
   -- h'_j
   pub online-given : Witness c witness → (a : Asked) → Below n a
       → stretchOnline c n j (stretchOf c n j witness master a) a ≡ masterOnline c n j witness master
-  unfolding stretchOnline
-  online-given hw opened b = online-back c n j witness master size
+  unfolding stretchOnline stretchOf
+  online-given hw opened b = refl
   online-given hw (hiding p) b = opened-online c n j p count (b p refl) witness master size hw
 
   -- no unused bit is set

@@ -17,17 +17,17 @@ use Rattle.circuit.specs.File.{Reading, refused, legal, readCircuit}
 use Rattle.circuit.specs.Operations.{holds, onLegal}
 use Rattle.instance.specs.Instance.{Asked, opened, hiding}
 use Rattle.proof.specs.Protocol.{hstarOf, statementOf, challenged}
-use Rattle.proof.specs.File.{headerM, headerTau, headerN, headerHstar, goodHeader, proofBytes, stretchAt}
+use Rattle.proof.specs.File.{headerM, headerTau, headerN, headerHstar, goodHeader, proofBytes, masterAt, stretchAt}
 use Rattle.instance.specs.Opened.{openedRun, stretchCommitments, stretchOnline, stretchUnused, stretchOutput}
 use Rattle.proof.specs.Check.{every, checkProof, checkLegal, checkOp}
-use Rattle.honest.proofs.Passing.{refused-not, unless-test, unless-rest, and-true, every-at, all-every}
+use Rattle.proof.proofs.Passing.{refused-not, unless-test, unless-rest, and-true, every-at, all-every}
 
 -- the tests of a proof whose header is good, where h* is hstar, and `ask` says what is asked of each instance
 pub record ProofTests (c : Circuit) (y proof hstar : List ℕ) (M n : ℕ) (ask : ℕ → Asked) : Type 0 where
   pub size : length proof ≡ proofBytes c M n ask
-  pub unused : (j : ℕ) → j < M → stretchUnused c n (stretchAt c n ask proof j) (ask j) ≡ true
-  pub output : (j p : ℕ) → j < M → ask j ≡ hiding p → pack (openedRun c n j p (stretchAt c n ask proof j) .output) ≡ y
-  pub digest : hstarOf M (λ j. stretchCommitments c n j (stretchAt c n ask proof j) (ask j)) (λ j. stretchOnline c n j (stretchAt c n ask proof j) (ask j))
+  pub unused : (j : ℕ) → j < M → stretchUnused c n (stretchAt c M n ask proof j) (ask j) ≡ true
+  pub output : (j p : ℕ) → j < M → ask j ≡ hiding p → pack (openedRun c n j p (stretchAt c M n ask proof j) .output) ≡ y
+  pub digest : hstarOf M (λ j. stretchCommitments c n j (masterAt M ask proof j) (stretchAt c M n ask proof j) (ask j)) (λ j. stretchOnline c n j (stretchAt c M n ask proof j) (ask j))
       ≡ hstar
 
 -- all tests
@@ -49,15 +49,15 @@ module _ (c : Circuit) (y proof : List ℕ) (M n : ℕ) (ask : ℕ → Asked) wh
   size = eqb (length proof) (proofBytes c M n ask)
 
   abbrev unused : ℕ → Bool
-  unused j = stretchUnused c n (stretchAt c n ask proof j) (ask j)
+  unused j = stretchUnused c n (stretchAt c M n ask proof j) (ask j)
 
   abbrev output : ℕ → Bool
-  output j = stretchOutput c n j y (stretchAt c n ask proof j) (ask j)
+  output j = stretchOutput c n j y (stretchAt c M n ask proof j) (ask j)
 
   abbrev recomputed : List ℕ
   recomputed =
-      hstarOf M (λ j. stretchCommitments c n j (stretchAt c n ask proof j) (ask j))
-      (λ j. stretchOnline c n j (stretchAt c n ask proof j) (ask j))
+      hstarOf M (λ j. stretchCommitments c n j (masterAt M ask proof j) (stretchAt c M n ask proof j) (ask j))
+      (λ j. stretchOnline c n j (stretchAt c M n ask proof j) (ask j))
 
   -- check makes them in this order
   tests : checkProof c y proof M n ask
@@ -67,14 +67,14 @@ module _ (c : Circuit) (y proof : List ℕ) (M n : ℕ) (ask : ℕ → Asked) wh
   tests = refl
 
   -- the test of the output, where all but p are opened
-  output-is : (j p : ℕ) → ask j ≡ hiding p → output j ≡ sameBytes (pack (openedRun c n j p (stretchAt c n ask proof j) .output)) y
+  output-is : (j p : ℕ) → ask j ≡ hiding p → output j ≡ sameBytes (pack (openedRun c n j p (stretchAt c M n ask proof j) .output)) y
   unfolding stretchOutput
-  output-is j p e = ap (stretchOutput c n j y (stretchAt c n ask proof j)) e
+  output-is j p e = ap (stretchOutput c n j y (stretchAt c M n ask proof j)) e
 
   -- it passes where each replay gives y
   output-passes : (j : ℕ) (a : Asked)
-      → ((p : ℕ) → a ≡ hiding p → pack (openedRun c n j p (stretchAt c n ask proof j) .output) ≡ y)
-      → stretchOutput c n j y (stretchAt c n ask proof j) a ≡ true
+      → ((p : ℕ) → a ≡ hiding p → pack (openedRun c n j p (stretchAt c M n ask proof j) .output) ≡ y)
+      → stretchOutput c n j y (stretchAt c M n ask proof j) a ≡ true
   unfolding stretchOutput
   output-passes j opened h = refl
   output-passes j (hiding p) h = eq-same _ y (h p refl)

@@ -32,7 +32,8 @@ use Rattle.instance.specs.Stretch.{stretchBytes, siblingsPart, correctionsPart,
 use Rattle.instance.specs.Opened.{openedSeeds, openedCommitments, openedShowing, openedRun}
 use Rattle.honest.specs.Response.{Chosen}
 use Rattle.honest.specs.Verification.{all, seedOf, comOf, tapes, honestLeaf, honestAux, honestCom, openedLeaf, openedCom, simulation, msgs}
-use Rattle.honest.proofs.Derived.{length-rows, seeds-row, length-tapes, tapes-row}
+use Rattle.proof.proofs.Places.{length-rows}
+use Rattle.honest.proofs.Derived.{seeds-row, length-tapes, tapes-row}
 use Rattle.honest.proofs.Opened.{hidden-same}
 use Rattle.honest.proofs.Leaves.{opened-leaf}
 

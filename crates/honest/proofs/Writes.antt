@@ -14,10 +14,11 @@ use Rattle.parties.specs.Parties.{isPartyCount}
 use Rattle.circuit.specs.Circuit.{Circuit, evalGates, evaluate}
 use Rattle.circuit.specs.File.{legal, readCircuit}
 use Rattle.seeds.specs.Operations.{areCounts}
-use Rattle.proof.specs.Protocol.{mastersOf, firstMessage, statementOf, challenged}
+use Rattle.cover.specs.Masters.{masterOf}
+use Rattle.proof.specs.Protocol.{firstMessage, statementOf, challenged}
 use Rattle.proof.specs.File.{proofBytes, proofRoom}
 use Rattle.proof.specs.Prove.{proofOf, witnesses, written, proveLegal, proveOp}
-use Rattle.honest.proofs.Written.{length-master, length-proof}
+use Rattle.proof.proofs.Written.{length-proof}
 
 -- the output of a circuit has O bits
 outputs-length : (c : Circuit) (witness : List ℕ) → length (evaluate c (bitAt witness)) ≡ length (c .outputs)
@@ -48,7 +49,7 @@ module _ (c : Circuit) (witness y message root buffer : List ℕ) (M tau n : ℕ
   y-given = eq-same (pack (evaluate c (bitAt witness))) y (h .gives)
 
   legal-writes : (s : List ℕ) → proveLegal s witness y message root M tau n buffer c
-      ≡ written (proofOf c M tau n witness (statementOf M tau n s y message) (mastersOf root)) buffer
+      ≡ written (proofOf c M tau n witness (statementOf M tau n s y message) root) buffer
   unfolding proveLegal
   legal-writes s =
       rw (
@@ -66,14 +67,14 @@ module _ (c : Circuit) (witness y message root buffer : List ℕ) (M tau n : ℕ
 
   -- prove writes the proof
   pub prove-writes : (s : List ℕ) → readCircuit s ≡ legal c
-      → proveOp s witness y message root M tau n buffer ≡ written (proofOf c M tau n witness (statementOf M tau n s y message) (mastersOf root)) buffer
+      → proveOp s witness y message root M tau n buffer ≡ written (proofOf c M tau n witness (statementOf M tau n s y message) root) buffer
   unfolding proveOp
   prove-writes s e = rw e (legal-writes s)
 
   -- and answers its length
   pub prove-answers : (s : List ℕ) → readCircuit s ≡ legal c
       → proveOp s witness y message root M tau n buffer .answer
-      ≡ success (proofBytes c M n (challenged M tau n (firstMessage c M n witness (mastersOf root)) (statementOf M tau n s y message)) ∷ [])
+      ≡ success (proofBytes c M n (challenged M tau n (firstMessage c M n witness (masterOf M root)) (statementOf M tau n s y message)) ∷ [])
   unfolding written
   prove-answers s e =
-      ap (λ (o : Outcome). o .answer) (prove-writes s e) ∙ ap (λ (k : ℕ). success (k ∷ [])) (length-proof c M tau n witness (statementOf M tau n s y message) (mastersOf root) (λ j. length-master j root))
+      ap (λ (o : Outcome). o .answer) (prove-writes s e) ∙ ap (λ (k : ℕ). success (k ∷ [])) (length-proof c M tau n witness (statementOf M tau n s y message) root (h .rootSize))

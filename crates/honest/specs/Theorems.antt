@@ -1,9 +1,9 @@
 -- The theorems on proofs: the statements.
 -- Assumes nothing.
 use mathlib.Core.Path.{_≡_}
-use mathlib.Core.Bool.{true}
+use mathlib.Core.Bool.{true, false}
 use mathlib.Core.List.{List, [], _∷_}
-use Prim.Native.Nat.{ℕ, _≤_, _<_}
+use Prim.Native.Nat.{ℕ, _+_, _^_, _≤_, _<_}
 use lib.ListN.{length, getD, take}
 use Rattle.bits.specs.Bits.{oct, unusedZero}
 use Rattle.keccak.specs.Sponge.{sha3-256}
@@ -14,12 +14,15 @@ use Rattle.circuit.specs.File.{readCircuit, legal}
 use Rattle.hashing.specs.Inputs.{challengeInput}
 use Rattle.choice.specs.Challenge.{maxInstances}
 use Rattle.seeds.specs.Operations.{maxMessage}
+use Rattle.cover.specs.Cover.{isAbove, opened as isOpened, OneAbove}
+use Rattle.cover.specs.Masters.{height, masterOf}
+use Rattle.instance.specs.Instance.{Asked, opened, hiding}
 use Rattle.proof.specs.Protocol.{challenged}
-use Rattle.proof.specs.File.{headerBytes}
+use Rattle.proof.specs.File.{headerBytes, hides}
 use Rattle.proof.specs.Prove.{proveOp}
 use Rattle.proof.specs.Check.{checkOp}
-use Rattle.honest.specs.Response.{Chosen, chosen, Response, answered, Header, HeaderFits, encode, decodeHeader, boundIn, challengeIn, decode, Lengths, impliedLength, UnusedZero}
-use Rattle.honest.specs.Verification.{msgs, Verified}
+use Rattle.honest.specs.Response.{Chosen, chosen, Response, answered, Header, HeaderFits, encode, decodeHeader, boundIn, challengeIn, nodesBytes, decode, Lengths, impliedLength, UnusedZero}
+use Rattle.honest.specs.Verification.{seed*, msgs, Verified}
 
 -- bytes
 abbrev pub AllBytes : List ℕ → Type 0
@@ -59,7 +62,7 @@ pub record Accepts (s y message proof : List ℕ) : Type 0 where
   -- "12 a length other than h* implies"
   pub size : length proof ≡ impliedLength circuit (boundIn s y message proof) proof
   -- "7 unused bits in the proof"
-  pub unused : (j p : ℕ) (x : Chosen) → j < decodeHeader proof .M → decode circuit (boundIn s y message proof) proof j ≡ chosen p x
+  pub unused : (j p : ℕ) (x : Chosen) → j < decodeHeader proof .M → decode circuit (boundIn s y message proof) proof .sent j ≡ chosen p x
       → UnusedZero circuit x
   -- "10 a replay with another output; 13 the recomputed h* differs"
   pub verified : Verified circuit y (decodeHeader proof .hstar) (decodeHeader proof .M) (decodeHeader proof .n)
@@ -69,6 +72,23 @@ pub record Accepts (s y message proof : List ℕ) : Type 0 where
 pub record CheckIsPublished : Type 0 where
   pub sound : (s y message proof : List ℕ) → checkOp s y message proof ≡ done [] → Accepts s y message proof
   pub complete : (s y message proof : List ℕ) → Accepts s y message proof → checkOp s y message proof ≡ done []
+
+-- "from which every unhidden leaf among the M follows and no hidden one does" (document 02, order 5): exactly one opened node is at or
+-- above the master of j ∉ C, and none is at or above that of j ∈ C
+pub record SeedsFollow (M : ℕ) (challenge : ℕ → Asked) : Type 0 where
+  pub every : (j : ℕ) → j < M → challenge j ≡ opened → OneAbove (height M) M (hides challenge) j
+  pub none : (j p k : ℕ) → j < M → challenge j ≡ hiding p → isOpened (height M) M (hides challenge) k ≡ true
+      → isAbove (height M) k (2 ^ height M + j) ≡ false
+
+-- Theorem, seed*_j is read from the cover: under every good header exactly one opened node is at or above each master that step 2 needs,
+-- and none at or above another; and in the bytes that prove writes each seed*_j of step 2 is the master of its instance, from the root
+pub record SeedsFromCover : Type 0 where
+  pub follow : (bound proof : List ℕ) → GoodHeader proof (decodeHeader proof) → SeedsFollow (decodeHeader proof .M) (challengeIn bound proof)
+  pub honest : (s witness y message root buffer left : List ℕ) (M tau n k : ℕ) (c : Circuit) → readCircuit s ≡ legal c
+      → proveOp s witness y message root M tau n buffer ≡ record { answer = success (k ∷ []); left = left ∷ [] }
+      → (j : ℕ) → j < M → challengeIn (boundIn s y message (take k left)) (take k left) j ≡ opened
+      → seed* M (challengeIn (boundIn s y message (take k left)) (take k left)) (decode c (boundIn s y message (take k left)) (take k left)) j
+      ≡ masterOf M root j
 
 -- Theorem: every accepted file is the encoding of its header and its response, so that no byte of it is free; the list holds bytes, as a
 -- file does
@@ -80,16 +100,20 @@ AcceptedEncoding =
 -- Theorem: what is encoded is decoded again, where the header's numbers fit their bytes, and the response is to its challenge and has the
 -- lengths that are asked for
 pub record EncodingDecodes : Type 0 where
-  pub header : (h : Header) (sent : Response) → HeaderFits h → decodeHeader (encode h sent) ≡ h
-  pub response : (c : Circuit) (bound : List ℕ) (h : Header) (sent : Response) → HeaderFits h
-      → ((j : ℕ) → j < h .M → answered (sent j) ≡ challenged (h .M) (h .tau) (h .n) (h .hstar) bound j)
-      → ((j : ℕ) → j < h .M → Lengths c (h .n) (sent j)) → (j : ℕ) → j < h .M → decode c bound (encode h sent) j ≡ sent j
+  pub header : (h : Header) (r : Response) → HeaderFits h → decodeHeader (encode h r) ≡ h
+  pub nodes : (c : Circuit) (bound : List ℕ) (h : Header) (r : Response) → HeaderFits h
+      → length (r .nodes) ≡ nodesBytes (h .M) (challenged (h .M) (h .tau) (h .n) (h .hstar) bound)
+      → decode c bound (encode h r) .nodes ≡ r .nodes
+  pub response : (c : Circuit) (bound : List ℕ) (h : Header) (r : Response) → HeaderFits h
+      → length (r .nodes) ≡ nodesBytes (h .M) (challenged (h .M) (h .tau) (h .n) (h .hstar) bound)
+      → ((j : ℕ) → j < h .M → answered (r .sent j) ≡ challenged (h .M) (h .tau) (h .n) (h .hstar) bound j)
+      → ((j : ℕ) → j < h .M → Lengths c (h .n) (r .sent j)) → (j : ℕ) → j < h .M → decode c bound (encode h r) .sent j ≡ r .sent j
 
 -- Theorem: in every accepted file, the messages of party p that go into h'_j are those sent
 abbrev pub MessagesAsSent : Type 0
 MessagesAsSent =
     (s y message proof : List ℕ) (c : Circuit) → AllBytes proof → readCircuit s ≡ legal c → checkOp s y message proof ≡ done []
-    → (j p : ℕ) (x : Chosen) → j < decodeHeader proof .M → decode c (boundIn s y message proof) proof j ≡ chosen p x
+    → (j p : ℕ) (x : Chosen) → j < decodeHeader proof .M → decode c (boundIn s y message proof) proof .sent j ≡ chosen p x
     → msgs c (decodeHeader proof .n) j p x p ≡ x .msgs-p
 
 -- Theorem: the length of every accepted proof is the one its challenge implies

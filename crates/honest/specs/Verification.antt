@@ -17,7 +17,9 @@ use Rattle.mpc.specs.Showing.{correctionBits, rowBits, hidden, replayOf}
 use Rattle.hashing.specs.Inputs.{commitmentInput, commitmentsInput, onlineInput, allCommitmentsInput, allOnlineInput, transcriptInput}
 use Rattle.tree.specs.Tree.{leftChild, rightChild, nodeValue}
 use Rattle.party.specs.Derive.{seedRow, tapeRow}
+use Rattle.cover.specs.Masters.{masterFrom}
 use Rattle.instance.specs.Instance.{Asked}
+use Rattle.proof.specs.File.{hides}
 use Rattle.honest.specs.Response.{Unchosen, Chosen, unchosen, chosen, Response, answered}
 
 -- x 0, .., x (k − 1), one after the other
@@ -39,6 +41,11 @@ comOf n j leaf aux i = sha3-256 (commitmentInput j n i (seedOf j i (leaf i)) aux
 -- the tapes of the parties, from their seeds
 unfoldable pub tapes : Circuit → ℕ → ℕ → (ℕ → List ℕ) → List ℕ
 tapes c n j leaf = all n (λ i. tapeRow j i (seedOf j i (leaf i)) (usedBits c n i) (rowBytes c))
+
+-- seed*_j of an instance j ∉ C: the master of j, as it follows from the opened nodes (document 02, order 5: "from which every unhidden
+-- leaf among the M follows"), where those of j ∈ C are hidden
+unfoldable pub seed* : ℕ → (ℕ → Asked) → Response → ℕ → List ℕ
+seed* M challenge response j = masterFrom M (hides challenge) (response .nodes) j
 
 -- Round 1, step 1: "use it to generate values seed_{j,1}, r_{j,1}, ..": leaf i is node n + i of the tree of seed*_j
 unfoldable pub honestLeaf : ℕ → ℕ → List ℕ → ℕ → List ℕ
@@ -85,9 +92,9 @@ msgs c n j p x i = pack (rowBits (simulation c n j p x) i)
 
 -- "The verifier accepts iff all the following checks succeed", of M instances by n parties. The challenge (C, P) asks of instance j to be
 -- opened, j ∉ C, or to hide p_j, j ∈ C. "001 has one output bit equal to 1, here it is a string y."
-pub record Verified (c : Circuit) (y hstar : List ℕ) (M n : ℕ) (challenge : ℕ → Asked) (sent : Response) : Type 0 where
+pub record Verified (c : Circuit) (y hstar : List ℕ) (M n : ℕ) (challenge : ℕ → Asked) (response : Response) : Type 0 where
   -- Round 3: the response is one to this challenge
-  pub answers : (j : ℕ) → j < M → answered (sent j) ≡ challenge j
+  pub answers : (j : ℕ) → j < M → answered (response .sent j) ≡ challenge j
   -- h_j, h, h'_j and h'
   pub hj : ℕ → List ℕ
   pub h : List ℕ
@@ -95,17 +102,20 @@ pub record Verified (c : Circuit) (y hstar : List ℕ) (M n : ℕ) (challenge : 
   pub h′ : List ℕ
   -- 1. "For every j ∈ C, i ≠ p_j, the verifier uses state_{j,i} and r_{j,i} to compute com_{j,i}. It then computes
   -- h_j := H(com_{j,1}, .., com_{j,n})."
-  pub step-1 : (j p : ℕ) (x : Chosen) → j < M → sent j ≡ chosen p x → hj j ≡ sha3-256 (commitmentsInput j (all n (openedCom n j p x)))
+  pub step-1 : (j p : ℕ) (x : Chosen) → j < M → response .sent j ≡ chosen p x
+      → hj j ≡ sha3-256 (commitmentsInput j (all n (openedCom n j p x)))
   -- 2. "For j ∈ [M] \ C, the verifier uses seed*_j to compute h_j as an honest prover would."
-  pub step-2 : (j : ℕ) (u : Unchosen) → j < M → sent j ≡ unchosen u → hj j ≡ sha3-256 (commitmentsInput j (all n (honestCom c n j (u .seed*))))
+  pub step-2 : (j : ℕ) (u : Unchosen) → j < M → response .sent j ≡ unchosen u
+      → hj j ≡ sha3-256 (commitmentsInput j (all n (honestCom c n j (seed* M challenge response j))))
   -- "It then computes h := H(h_1, .., h_M)."
   pub step-2-h : h ≡ sha3-256 (allCommitmentsInput (all M hj))
   -- 3. "For each j ∈ C, the verifier simulates an execution of Π .. This yields {msgs_i}_{i ≠ p_j} and an output bit b. The verifier
   -- checks that b = 1"
-  pub step-3-output : (j p : ℕ) (x : Chosen) → j < M → sent j ≡ chosen p x → pack (simulation c n j p x .output) ≡ y
+  pub step-3-output : (j p : ℕ) (x : Chosen) → j < M → response .sent j ≡ chosen p x → pack (simulation c n j p x .output) ≡ y
   -- "and computes h'_j := H({ẑ_{j,α}}, msgs_{j,1}, .., msgs_{j,n})"; for j ∉ C it is as sent
-  pub step-3 : (j p : ℕ) (x : Chosen) → j < M → sent j ≡ chosen p x → h′j j ≡ sha3-256 (onlineInput j (x .masked) (all n (msgs c n j p x)))
-  pub step-3-sent : (j : ℕ) (u : Unchosen) → j < M → sent j ≡ unchosen u → h′j j ≡ u .h′
+  pub step-3 : (j p : ℕ) (x : Chosen) → j < M → response .sent j ≡ chosen p x
+      → h′j j ≡ sha3-256 (onlineInput j (x .masked) (all n (msgs c n j p x)))
+  pub step-3-sent : (j : ℕ) (u : Unchosen) → j < M → response .sent j ≡ unchosen u → h′j j ≡ u .h′
   -- "as well as h' := H(h'_1, .., h'_m)", m being M
   pub step-3-h′ : h′ ≡ sha3-256 (allOnlineInput (all M h′j))
   -- 4. "The verifier checks that H(h, h') = h*."

@@ -23,7 +23,7 @@ use Rattle.mpc.proofs.Worked.{replayed-rows, replayed-output}
 use Rattle.party.specs.Derive.{commitmentOf}
 use Rattle.instance.specs.Instance.{hiding, tapesOf, commitmentsDigest, onlineDigest, commitmentsOf, masterSeeds, masterTapes, masterCorrections, masterCommitments}
 use Rattle.instance.specs.Stretch.{stretchBytes, correctionsPart, commitmentPart}
-use Rattle.instance.specs.Opened.{openedSeeds, openedCommitments, openedShowing, openedRun, stretchCommitments, stretchOnline, stretchOutput}
+use Rattle.instance.specs.Opened.{openedSeeds, openedCommitments, openedShowing, openedRun, stretchOnline, stretchOutput}
 use Rattle.instance.specs.Steps.{Tree}
 use Rattle.instance.proofs.Checks.{sent-bytes, commitment-is, masked-are, row-is}
 use Rattle.mpc.proofs.Opened.{sized}
@@ -84,8 +84,8 @@ module _ (s : List ℕ) (i o g a : ℕ) (k : Known s (sized i o g a)) (n h j p :
       (tabulate n
       (λ t.
       cond (eqb t p) (take (16 * h + x + 32 - (16 * h + x)) (drop (16 * h + x) part)) (commitmentOf j n t (take m (seeds ++ v)) (take x (corr ++ w))))))
-      → r ≡ stretchCommitments (circuitOf s) n j part (hiding p)
-  unfolding stretchCommitments openedCommitments
+      → r ≡ commitmentsDigest j (openedCommitments (circuitOf s) n j p part)
+  unfolding openedCommitments
   commitments-made m seeds v w r e l q =
       q ∙ ap (commitmentsDigest j)
       (ap (λ (t : List ℕ). committed n j p t (take m (seeds ++ v)) (take x (corr ++ w))) (commitment-is s i o g a k n h p tree part size x sent)

@@ -1,7 +1,7 @@
 -- One instance of the protocol: what its master gives, its digests, and what is sent of it (source document 001, Figure 2; document
 -- 01, "Seeds and digests").
 -- Assumes nothing.
-use mathlib.Core.Bool.{cond}
+use mathlib.Core.Bool.{Bool, true, false, cond}
 use mathlib.Core.List.{List, [], _++_, flatten}
 use Prim.Native.Nat.{ℕ, suc, _+_}
 use lib.Dec.{eqb}
@@ -77,14 +77,19 @@ pub data Asked : Type 0 where
   opened : Asked
   hiding : ℕ → Asked
 
+-- whether an instance is chosen: its master stays hidden
+unfoldable pub isChosen : Asked → Bool
+isChosen opened = false
+isChosen (hiding p) = true
+
 -- "corrections unless p = n − 1"
 unfoldable pub sentCorrections : ℕ → ℕ → List ℕ → List ℕ
 sentCorrections n p corrections = cond (eqb (suc p) n) [] corrections
 
--- Round 3: "Not chosen: master (16), h'_j (32). Chosen: log2 n siblings of 16 bytes, corrections unless p = n − 1, com_p, masked inputs,
--- broadcast row p."
+-- Round 3: "stretches of instances not chosen keep only h'_j" (document 02, order 5); "Chosen: log2 n siblings of 16 bytes, corrections
+-- unless p = n − 1, com_p, masked inputs, broadcast row p."
 unfoldable pub stretchOf : Circuit → ℕ → ℕ → List ℕ → List ℕ → Asked → List ℕ
-stretchOf c n j witness master opened = master ++ masterOnline c n j witness master
+stretchOf c n j witness master opened = masterOnline c n j witness master
 stretchOf c n j witness master (hiding p) =
     siblingsBelow j (heightOf n) 1 p master ++ sentCorrections n p (masterCorrections c n j master)
     ++ commitmentOf j n p (masterSeeds n j master) (masterCorrections c n j master) ++ masterMasked c n j witness master

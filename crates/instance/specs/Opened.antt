@@ -15,7 +15,7 @@ use Rattle.mpc.specs.Showing.{rowsOf, hidden, Showing, replayOf}
 use Rattle.tree.specs.Tree.{openedBelow}
 use Rattle.party.specs.Derive.{commitmentOf}
 use Rattle.instance.specs.Instance.{Asked, opened, hiding, seedsOf, tapesOf, commitmentsDigest, onlineDigest, masterCommitments}
-use Rattle.instance.specs.Stretch.{sentMaster, sentOnline, siblingsPart, correctionsPart, commitmentPart, maskedPart, rowPart}
+use Rattle.instance.specs.Stretch.{siblingsPart, correctionsPart, commitmentPart, maskedPart, rowPart}
 
 -- the seeds of a chosen instance: the leaves that follow from its siblings
 unfoldable pub openedSeeds : ℕ → ℕ → ℕ → List ℕ → List ℕ
@@ -40,14 +40,14 @@ openedShowing c n j p part = record {
 unfoldable pub openedRun : Circuit → ℕ → ℕ → ℕ → List ℕ → Transcript
 openedRun c n j p part = replayOf c n p (openedShowing c n j p part)
 
--- h_j, from an instance's stretch
-unfoldable pub stretchCommitments : Circuit → ℕ → ℕ → List ℕ → Asked → List ℕ
-stretchCommitments c n j part opened = masterCommitments c n j (sentMaster part)
-stretchCommitments c n j part (hiding p) = commitmentsDigest j (openedCommitments c n j p part)
+-- h_j, from an instance's master if it is not chosen, else from its stretch
+unfoldable pub stretchCommitments : Circuit → ℕ → ℕ → List ℕ → List ℕ → Asked → List ℕ
+stretchCommitments c n j master part opened = masterCommitments c n j master
+stretchCommitments c n j master part (hiding p) = commitmentsDigest j (openedCommitments c n j p part)
 
 -- h'_j, from an instance's stretch
 unfoldable pub stretchOnline : Circuit → ℕ → ℕ → List ℕ → Asked → List ℕ
-stretchOnline c n j part opened = sentOnline part
+stretchOnline c n j part opened = part
 stretchOnline c n j part (hiding p) = onlineDigest j (maskedPart c n p part) (rowsOf n (openedRun c n j p part))
 
 -- refusal 7: "unused bits in the proof", in one stretch

@@ -1,4 +1,4 @@
--- What is sent of an instance: the parts of its stretch of the proof file (document 01, "Proof file").
+-- What is sent of an instance: the parts of its stretch of the proof file (document 01, "Proof file"; document 02, order 5).
 -- Assumes nothing.
 use mathlib.Core.Bool.{cond}
 use mathlib.Core.List.{List}
@@ -17,16 +17,9 @@ correctionBytes c n p = cond (eqb (suc p) n) 0 (oct (andsOf c))
 
 -- the bytes of a stretch
 unfoldable pub stretchBytes : Circuit → ℕ → Asked → ℕ
-stretchBytes c n opened = 48
+stretchBytes c n opened = 32
 stretchBytes c n (hiding p) =
     16 * heightOf n + correctionBytes c n p + 32 + oct (c .inputs) + oct (andsOf c + length (c .outputs))
-
--- the parts of the stretch of an instance that is not chosen
-abbrev pub sentMaster : List ℕ → List ℕ
-sentMaster part = take 16 part
-
-abbrev pub sentOnline : List ℕ → List ℕ
-sentOnline part = drop 16 part
 
 -- the parts of a chosen instance's stretch, in order
 unfoldable pub siblingsPart : ℕ → List ℕ → List ℕ

@@ -10,9 +10,9 @@ ghost use Rattle.circuit.specs.File.{maxGates, circuitOf};
 ghost use Rattle.mpc.specs.Showing.{rowsOf, replayOf};
 ghost use Rattle.engine.specs.Steps.{wireCount};
 ghost use Rattle.mpc.specs.Steps.{Known, Parties, ShowingFits, TapesFit, prepared, replayed as «replayed-memory»};
-ghost use Rattle.instance.specs.Instance.{onlineDigest, masterTapes, masterCommitments, hiding};
+ghost use Rattle.instance.specs.Instance.{commitmentsDigest, onlineDigest, masterTapes, masterCommitments, hiding};
 ghost use Rattle.instance.specs.Stretch.{stretchBytes};
-ghost use Rattle.instance.specs.Opened.{openedSeeds, openedShowing, stretchCommitments, stretchOnline, stretchUnused, stretchOutput};
+ghost use Rattle.instance.specs.Opened.{openedSeeds, openedCommitments, openedShowing, stretchOnline, stretchUnused, stretchOutput};
 ghost use Rattle.instance.specs.Steps.{Tree, Lent};
 use crate::Instance;
 use crate::Replayed;
@@ -166,7 +166,7 @@ pub fn replay(
     memory: &mut [u8],
 ) -> Replayed
     requires { ⌜ Lent (now s) z (inst .parties) (inst .height) (now tapes) (now memory) × ((p < inst .parties) × ((length (now part) ≡ stretchBytes (circuitOf (now s)) (inst .parties) (hiding p)) × (stretchUnused (circuitOf (now s)) (inst .parties) (now part) (hiding p) ≡ true))) ⌝ }
-    ensures { λ r. ⌜ (r .agrees ≡ stretchOutput (circuitOf (now (s .entry))) (inst .parties) (inst .number) (now (y .entry)) (now (part .entry)) (hiding p)) × ((r .commitments ≡ stretchCommitments (circuitOf (now (s .entry))) (inst .parties) (inst .number) (now (part .entry)) (hiding p)) × (r .online ≡ stretchOnline (circuitOf (now (s .entry))) (inst .parties) (inst .number) (now (part .entry)) (hiding p))) ⌝ }
+    ensures { λ r. ⌜ (r .agrees ≡ stretchOutput (circuitOf (now (s .entry))) (inst .parties) (inst .number) (now (y .entry)) (now (part .entry)) (hiding p)) × ((r .commitments ≡ commitmentsDigest (inst .number) (openedCommitments (circuitOf (now (s .entry))) (inst .parties) (inst .number) p (now (part .entry)))) × (r .online ≡ stretchOnline (circuitOf (now (s .entry))) (inst .parties) (inst .number) (now (part .entry)) (hiding p))) ⌝ }
     ensures { λ _. ⌜ now (tapes .exit) ≡ openedShowing (circuitOf (now (s .entry))) (inst .parties) (inst .number) p (now (part .entry)) .tapes ⌝ }
     ensures { λ _. ⌜ now (memory .exit) ≡ «replayed-memory» (now (s .entry)) z (inst .parties) p (openedShowing (circuitOf (now (s .entry))) (inst .parties) (inst .number) p (now (part .entry))) (replicate (length (now (memory .entry))) 0) ⌝ }
 {

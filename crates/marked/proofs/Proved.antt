@@ -15,7 +15,8 @@ use Rattle.circuit.specs.File.{legal, withinLimits, rightLength, goodRecord, go
 use Rattle.choice.specs.Challenge.{streamOf, instances, hiddenParties, Ascending, more, Sound}
 use Rattle.seeds.specs.Operations.{areCounts}
 use Rattle.choice.proofs.Challenges.{challenge-sound}
-use Rattle.proof.specs.Protocol.{mastersOf, firstMessage, statementOf, asked, challenged}
+use Rattle.cover.specs.Masters.{masterOf}
+use Rattle.proof.specs.Protocol.{firstMessage, statementOf, asked, challenged}
 use Rattle.proof.specs.File.{proofBytes, proofRoom}
 use Rattle.proof.specs.Prove.{proveOp}
 use Rattle.honest.proofs.Writes.{Passes, prove-answers}
@@ -36,11 +37,11 @@ unfolding proofRoom circuitOf leAt gatesInOrder chainFrom gateAt ands heightOf
 room-K = refl
 
 -- the two rows of the table
-first-row : proofSizes 0 ≡ replicate 4 233
+first-row : proofSizes 0 ≡ replicate 4 217
 unfolding Right
 first-row = marked-cases m10First (List·Memᴰ·tail (List·Memᴰ·tail (List·Memᴰ·tail (List·Memᴰ·tail (List·Memᴰ·tail (List·Memᴰ·tail (List·Memᴰ·tail (List·Memᴰ·tail (List·Memᴰ·tail (List·Memᴰ·tail (List·Memᴰ·head refl)))))))))))
 
-last-row : proofSizes 1 ≡ replicate 4 232
+last-row : proofSizes 1 ≡ replicate 4 216
 unfolding Right
 last-row = marked-cases m10Last (List·Memᴰ·tail (List·Memᴰ·tail (List·Memᴰ·tail (List·Memᴰ·tail (List·Memᴰ·tail (List·Memᴰ·tail (List·Memᴰ·tail (List·Memᴰ·tail (List·Memᴰ·tail (List·Memᴰ·tail (List·Memᴰ·tail (List·Memᴰ·head refl))))))))))))
 
@@ -83,20 +84,20 @@ answers : (witness y message root buffer : List ℕ) (p k : ℕ) → ProveInputs
     → hiddenParty witness y message root ≡ p → proveOp circuitK witness y message root 4 1 2 buffer .answer ≡ success (k ∷ [])
 unfolding hiddenParty challenged
 answers witness y message root buffer p k h f e =
-    let hstar : List ℕ = firstMessage (circuitOf circuitK) 4 2 witness (mastersOf root) in
+    let hstar : List ℕ = firstMessage (circuitOf circuitK) 4 2 witness (masterOf 4 root) in
     let bound : List ℕ = statementOf 4 1 2 circuitK y message in
     let stream : List ℕ = streamOf 1 hstar bound in
     prove-answers (circuitOf circuitK) witness y message root buffer 4 1 2 (passes witness y message root buffer h) circuitK read-K
     ∙ ap (λ (n : ℕ). success (n ∷ []))
     (size-by-party (instances 4 1 stream) (hiddenParties 1 2 stream) p k (challenge-sound 4 1 2 hstar bound (omega arith) (omega arith)) e f)
 
--- "m10 M = 4, τ = 1, n = 2: 233 bytes if p = 0, 232 if p = 1"
+-- m10, M = 4, τ = 1, n = 2: 217 bytes if p = 0, 216 if p = 1
 pub m10-proved : M10
 unfolding hiddenParty
 m10-proved witness y message root buffer h =
-    let hstar : List ℕ = firstMessage (circuitOf circuitK) 4 2 witness (mastersOf root) in
+    let hstar : List ℕ = firstMessage (circuitOf circuitK) 4 2 witness (masterOf 4 root) in
     record {
       party = challenge-sound 4 1 2 hstar (statementOf 4 1 2 circuitK y message) (omega arith) (omega arith) .hidden 0;
-      first = answers witness y message root buffer 0 233 h first-row;
-      last = answers witness y message root buffer 1 232 h last-row;
+      first = answers witness y message root buffer 0 217 h first-row;
+      last = answers witness y message root buffer 1 216 h last-row;
     }

@@ -23,6 +23,9 @@ use Rattle.mpc.specs.Run.{corrections, corrected, broadcast, outputs, run}
 use Rattle.mpc.specs.Tapes.{inputMasks, outputMasks, productShares, usedBits, unusedRows, withRow}
 use Rattle.mpc.specs.Showing.{correctionBits, maskedInput, maskedInputs, runWith, runOn, honestRun, rowBits, rowsOf, shownBits, firstBits, showing}
 use Rattle.mpc.specs.Operations.{prepareLegal, prepareOp, ran, runLegal, runOp, holdsShowing, showLegal, showOp}
+use Rattle.cover.specs.Cover.{some, those, up, isAbove, hasLeaf, hidden, unhidden, opened, cover}
+use Rattle.cover.specs.Masters.{leastFrom, height, coverBytes}
+use Rattle.instance.specs.Instance.{isChosen}
 use Rattle.instance.specs.Stretch.{correctionBytes, stretchBytes}
 use Rattle.proof.specs.Protocol.{asked}
 use Rattle.proof.specs.File.{stretchStart}
@@ -103,7 +106,7 @@ every-row (d ∷ cs) t c m =
 
 -- the marked cases pass
 table-passes : every cases ≡ true
-unfolding every holds sameAnswer sameBuffers sameOutcome sameBytes flatten odd testBit fromBits bitAt pack none unusedZero rowOf xors heightOf isPartyCount corrections corrected broadcast outputs run inputMasks outputMasks productShares usedBits unusedRows withRow correctionBits maskedInput maskedInputs runWith runOn honestRun rowBits rowsOf shownBits firstBits showing prepareLegal prepareOp ran runLegal runOp holdsShowing showLegal showOp leAt put ands withinLimits rightLength goodRecord goodRecords walkFrom linkOf chainWalk onWalk chainFrom gateAt gatesInOrder readsWritten goodOutputs goodWires circuitOf readCircuit readAnswer readOp correctionBytes stretchBytes asked stretchStart
+unfolding every holds sameAnswer sameBuffers sameOutcome sameBytes flatten odd testBit fromBits bitAt pack none unusedZero rowOf xors heightOf isPartyCount corrections corrected broadcast outputs run inputMasks outputMasks productShares usedBits unusedRows withRow correctionBits maskedInput maskedInputs runWith runOn honestRun rowBits rowsOf shownBits firstBits showing prepareLegal prepareOp ran runLegal runOp holdsShowing showLegal showOp leAt put ands withinLimits rightLength goodRecord goodRecords walkFrom linkOf chainWalk onWalk chainFrom gateAt gatesInOrder readsWritten goodOutputs goodWires circuitOf readCircuit readAnswer readOp correctionBytes stretchBytes asked some those up isAbove hasLeaf hidden unhidden opened cover leastFrom height coverBytes isChosen stretchStart
 table-passes = refl
 
 -- every marked case is right

@@ -6,7 +6,6 @@ use mathlib.Core.List.{List, [], _∷_, List·Memᴰ}
 use Prim.Native.Nat.{ℕ, _≤_, _<_}
 use lib.ListN.{length, getD, set}
 use Rattle.bits.specs.Bits.{tabulate, pack, bitAt, unusedZero}
-use Rattle.bits.specs.Bytes.{sameBytes}
 use Rattle.refusal.specs.Outcome.{Answer, refusalAt, refusal, success, Outcome, done}
 use Rattle.circuit.specs.Circuit.{evaluate}
 use Rattle.circuit.specs.File.{circuitOf}
@@ -15,7 +14,8 @@ use Rattle.mpc.specs.Showing.{Showing}
 use Rattle.mpc.specs.Operations.{prepareOp, runOp, showOp}
 use Rattle.choice.specs.Challenge.{streamOf, hiddenParties}
 use Rattle.seeds.specs.Operations.{maxMessage}
-use Rattle.proof.specs.Protocol.{mastersOf, firstMessage, statementOf, asked}
+use Rattle.cover.specs.Masters.{masterOf}
+use Rattle.proof.specs.Protocol.{firstMessage, statementOf, asked}
 use Rattle.proof.specs.File.{proofBytes}
 use Rattle.proof.specs.Prove.{proveOp}
 
@@ -95,12 +95,12 @@ m9 = working (showOp circuitK 2 0 1 (2 ∷ []) (14 ∷ 3 ∷ []) lent) shown
 abbrev pub proofSizes : ℕ → List ℕ
 proofSizes p = tabulate 4 (λ i. proofBytes (circuitOf circuitK) 4 2 (asked (i ∷ []) (p ∷ [])))
 
--- "m10 M = 4, τ = 1, n = 2: 233 bytes if p = 0, 232 if p = 1"
+-- m10, M = 4, τ = 1, n = 2, p = 0 and p = 1: "m10 becomes 217 and 216" (document 02, order 5)
 abbrev pub m10First : Case
-m10First = counting (proofSizes 0) (233 ∷ 233 ∷ 233 ∷ 233 ∷ [])
+m10First = counting (proofSizes 0) (217 ∷ 217 ∷ 217 ∷ 217 ∷ [])
 
 abbrev pub m10Last : Case
-m10Last = counting (proofSizes 1) (232 ∷ 232 ∷ 232 ∷ 232 ∷ [])
+m10Last = counting (proofSizes 1) (216 ∷ 216 ∷ 216 ∷ 216 ∷ [])
 
 -- the table
 abbrev pub cases : List Case
@@ -123,14 +123,14 @@ pub record ProveInputs (witness y message root buffer : List ℕ) : Type 0 where
 -- p: the party that the challenge of that proof hides
 unfoldable pub hiddenParty : List ℕ → List ℕ → List ℕ → List ℕ → ℕ
 hiddenParty witness y message root =
-    let hstar : List ℕ = firstMessage (circuitOf circuitK) 4 2 witness (mastersOf root) in
+    let hstar : List ℕ = firstMessage (circuitOf circuitK) 4 2 witness (masterOf 4 root) in
     getD (hiddenParties 1 2 (streamOf 1 hstar (statementOf 4 1 2 circuitK y message))) 0 0
 
--- m10 as the answer of prove: "233 bytes if p = 0, 232 if p = 1"
+-- m10 as the answer of prove: 217 bytes if p = 0, 216 if p = 1
 pub record ProveAnswers (witness y message root buffer : List ℕ) : Type 0 where
   pub party : hiddenParty witness y message root < 2
-  pub first : hiddenParty witness y message root ≡ 0 → proveOp circuitK witness y message root 4 1 2 buffer .answer ≡ success (233 ∷ [])
-  pub last : hiddenParty witness y message root ≡ 1 → proveOp circuitK witness y message root 4 1 2 buffer .answer ≡ success (232 ∷ [])
+  pub first : hiddenParty witness y message root ≡ 0 → proveOp circuitK witness y message root 4 1 2 buffer .answer ≡ success (217 ∷ [])
+  pub last : hiddenParty witness y message root ≡ 1 → proveOp circuitK witness y message root 4 1 2 buffer .answer ≡ success (216 ∷ [])
 
 -- for every witness, message, root and buffer
 abbrev pub M10 : Type 0

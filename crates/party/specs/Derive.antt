@@ -1,15 +1,11 @@
--- What follows from the root, a leaf and a seed. Document 01, "Seeds and digests".
+-- What follows from a leaf and a seed. Document 01, "Seeds and digests".
 -- Assumes nothing.
 use mathlib.Core.List.{List, [], _∷_}
 use Prim.Native.Nat.{ℕ, _-_, _%_, _^_, min}
 use lib.ListN.{take, drop}
 use Rattle.bits.specs.Bytes.{rowOf}
 use Rattle.keccak.specs.Sponge.{shake128, sha3-256}
-use Rattle.hashing.specs.Inputs.{masterInput, leafInput, tapeInput, commitmentInput}
-
--- "the master of j is 16 bytes of SHAKE128(5, j, root)"
-unfoldable pub masterOf : ℕ → List ℕ → List ℕ
-masterOf j root = shake128 (masterInput j root) 16
+use Rattle.hashing.specs.Inputs.{leafInput, tapeInput, commitmentInput}
 
 -- "SHAKE128(3, j, i, leaf) gives seed (16) and r (16)": the seed, then r
 unfoldable pub seedRow : ℕ → ℕ → List ℕ → List ℕ

@@ -2,21 +2,12 @@
 ghost use mathlib.Core.Path.{_≡_};
 ghost use Prim.Native.Nat.{_+_, _*_, _≤_, _<_};
 ghost use lib.ListN.{length};
-ghost use Rattle.party.specs.Derive.{masterOf, seedRow, clearFrom, tapeRow, commitmentOf};
+ghost use Rattle.party.specs.Derive.{seedRow, clearFrom, tapeRow, commitmentOf};
 use bits::clear;
 use hashing::finish;
 use hashing::shake128;
 use keccak::SHA3_256_RATE;
 use keccak::sponge::Sponge;
-
-// The master of instance j, from the root.
-pub fn master(j: u32, root: &[u8], out: &mut [u8])
-    requires { ⌜ length (now out) ≡ 16 ⌝ }
-    ensures { λ _. ⌜ now (out .exit) ≡ masterOf j (now (root .entry)) ⌝ }
-{
-    let head = [(j % 256) as u8, (j / 256 % 256) as u8];
-    shake128(5, &head, root, out);
-}
 
 // The seed of party i and its r, from its leaf.
 pub fn seed_row(j: u32, i: u32, leaf: &[u8], out: &mut [u8])

@@ -3,3 +3,12 @@ pub mod Sizes
 pub mod Askings
 pub mod Digests
 pub mod Works
+pub mod Places
+pub mod Parts
+pub mod Header
+pub mod Passing
+pub mod Chosen
+pub mod Written
+pub mod Inside
+pub mod Room
+pub mod Leaves

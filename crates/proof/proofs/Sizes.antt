@@ -12,6 +12,7 @@ use Rattle.bits.specs.Bits.{oct}
 use Rattle.parties.proofs.Counts.{height-small}
 use Rattle.circuit.specs.Circuit.{Circuit}
 use Rattle.circuit.specs.File.{circuitOf}
+use Rattle.cover.specs.Masters.{coverBytes}
 use Rattle.mpc.specs.Steps.{Known}
 use Rattle.mpc.specs.Tapes.{andsOf}
 use Rattle.mpc.proofs.Asks.{ands-few, broadcasts-few}
@@ -20,7 +21,7 @@ use Rattle.instance.specs.Instance.{Asked, opened, hiding}
 use Rattle.instance.specs.Stretch.{correctionBytes, stretchBytes}
 use Rattle.instance.specs.Steps.{Tree}
 use Rattle.instance.proofs.Laid.{stretch-size}
-use Rattle.proof.specs.File.{stretchStart}
+use Rattle.proof.specs.File.{hides, stretchStart}
 use Rattle.proof.specs.Steps.{askOf}
 
 -- the number n asks for the master
@@ -34,7 +35,7 @@ unfolding askOf
 ask-hiding n p e = rw (ne-eqb p n e)
 
 -- the stretch of an instance that is not chosen
-pub size-opened : (c : Circuit) (n p : ℕ) → p ≡ n → 48 ≡ stretchBytes c n (askOf n p)
+pub size-opened : (c : Circuit) (n p : ℕ) → p ≡ n → 32 ≡ stretchBytes c n (askOf n p)
 unfolding stretchBytes
 size-opened c n p e = sym (ap (stretchBytes c n) (ask-opened n p e))
 
@@ -77,19 +78,19 @@ module _ (s : List ℕ) (i o g a : ℕ) (k : Known s (sized i o g a)) where
       let w2 = k .legal .laid .few-inputs in
       omega (arith, corrections-few n p, height-small n)
 
--- the header alone
-pub start-none : (c : Circuit) (n : ℕ) (ask : ℕ → Asked) → 38 ≡ stretchStart c n ask 0
+-- the header and the opened nodes
+pub start-none : (c : Circuit) (M n : ℕ) (ask : ℕ → Asked) (v : ℕ) → v ≡ coverBytes M (hides ask) → 38 + v ≡ stretchStart c M n ask 0
 unfolding stretchStart
-start-none c n ask = refl
+start-none c M n ask v e = omega (arith, e)
 
 -- one stretch more
-pub start-more : (c : Circuit) (n : ℕ) (ask : ℕ → Asked) (j at r : ℕ) → at ≡ stretchStart c n ask j → r ≡ stretchBytes c n (ask j)
-    → at + r ≡ stretchStart c n ask (j + 1)
+pub start-more : (c : Circuit) (M n : ℕ) (ask : ℕ → Asked) (j at r : ℕ) → at ≡ stretchStart c M n ask j → r ≡ stretchBytes c n (ask j)
+    → at + r ≡ stretchStart c M n ask (j + 1)
 unfolding stretchStart
-start-more c n ask j at r e f =
-    let z : stretchStart c n ask (j + 1) ≡ stretchStart c n ask j + stretchBytes c n (ask j) = ap (stretchStart c n ask) (add-one j) in
+start-more c M n ask j at r e f =
+    let z : stretchStart c M n ask (j + 1) ≡ stretchStart c M n ask j + stretchBytes c n (ask j) = ap (stretchStart c M n ask) (add-one j) in
     omega arith
 
 -- the last stretch
-pub start-end : (c : Circuit) (n : ℕ) (ask : ℕ → Asked) (j m at : ℕ) → j ≤ m → m ≤ j → at ≡ stretchStart c n ask j → at ≡ stretchStart c n ask m
-start-end c n ask j m at l u e = let z : j ≡ m = omega arith in e ∙ ap (stretchStart c n ask) z
+pub start-end : (c : Circuit) (M n : ℕ) (ask : ℕ → Asked) (j m at : ℕ) → j ≤ m → m ≤ j → at ≡ stretchStart c M n ask j → at ≡ stretchStart c M n ask m
+start-end c M n ask j m at l u e = let z : j ≡ m = omega arith in e ∙ ap (stretchStart c M n ask) z

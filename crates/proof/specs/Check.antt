@@ -15,7 +15,7 @@ use Rattle.seeds.specs.Operations.{maxMessage}
 use Rattle.instance.specs.Instance.{Asked}
 use Rattle.instance.specs.Opened.{stretchCommitments, stretchOnline, stretchUnused, stretchOutput}
 use Rattle.proof.specs.Protocol.{hstarOf, statementOf, challenged}
-use Rattle.proof.specs.File.{headerM, headerTau, headerN, headerHstar, goodHeader, proofBytes, stretchAt}
+use Rattle.proof.specs.File.{headerM, headerTau, headerN, headerHstar, goodHeader, proofBytes, masterAt, stretchAt}
 
 -- a test of the first m instances
 unfoldable pub every : ℕ → (ℕ → Bool) → Bool
@@ -27,11 +27,11 @@ every (suc m) test = every m test && test m
 unfoldable pub checkProof : Circuit → List ℕ → List ℕ → ℕ → ℕ → (ℕ → Asked) → Outcome
 checkProof c y proof M n ask =
     unless (eqb (length proof) (proofBytes c M n ask)) 12 []
-    (unless (every M (λ j. stretchUnused c n (stretchAt c n ask proof j) (ask j))) 7 []
-    (unless (every M (λ j. stretchOutput c n j y (stretchAt c n ask proof j) (ask j))) 10 []
+    (unless (every M (λ j. stretchUnused c n (stretchAt c M n ask proof j) (ask j))) 7 []
+    (unless (every M (λ j. stretchOutput c n j y (stretchAt c M n ask proof j) (ask j))) 10 []
     (unless
     (sameBytes
-    (hstarOf M (λ j. stretchCommitments c n j (stretchAt c n ask proof j) (ask j)) (λ j. stretchOnline c n j (stretchAt c n ask proof j) (ask j)))
+    (hstarOf M (λ j. stretchCommitments c n j (masterAt M ask proof j) (stretchAt c M n ask proof j) (ask j)) (λ j. stretchOnline c n j (stretchAt c M n ask proof j) (ask j)))
     (headerHstar proof))
     13 []
     (done []))))

@@ -1,4 +1,4 @@
--- The proof file: its header, its length, and the place of each stretch (document 01, "Proof file").
+-- The proof file: its header, its length, and the place of each part (document 01, "Proof file"; document 02, order 5).
 -- Assumes nothing.
 use mathlib.Core.Bool.{Bool, not, _&&_}
 use mathlib.Core.List.{List, [], _∷_, _++_}
@@ -11,7 +11,8 @@ use Rattle.parties.specs.Parties.{heightOf, isPartyCount}
 use Rattle.circuit.specs.Circuit.{Circuit}
 use Rattle.mpc.specs.Tapes.{andsOf}
 use Rattle.seeds.specs.Operations.{areCounts}
-use Rattle.instance.specs.Instance.{Asked}
+use Rattle.cover.specs.Masters.{coverBytes, masterFrom}
+use Rattle.instance.specs.Instance.{Asked, isChosen}
 use Rattle.instance.specs.Stretch.{stretchBytes}
 
 -- "M u16, τ u16, n u8, zero u8, h* (32): 38 bytes"
@@ -41,20 +42,32 @@ unfoldable pub goodHeader : List ℕ → Bool
 goodHeader proof =
     leb headerBytes (length proof) && (areCounts (headerM proof) (headerTau proof) && (isPartyCount (headerN proof) && eqb (headerZero proof) 0))
 
--- where the stretch of instance j starts: after the header and the stretches before it
-unfoldable pub stretchStart : Circuit → ℕ → (ℕ → Asked) → ℕ → ℕ
-stretchStart c n ask zero = headerBytes
-stretchStart c n ask (suc j) = stretchStart c n ask j + stretchBytes c n (ask j)
+-- the masters that stay hidden: those of the chosen instances
+abbrev pub hides : (ℕ → Asked) → ℕ → Bool
+hides ask j = isChosen (ask j)
+
+-- "Nodes come ascending after the header": the values of the opened nodes of the masters' tree
+unfoldable pub nodesAt : ℕ → (ℕ → Asked) → List ℕ → List ℕ
+nodesAt M ask proof = take (coverBytes M (hides ask)) (drop headerBytes proof)
+
+-- the master of instance j, as it follows from them
+unfoldable pub masterAt : ℕ → (ℕ → Asked) → List ℕ → ℕ → List ℕ
+masterAt M ask proof j = masterFrom M (hides ask) (nodesAt M ask proof) j
+
+-- where the stretch of instance j starts: after the header, the opened nodes and the stretches before it
+unfoldable pub stretchStart : Circuit → ℕ → ℕ → (ℕ → Asked) → ℕ → ℕ
+stretchStart c M n ask zero = headerBytes + coverBytes M (hides ask)
+stretchStart c M n ask (suc j) = stretchStart c M n ask j + stretchBytes c n (ask j)
 
 -- the length of a proof of M instances
 abbrev pub proofBytes : Circuit → ℕ → ℕ → (ℕ → Asked) → ℕ
-proofBytes c M n ask = stretchStart c n ask M
+proofBytes c M n ask = stretchStart c M n ask M
 
 -- the stretch of instance j
-unfoldable pub stretchAt : Circuit → ℕ → (ℕ → Asked) → List ℕ → ℕ → List ℕ
-stretchAt c n ask proof j = take (stretchBytes c n (ask j)) (drop (stretchStart c n ask j) proof)
+unfoldable pub stretchAt : Circuit → ℕ → ℕ → (ℕ → Asked) → List ℕ → ℕ → List ℕ
+stretchAt c M n ask proof j = take (stretchBytes c n (ask j)) (drop (stretchStart c M n ask j) proof)
 
--- "the proof buffer must hold 38 + 48(M−τ) + τ(16·log2 n + oct(A) + 32 + oct(I) + oct(A+O)) or more"
+-- "that for 6 stays" (document 02, order 5): "the proof buffer must hold 38 + 48(M−τ) + τ(16·log2 n + oct(A) + 32 + oct(I) + oct(A+O)) or more"
 unfoldable pub proofRoom : Circuit → ℕ → ℕ → ℕ → ℕ
 proofRoom c M tau n =
     headerBytes + 48 * (M - tau) + tau * (16 * heightOf n + oct (andsOf c) + 32 + oct (c .inputs) + oct (andsOf c + length (c .outputs)))

@@ -8,7 +8,6 @@ use Rattle.bits.specs.Bits.{tabulate}
 use Rattle.keccak.specs.Sponge.{sha3-256}
 use Rattle.circuit.specs.Circuit.{Circuit}
 use Rattle.hashing.specs.Inputs.{allCommitmentsInput, allOnlineInput, boundOf}
-use Rattle.party.specs.Derive.{masterOf}
 use Rattle.hashing.specs.Digest.{transcriptOf}
 use Rattle.choice.specs.Challenge.{streamOf, instances, hiddenParties}
 use Rattle.instance.specs.Instance.{Asked, opened, hiding, masterCommitments, masterOnline, stretchOf}
@@ -17,10 +16,6 @@ use Rattle.instance.specs.Instance.{Asked, opened, hiding, masterCommitments, m
 unfoldable pub hstarOf : ℕ → (ℕ → List ℕ) → (ℕ → List ℕ) → List ℕ
 hstarOf M commitments online =
     transcriptOf (sha3-256 (allCommitmentsInput (flatten (tabulate M commitments)))) (sha3-256 (allOnlineInput (flatten (tabulate M online))))
-
--- "the master of j", of every instance, from the root
-abbrev pub mastersOf : List ℕ → ℕ → List ℕ
-mastersOf root j = masterOf j root
 
 -- Round 1: the first message, from the instances' masters
 unfoldable pub firstMessage : Circuit → ℕ → ℕ → List ℕ → (ℕ → List ℕ) → List ℕ
@@ -42,6 +37,6 @@ unfoldable pub challenged : ℕ → ℕ → ℕ → List ℕ → List ℕ → �
 challenged M tau n hstar bound =
     asked (instances M tau (streamOf tau hstar bound)) (hiddenParties tau n (streamOf tau hstar bound))
 
--- Round 3: the response
+-- Round 3: the response, but for the opened nodes, which stand before it in a proof
 unfoldable pub responseOf : Circuit → ℕ → ℕ → List ℕ → (ℕ → List ℕ) → (ℕ → Asked) → List ℕ
 responseOf c M n witness masters ask = flatten (tabulate M (λ j. stretchOf c n j witness (masters j) (ask j)))

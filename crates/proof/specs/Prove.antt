@@ -13,14 +13,18 @@ use Rattle.circuit.specs.Circuit.{Circuit, evaluate}
 use Rattle.circuit.specs.File.{readCircuit}
 use Rattle.circuit.specs.Operations.{onLegal, holds}
 use Rattle.seeds.specs.Operations.{maxMessage, areCounts}
-use Rattle.proof.specs.Protocol.{mastersOf, firstMessage, statementOf, challenged, responseOf}
-use Rattle.proof.specs.File.{headerOf, proofRoom}
+use Rattle.cover.specs.Masters.{masterOf, coverOf}
+use Rattle.instance.specs.Instance.{Asked}
+use Rattle.proof.specs.Protocol.{firstMessage, statementOf, challenged, responseOf}
+use Rattle.proof.specs.File.{headerOf, hides, proofRoom}
 
--- the proof: the header with the first message, and the response to its challenge, which is bound to `bound`
-unfoldable pub proofOf : Circuit → ℕ → ℕ → ℕ → List ℕ → List ℕ → (ℕ → List ℕ) → List ℕ
-proofOf c M tau n witness bound masters =
-    let hstar : List ℕ = firstMessage c M n witness masters in
-    headerOf M tau n hstar ++ responseOf c M n witness masters (challenged M tau n hstar bound)
+-- the proof: the header with the first message, the opened nodes of the masters' tree, and the response to the challenge, which is bound
+-- to `bound`
+unfoldable pub proofOf : Circuit → ℕ → ℕ → ℕ → List ℕ → List ℕ → List ℕ → List ℕ
+proofOf c M tau n witness bound root =
+    let hstar : List ℕ = firstMessage c M n witness (masterOf M root) in
+    let ask : ℕ → Asked = challenged M tau n hstar bound in
+    headerOf M tau n hstar ++ coverOf M (hides ask) root ++ responseOf c M n witness (masterOf M root) ask
 
 -- the witness gives y
 unfoldable pub witnesses : Circuit → List ℕ → List ℕ → Bool
@@ -41,7 +45,7 @@ proveLegal s witness y message root M tau n buffer c =
     6 lent
     (unless (unusedZero (c .inputs) witness && unusedZero (length (c .outputs)) y) 7 lent
     (unless (witnesses c witness y) 10 lent
-    (written (proofOf c M tau n witness (statementOf M tau n s y message) (mastersOf root)) buffer))))
+    (written (proofOf c M tau n witness (statementOf M tau n s y message) root) buffer))))
 
 -- "Prove: 1 to 5" (by document 02, order 2: 1, 2, 3, 19, 20, 21 and 5), then these
 unfoldable pub proveOp : List ℕ → List ℕ → List ℕ → List ℕ → List ℕ → ℕ → ℕ → ℕ → List ℕ → Outcome

@@ -1,37 +1,128 @@
 -- The proof buffer, from the h'_j of the first round to the response; and the sizes of its parts.
 -- Assumes nothing.
-use mathlib.Core.Path.{_≡_, sym, ap, ap₂, _∙_}
-use mathlib.Core.Logic.{⊎-elim}
-use mathlib.Core.List.{List, [], _++_, append-assoc}
-use Prim.Native.Nat.{ℕ, zero, suc, _+_, _-_, _*_, _≤_, _<_}
+use mathlib.Core.Path.{_≡_, refl, sym, ap, ap₂, _∙_}
+use mathlib.Core.List.{List, [], _++_, map, flatten, append-assoc, append-nil}
+use Prim.Native.Nat.{ℕ, zero, suc, _+_, _-_, _*_, _^_, _≤_, _<_}
 use native.Mathlib.Omega.{arith}
-use borrow.Rule.Slice.PartMut.{midOf, putMid, same-len-mid, mid-len, drop-put}
+use borrow.Rule.Slice.PartMut.{midOf, putMid, postOf, same-len-mid, mid-len, post-is, drop-put}
 use lib.ListN.{length, take, drop, length-append, length-drop}
-use lib.Seq.{length-take-le, take-take, drop-drop, take-at, drop-at}
-use Rattle.bits.proofs.Numbers.{lt-or-le}
+use lib.Seq.{length-take-le, take-take, take-all, drop-drop, drop-length, take-at, drop-at}
+use Rattle.bits.specs.Bytes.{rowOf}
 use Rattle.keccak.proofs.Lengths.{length-sha3-256}
-use Rattle.parties.specs.Parties.{heightOf}
 use Rattle.circuit.specs.Circuit.{Circuit}
 use Rattle.circuit.specs.File.{circuitOf}
 use Rattle.circuit.specs.declared.Sizes.{Sizes}
+use Rattle.cover.specs.Masters.{height, coverBytes}
+use Rattle.cover.specs.Steps.{coverBy}
 use Rattle.choice.specs.Challenge.{challengeOf}
 use Rattle.hashing.specs.Digest.{transcriptOf}
 use Rattle.seeds.proofs.Instances.{counts-fit}
-use Rattle.instance.specs.Instance.{Asked, opened, hiding}
-use Rattle.instance.specs.Stretch.{stretchBytes}
+use Rattle.instance.specs.Instance.{Asked}
 use Rattle.instance.specs.Steps.{Tree, Lent}
 use Rattle.instance.proofs.Trees.{tree-sizes}
-use Rattle.proof.specs.Protocol.{mastersOf, hstarOf, firstMessage, statementOf, challenged, responseOf}
-use Rattle.proof.specs.File.{headerOf, stretchStart, proofBytes}
-use Rattle.proof.specs.Prove.{proofOf}
-use Rattle.proof.specs.Steps.{asksIn, Asking, Drawable}
-use Rattle.proof.proofs.Askings.{asks-same, asking-challenge}
-use Rattle.honest.proofs.Header.{length-header}
-use Rattle.honest.proofs.Proved.{has-height}
-use Rattle.honest.proofs.Written.{length-master, length-proof}
-use Rattle.honest.proofs.Room.{proof-fits}
-use Rattle.proving.specs.Steps.{onlinesOf, Response, Tested}
+use Rattle.proof.specs.Protocol.{hstarOf, firstMessage, statementOf, challenged, responseOf}
+use Rattle.proof.specs.File.{headerOf, hides, stretchStart, proofBytes, proofRoom}
+use Rattle.proof.specs.Steps.{tableOf, asksIn, masterIn, marksIn, Asking, Drawable}
+use Rattle.proof.proofs.Askings.{asks-same, asking-challenge, length-table}
+use Rattle.proof.proofs.Header.{length-header}
+use Rattle.proof.proofs.Inside.{stretches-after}
+use Rattle.proof.proofs.Leaves.{cover-in}
+use Rattle.proof.proofs.Room.{challenge-fits}
+use Rattle.proving.specs.Steps.{onlinesOf, openedRows, proofFrom, Answering, Response, Tested}
+use Rattle.proving.proofs.Responds.{stretch-least}
 use Rattle.mpc.proofs.Opened.{sized}
+
+-- the proof of M instances is longer than their h'_j
+start-least : (c : Circuit) (M n : ℕ) (ask : ℕ → Asked) (m : ℕ) → 38 + coverBytes M (hides ask) + 32 * m ≤ stretchStart c M n ask m
+unfolding stretchStart
+start-least c M n ask zero = omega arith
+start-least c M n ask (suc m) = omega (arith, start-least c M n ask m, stretch-least c n (ask m))
+
+-- round 3, into the bytes after the header
+module _ (s : List ℕ) (M n : ℕ) (witness nodes table part : List ℕ) (a : Answering s M n witness nodes table part) where
+  -- what is asked
+  abbrev ask : ℕ → Asked
+  ask = asksIn n table
+
+  -- size is the proof's; `opened` bytes are those of the opened nodes
+  module _ (opened size : ℕ) (eo : opened ≡ coverBytes M (hides ask)) (es : size ≡ proofBytes (circuitOf s) M n ask) where
+    -- it is beyond the header, the opened nodes and the h'_j
+    size-least : 38 + opened + 32 * M ≤ size
+    size-least = omega (arith, eo, es, start-least (circuitOf s) M n ask M)
+
+    pub size-start : 38 ≤ size
+    size-start = omega (arith, size-least)
+
+    -- the part lies inside
+    pub part-inside : size - 38 ≤ length part
+    part-inside = omega (arith, es, a .room)
+
+    pub length-part : length (take (size - 38) part) ≡ size - 38
+    length-part = length-take-le (size - 38) part part-inside
+
+    -- what the stretches are lent
+    pub response-asks : Response s M n witness nodes table opened (take (size - 38) part)
+    response-asks =
+        let d : 38 + length (take (size - 38) part) ≡ size = omega (arith, length-part, size-start) in
+        record {
+          few = a .few;
+          rows = a .rows;
+          entries = a .entries;
+          asking = a .asking;
+          place = eo;
+          size = d ∙ es;
+          onlines = take-take (32 * M) (size - 38) part (omega (arith, size-least)) ∙ a .onlines;
+        }
+
+    -- the stretches r are written, into z
+    module _ (r z : List ℕ) (ez : z ≡ take opened (take (size - 38) part) ++ r) where
+      -- the opened nodes have their place
+      front-length : length (take opened (take (size - 38) part)) ≡ opened
+      front-length = length-take-le opened (take (size - 38) part) (omega (arith, length-part, size-least))
+
+      length-written : length z ≡ opened + length r
+      length-written = ap length ez ∙ length-append (take opened (take (size - 38) part)) r ∙ omega (arith, front-length)
+
+      pub front-place : opened ≤ length (z ++ drop (size - 38) part)
+      front-place = omega (arith, length-written, length-append z (drop (size - 38) part))
+
+      pub front-part : length (take opened (z ++ drop (size - 38) part)) ≡ opened
+      front-part = length-take-le opened (z ++ drop (size - 38) part) front-place
+
+      -- they are written, by the marks
+      module _ (marks : List ℕ) where
+        -- as many as there are
+        pub front-fits : marks ≡ marksIn M n table → length (take opened (z ++ drop (size - 38) part)) ≡ 16 * length (coverBy marks)
+        unfolding coverBytes
+        front-fits em =
+            front-part ∙ eo ∙ sym (ap (λ (l : List ℕ). 16 * length l) (ap coverBy em ∙ cover-in M n table (a .entries)))
+
+        -- into g
+        pub answer-made : (g : List ℕ) → marks ≡ marksIn M n table → g ≡ flatten (map (rowOf nodes 16) (coverBy marks))
+            → g ++ drop opened (z ++ drop (size - 38) part) ≡ openedRows M ask nodes ++ (r ++ drop (size - 38) part)
+        unfolding openedRows
+        answer-made g em eg =
+            let f : List ℕ = take opened (take (size - 38) part) in
+            let d : drop opened (z ++ drop (size - 38) part) ≡ r ++ drop (size - 38) part
+            = ap (λ (t : List ℕ). drop opened (t ++ drop (size - 38) part)) ez
+            ∙ (ap (drop opened) (append-assoc f r (drop (size - 38) part)) ∙ drop-at f (r ++ drop (size - 38) part) opened front-length) in
+            ap₂ _++_ (eg ∙ ap (λ (l : List ℕ). flatten (map (rowOf nodes 16) l)) (ap coverBy em ∙ cover-in M n table (a .entries))) d
+
+      -- the bytes stay as many
+      pub answer-kept : (g : List ℕ) → length z ≡ length (take (size - 38) part) → length g ≡ length (take opened (z ++ drop (size - 38) part))
+          → length (g ++ drop opened (z ++ drop (size - 38) part)) ≡ length part
+      answer-kept g e f =
+          omega (
+            arith,
+            length-append g (drop opened (z ++ drop (size - 38) part)),
+            length-drop opened (z ++ drop (size - 38) part),
+            length-append z (drop (size - 38) part),
+            length-drop (size - 38) part,
+            length-part,
+            part-inside,
+            front-part,
+            front-place,
+          )
 
 -- the buffer B; the h'_j, in on
 module _ (M : ℕ) (B on : List ℕ) (fit : 38 + 32 * M ≤ length B) (count : length on ≡ length (midOf 38 (38 + 32 * M - 38) B)) where
@@ -55,8 +146,8 @@ module _ (M : ℕ) (B on : List ℕ) (fit : 38 + 32 * M ≤ length B) (count : l
   pub head-part : length (take 38 kept) ≡ 38
   head-part = length-take-le 38 kept head-inside
 
-  -- the header, hd; size bytes are written
-  module _ (size : ℕ) (hd : List ℕ) (inside : 38 + 32 * M ≤ size) (room : size ≤ length B) (front : length hd ≡ 38) where
+  -- the header, hd
+  module _ (hd : List ℕ) (front : length hd ≡ 38) where
     -- with the header
     abbrev headed : List ℕ
     headed = hd ++ drop 38 kept
@@ -65,54 +156,51 @@ module _ (M : ℕ) (B on : List ℕ) (fit : 38 + 32 * M ≤ length B) (count : l
     length-headed : length headed ≡ length B
     length-headed = length-append hd (drop 38 kept) ∙ omega (arith, front, length-drop 38 kept, length-kept)
 
-    -- the part that the response is lent
-    length-part : length (midOf 38 (size - 38) headed) ≡ size - 38
-    length-part = mid-len 38 size headed (omega (arith, length-headed))
+    -- the bytes after it
+    abbrev rest : List ℕ
+    rest = midOf 38 (length headed - 38) headed
 
-    -- the h'_j stand at its start
-    onlines-there : take (32 * M) (midOf 38 (size - 38) headed) ≡ on
+    rest-is : rest ≡ drop 38 kept
+    rest-is =
+        ap (take (length headed - 38)) (drop-at hd (drop 38 kept) 38 front)
+        ∙ take-all (length headed - 38) (drop 38 kept) (omega (arith, length-headed, length-drop 38 kept, length-kept))
+
+    length-rest : length rest ≡ length B - 38
+    length-rest = ap length rest-is ∙ length-drop 38 kept ∙ omega (arith, length-kept)
+
+    -- the h'_j stand at their start
+    onlines-there : take (32 * M) rest ≡ on
     onlines-there =
         let p = drop (38 + 32 * M - 38) (drop 38 B) in
-        let d : drop 38 headed ≡ on ++ p
-        = drop-at hd (drop 38 kept) 38 front ∙ drop-at (take 38 B) (on ++ p) 38 (length-take-le 38 B (omega arith)) in
-        take-take (32 * M) (size - 38) (drop 38 headed) (omega arith) ∙ ap (take (32 * M)) d ∙ take-at on p (32 * M) length-on
+        let d : drop 38 kept ≡ on ++ p = drop-at (take 38 B) (on ++ p) 38 (length-take-le 38 B (omega arith)) in
+        ap (take (32 * M)) (rest-is ∙ d) ∙ take-at on p (32 * M) length-on
 
     -- the bytes beyond the proof stay
-    rest-stays : drop (size - 38) (drop 38 headed) ≡ drop size B
-    rest-stays =
+    rest-stays : (size : ℕ) → 38 + 32 * M ≤ size → drop (size - 38) rest ≡ drop size B
+    rest-stays size inside =
         let e : 38 + (size - 38) ≡ size = omega arith in
         let f : 38 + 32 * M + (size - (38 + 32 * M)) ≡ size = omega arith in
         let split : (l : List ℕ) → drop size l ≡ drop (size - (38 + 32 * M)) (drop (38 + 32 * M) l)
         = λ l. sym (drop-drop (size - (38 + 32 * M)) (38 + 32 * M) l ∙ ap (λ (t : ℕ). drop t l) f) in
-        ap (drop (size - 38)) (drop-at hd (drop 38 kept) 38 front) ∙ drop-drop (size - 38) 38 kept ∙ ap (λ (t : ℕ). drop t kept) e
+        ap (drop (size - 38)) rest-is ∙ drop-drop (size - 38) 38 kept ∙ ap (λ (t : ℕ). drop t kept) e
         ∙ split kept
         ∙ ap (drop (size - (38 + 32 * M))) (drop-put 38 (38 + 32 * M) B on (omega arith) (omega arith) (length-on ∙ omega arith))
         ∙ sym (split B)
 
     -- the proof is written
-    all-written : (z : List ℕ) → putMid 38 (size - 38) headed z ≡ hd ++ z ++ drop size B
+    all-written : (z : List ℕ) → putMid 38 (length headed - 38) headed z ≡ hd ++ z
     all-written z =
-        ap₂ (λ (u v : List ℕ). u ++ (z ++ v)) (take-at hd (drop 38 kept) 38 front) rest-stays ∙ sym (append-assoc hd z (drop size B))
-
--- stretches of 48 bytes or more
-stretch-least : (c : Circuit) (n : ℕ) → 1 ≤ heightOf n → (q : Asked) → 48 ≤ stretchBytes c n q
-unfolding stretchBytes
-stretch-least c n l opened = omega arith
-stretch-least c n l (hiding p) = omega arith
-
--- the proof of M of them
-start-least : (c : Circuit) (n : ℕ) (ask : ℕ → Asked) → 1 ≤ heightOf n → (M : ℕ) → 38 + 48 * M ≤ stretchStart c n ask M
-unfolding stretchStart
-start-least c n ask l zero = omega arith
-start-least c n ask l (suc M) = omega (arith, start-least c n ask l M, stretch-least c n l (ask M))
+        let p : postOf 38 (length headed - 38) headed ≡ [] = post-is 38 (length headed) headed (omega (arith, length-headed)) ∙ drop-length headed in
+        ap₂ _++_ (take-at hd (drop 38 kept) 38 front) (ap (λ (t : List ℕ). z ++ t) p ∙ append-nil z)
 
 -- h* has 32 bytes
-length-hstar : (c : Circuit) (M n : ℕ) (w root : List ℕ) → length (firstMessage c M n w (mastersOf root)) ≡ 32
+length-hstar : (c : Circuit) (M n : ℕ) (w : List ℕ) (masters : ℕ → List ℕ) → length (firstMessage c M n w masters) ≡ 32
 unfolding firstMessage hstarOf transcriptOf
-length-hstar c M n w root = length-sha3-256 _
+length-hstar c M n w masters = length-sha3-256 _
 
 -- the tests are past
-module _ (s : List ℕ) (sizes : Sizes) (M tau n h : ℕ) (w y message root B : List ℕ) (t : Tested s sizes M tau n w y message root B) (tree : Tree n h) where
+module _ (s : List ℕ) (sizes : Sizes) (M tau n h : ℕ) (w y message nodes B : List ℕ) (t : Tested s sizes M tau n w y message B) (tree : Tree n h)
+    (rows : length nodes ≡ 16 * 2 ^ suc (height M)) where
   -- the circuit
   abbrev c : Circuit
   c = circuitOf s
@@ -122,7 +210,7 @@ module _ (s : List ℕ) (sizes : Sizes) (M tau n h : ℕ) (w y message root B : 
   bound = statementOf M tau n s y message
 
   -- there is a party
-  pub some-party : 0 < n
+  some-party : 0 < n
   some-party = omega (arith, tree-sizes n h tree .some)
 
   -- the numbers fit into the header
@@ -135,115 +223,107 @@ module _ (s : List ℕ) (sizes : Sizes) (M tau n h : ℕ) (w y message root B : 
   pub few-instances : M ≤ 512
   few-instances = counts-fit M tau (t .counts) .most
 
-  -- an array of 1533 bytes holds the challenge
-  pub few-choices : 3 * tau ≤ 1533
-  few-choices = let z = counts-fit M tau (t .counts) in omega (arith, z .most, z .below)
-
-  -- the tree has a level
-  tall : 1 ≤ heightOf n
-  tall = ⊎-elim (λ (l : heightOf n < 1). absurd (has-height n (tree .parties) (omega arith))) (λ l. l) (lt-or-le (heightOf n) 1)
-
   -- the h'_j fit
   pub onlines-fit : 38 + 32 * M ≤ length B
   onlines-fit =
-      let ask : ℕ → Asked = challenged M tau n (firstMessage c M n w (mastersOf root)) bound in
-      omega
-      (arith, start-least c n ask tall M, length-proof c M tau n w bound (mastersOf root) (λ j. length-master j root), proof-fits c M tau n w bound (mastersOf root) (λ j. length-master j root) (t .counts) (tree .parties), t .room)
+      let ask : ℕ → Asked = challenged M tau n [] bound in
+      omega (arith, start-least c M n ask M, challenge-fits c M tau n [] bound (t .counts) (tree .parties), t .room)
 
   -- their place has 32 bytes for each instance
   pub onlines-part : length (midOf 38 (38 + 32 * M - 38) B) ≡ 32 * M
   onlines-part = mid-len 38 (38 + 32 * M) B onlines-fit ∙ omega arith
 
-  -- h* has 32 bytes
-  pub length-first : (hs : List ℕ) → hs ≡ firstMessage c M n w (mastersOf root) → length hs ≡ 32
-  length-first hs eh = ap length eh ∙ length-hstar c M n w root
+  -- h*
+  module _ (hs : List ℕ) (eh : hs ≡ firstMessage c M n w (masterIn nodes)) where
+    -- it has 32 bytes
+    pub length-first : length hs ≡ 32
+    length-first = ap length eh ∙ length-hstar c M n w (masterIn nodes)
 
-  -- the challenge can be drawn from it
-  pub first-drawable : (hs lent : List ℕ) → hs ≡ firstMessage c M n w (mastersOf root) → length lent ≡ 3 * tau → Drawable M tau n hs y message lent
-  first-drawable hs lent eh fits =
-      record {
-        counts = t .counts;
-        parties = tree .parties;
-        hstar-size = length-first hs eh;
-        y-least = t .y-least;
-        y-most = t .y-most;
-        short = t .short;
-        room = fits;
-      }
+    -- the challenge can be drawn from it
+    pub first-drawable : Drawable M tau n hs y message
+    first-drawable =
+        record {
+          counts = t .counts;
+          parties = tree .parties;
+          hstar-size = length-first;
+          y-least = t .y-least;
+          y-most = t .y-most;
+          short = t .short;
+        }
 
-  -- h*, and the bytes of the challenge
-  module _ (hs ch : List ℕ) (eh : hs ≡ firstMessage c M n w (mastersOf root)) (choices-right : ch ≡ challengeOf M tau n hs bound) where
-    -- they ask what the challenge asks
-    asks-right : asksIn n ch ≡ challenged M tau n (firstMessage c M n w (mastersOf root)) bound
-    asks-right =
-        ap (asksIn n) choices-right ∙ asks-same M tau n hs bound (t .counts) some-party
-        ∙ ap (λ (x : List ℕ). challenged M tau n x bound) eh
+    -- the h'_j and the header
+    module _ (on hd : List ℕ) (count : length on ≡ length (midOf 38 (38 + 32 * M - 38) B)) (eo : on ≡ onlinesOf c M n w (masterIn nodes))
+        (eg : hd ≡ headerOf M tau n hs) where
+      -- the buffer that the response is written into
+      abbrev ready : List ℕ
+      ready = hd ++ drop 38 (putMid 38 (38 + 32 * M - 38) B on)
 
-    -- they name parties alone
-    pub asking-right : Asking n ch
-    asking-right = rw choices-right (asking-challenge M tau n hs bound (t .counts) some-party)
+      -- the header has 38 bytes
+      front : length hd ≡ 38
+      front = ap length eg ∙ length-header M tau n hs [] length-first
 
-    -- the bytes of the proof
-    module _ (size : ℕ) (es : size ≡ proofBytes c M n (asksIn n ch)) where
-      -- their number is right
-      pub size-right : size ≡ length (proofOf c M tau n w bound (mastersOf root))
-      size-right = es ∙ ap (proofBytes c M n) asks-right ∙ sym (length-proof c M tau n w bound (mastersOf root) (λ j. length-master j root))
+      -- it is as long as before
+      length-ready : length ready ≡ length B
+      length-ready = length-headed M B on onlines-fit count hd front
 
-      -- they fit
-      size-inside : size ≤ length B
-      size-inside = omega (arith, size-right, proof-fits c M tau n w bound (mastersOf root) (λ j. length-master j root) (t .counts) (tree .parties), t .room)
+      -- the header lies inside
+      pub ready-inside : 38 ≤ length ready
+      ready-inside = omega (arith, length-ready, onlines-fit)
 
-      -- they reach beyond the h'_j
-      size-least : 38 + 32 * M ≤ size
-      size-least = omega (arith, es, start-least c n (asksIn n ch) tall M)
+      -- the table of the challenge
+      module _ (table : List ℕ) (table-right : table ≡ tableOf M n (challengeOf M tau n hs bound)) where
+        -- it asks what the challenge asks
+        asks-right : asksIn n table ≡ challenged M tau n hs bound
+        asks-right = ap (asksIn n) table-right ∙ asks-same M tau n hs bound (t .counts) some-party
 
-      -- and beyond the header
-      pub size-start : 38 ≤ size
-      size-start = omega (arith, size-least)
-
-      -- the h'_j and the header
-      module _ (on hd : List ℕ) (count : length on ≡ length (midOf 38 (38 + 32 * M - 38) B)) (eo : on ≡ onlinesOf c M n w root)
-          (eg : hd ≡ headerOf M tau n hs) where
-        -- the buffer that the response is written into
-        abbrev ready : List ℕ
-        ready = hd ++ drop 38 (putMid 38 (38 + 32 * M - 38) B on)
-
-        -- the header has 38 bytes
-        front : length hd ≡ 38
-        front = ap length eg ∙ length-header M tau n hs [] (length-first hs eh)
-
-        -- it is as long as before
-        length-ready : length ready ≡ length B
-        length-ready = length-headed M B on onlines-fit count size hd size-least size-inside front
-
-        -- the part lies inside
-        pub part-inside : size ≤ length ready
-        part-inside = omega (arith, length-ready, size-inside)
-
-        -- what it asks
-        pub response-asks : Response s M n w root ch (midOf 38 (size - 38) ready)
-        response-asks =
-            let l = length-part M B on onlines-fit count size hd size-least size-inside front in
-            let d : 38 + length (midOf 38 (size - 38) ready) ≡ size = omega (arith, l, size-least) in
+        -- what round 3 is lent
+        pub answer-asks : Answering s M n w nodes table (midOf 38 (length ready - 38) ready)
+        answer-asks =
             record {
               few = few-instances;
-              asking = asking-right;
-              size = d ∙ es;
-              onlines = onlines-there M B on onlines-fit count size hd size-least size-inside front ∙ eo;
+              rows = rows;
+              entries = ap length table-right ∙ length-table M n _;
+              asking = rw table-right (asking-challenge M tau n hs bound (t .counts) some-party);
+              room =
+                  omega (
+                    arith,
+                    ap (proofBytes c M n) asks-right,
+                    challenge-fits c M tau n hs bound (t .counts) (tree .parties),
+                    t .room,
+                    length-rest M B on onlines-fit count hd front,
+                    onlines-fit,
+                  );
+              onlines = onlines-there M B on onlines-fit count hd front ∙ eo;
             }
 
         -- the proof is written
-        module _ (z : List ℕ) (e : z ≡ responseOf c M n w (mastersOf root) (asksIn n ch)) where
-          -- the buffer then
-          pub proof-made : putMid 38 (size - 38) ready z ≡ proofOf c M tau n w bound (mastersOf root) ++ drop size B
-          unfolding proofOf
-          proof-made =
-              all-written M B on onlines-fit count size hd size-least size-inside front z
-              ∙ ap₂ (λ (x y : List ℕ). x ++ y ++ drop size B) (eg ∙ ap (headerOf M tau n) eh) (e ∙ ap (responseOf c M n w (mastersOf root)) asks-right)
-
+        module _ (size : ℕ) (z : List ℕ) (es : size ≡ proofBytes c M n (asksIn n table))
+            (ez : z ≡ openedRows M (asksIn n table) nodes ++ (responseOf c M n w (masterIn nodes) (asksIn n table) ++ drop (size - 38) (midOf 38 (length ready - 38) ready))) where
           -- the buffer is as long as before
-          pub buffer-kept : length z ≡ length (midOf 38 (size - 38) ready) → length (putMid 38 (size - 38) ready z) ≡ length B
-          buffer-kept l = same-len-mid 38 (size - 38) ready z l ∙ length-ready
+          pub buffer-kept : length z ≡ length (midOf 38 (length ready - 38) ready) → length (putMid 38 (length ready - 38) ready z) ≡ length B
+          buffer-kept l = same-len-mid 38 (length ready - 38) ready z l ∙ length-ready
+
+          -- the buffer then
+          pub proof-made : putMid 38 (length ready - 38) ready z ≡ proofFrom c M tau n w bound nodes ++ drop size B
+          unfolding proofFrom
+          proof-made =
+              let o : List ℕ = openedRows M (asksIn n table) nodes in
+              let r : List ℕ = responseOf c M n w (masterIn nodes) (asksIn n table) in
+              let least : 38 + 32 * M ≤ size = omega (arith, es, start-least c M n (asksIn n table) M) in
+              all-written M B on onlines-fit count hd front z
+              ∙ ap (λ (l : List ℕ). hd ++ l)
+              (ez ∙ ap (λ (l : List ℕ). o ++ (r ++ l)) (rest-stays M B on onlines-fit count hd front size least) ∙ sym (append-assoc o r (drop size B)))
+              ∙ sym (append-assoc hd (o ++ r) (drop size B))
+              ∙ ap (λ (l : List ℕ). l ++ drop size B)
+              (ap₂ (λ (u : List ℕ) (v : ℕ → Asked). u ++ (openedRows M v nodes ++ responseOf c M n w (masterIn nodes) v)) eg asks-right
+              ∙ ap (λ (x : List ℕ). headerOf M tau n x ++ (openedRows M (challenged M tau n x bound) nodes ++ responseOf c M n w (masterIn nodes) (challenged M tau n x bound))) eh)
+
+          -- its length
+          pub size-made : length z ≡ length (midOf 38 (length ready - 38) ready) → size ≡ length (proofFrom c M tau n w bound nodes)
+          size-made l =
+              let inside : size ≤ length B
+              = omega (arith, es, ap (proofBytes c M n) asks-right, challenge-fits c M tau n hs bound (t .counts) (tree .parties), t .room) in
+              omega (arith, ap length proof-made, length-append (proofFrom c M tau n w bound nodes) (drop size B), length-drop size B, buffer-kept l)
 
 -- buffers as long as those of an instance are lent as well
 pub lent-again : (s : List ℕ) (i o g a n h : ℕ) (tapes memory t m : List ℕ) → Lent s (sized i o g a) n h tapes memory → length t ≡ length tapes

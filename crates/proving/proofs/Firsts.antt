@@ -18,14 +18,13 @@ use Rattle.keccak.proofs.Lengths.{length-sha3-256}
 use Rattle.circuit.specs.Circuit.{Circuit}
 use Rattle.mpc.specs.Showing.{rowsOf}
 use Rattle.hashing.specs.Inputs.{commitmentsInput, onlineInput, allCommitmentsInput, allOnlineInput}
-use Rattle.party.specs.Derive.{masterOf}
 use Rattle.hashing.specs.Digest.{transcriptOf}
 use Rattle.hashing.specs.Steps.{taken, given}
 use Rattle.hashing.proofs.Hashes.{bytes-append, bytes-one}
 use Rattle.hashing.proofs.Digests.{taken-more, taken-room, given-taken, all-online-more}
 use Rattle.instance.specs.Instance.{commitmentsDigest, onlineDigest, commitmentsOf, masterSeeds, masterCorrections, masterCommitments, masterRun, masterMasked, masterOnline}
 use Rattle.instance.specs.Steps.{Lent}
-use Rattle.proof.specs.Protocol.{mastersOf, hstarOf, firstMessage}
+use Rattle.proof.specs.Protocol.{hstarOf, firstMessage}
 use Rattle.proof.proofs.Digests.{sha3-bytes}
 use Rattle.mpc.proofs.Opened.{sized}
 
@@ -69,23 +68,23 @@ pub taken-fits : (M : List ℕ) (s : Sponge) → s ≡ taken M → s .fill < 136
 taken-fits M s e = rw e (taken-room M)
 
 -- the instances of a prover
-module _ (c : Circuit) (n : ℕ) (witness root : List ℕ) where
+module _ (c : Circuit) (n : ℕ) (witness : List ℕ) (masters : ℕ → List ℕ) where
   -- h_i
   abbrev pub commitmentsAt : ℕ → List ℕ
-  commitmentsAt i = masterCommitments c n i (masterOf i root)
+  commitmentsAt i = masterCommitments c n i (masters i)
 
   -- h'_i
   abbrev pub onlineAt : ℕ → List ℕ
-  onlineAt i = masterOnline c n i witness (masterOf i root)
+  onlineAt i = masterOnline c n i witness (masters i)
 
   -- they are digests
   commitments-bytes : (i : ℕ) → Bytes (commitmentsAt i)
   unfolding masterCommitments commitmentsDigest
-  commitments-bytes i = sha3-bytes (commitmentsInput i (commitmentsOf n i (masterSeeds n i (masterOf i root)) (masterCorrections c n i (masterOf i root))))
+  commitments-bytes i = sha3-bytes (commitmentsInput i (commitmentsOf n i (masterSeeds n i (masters i)) (masterCorrections c n i (masters i))))
 
   online-bytes : (i : ℕ) → Bytes (onlineAt i)
   unfolding masterOnline onlineDigest
-  online-bytes i = sha3-bytes (onlineInput i (masterMasked c n i witness (masterOf i root)) (rowsOf n (masterRun c n i witness (masterOf i root))))
+  online-bytes i = sha3-bytes (onlineInput i (masterMasked c n i witness (masters i)) (rowsOf n (masterRun c n i witness (masters i))))
 
   -- no h_i is taken in yet
   pub all-none : (s : Sponge) → s ≡ taken (allCommitmentsInput []) → s ≡ taken (allCommitmentsInput (flatten (tabulate 0 commitmentsAt)))
@@ -104,7 +103,7 @@ module _ (c : Circuit) (n : ℕ) (witness root : List ℕ) where
 
     -- all of them, and all h'_i in o: h*
     pub first-end : (m : ℕ) (onlines x y r : List ℕ) (o o′ : Sponge) → j ≡ m → x ≡ given s → onlines ≡ flatten (tabulate m onlineAt)
-        → o ≡ taken (allOnlineInput []) → o′ ≡ absorbs 136 o onlines → y ≡ given o′ → r ≡ transcriptOf x y → r ≡ firstMessage c m n witness (mastersOf root)
+        → o ≡ taken (allOnlineInput []) → o′ ≡ absorbs 136 o onlines → y ≡ given o′ → r ≡ transcriptOf x y → r ≡ firstMessage c m n witness masters
     unfolding firstMessage hstarOf
     first-end m onlines x y r o o′ q g p a b d t =
         let M : List ℕ = flatten (tabulate j commitmentsAt) in

@@ -5,3 +5,4 @@ pub mod Provings
 pub mod Firsts
 pub mod Responds
 pub mod Buffers
+pub mod Trees

@@ -27,19 +27,20 @@ use Rattle.seeds.proofs.Instances.{counts-fit}
 use Rattle.instance.specs.Steps.{Tree}
 use Rattle.proof.specs.File.{proofRoom}
 use Rattle.proof.proofs.Works.{output-bytes}
-use Rattle.proof.specs.Protocol.{mastersOf, statementOf}
+use Rattle.proof.specs.Protocol.{statementOf}
 use Rattle.proof.specs.Prove.{proofOf, witnesses, written, proveLegal, proveOp}
 use Rattle.proving.specs.Steps.{Tested}
 use Rattle.proving.specs.Answers.{outcome}
 use Rattle.proving.specs.declared.Answer.the-variants.{Written, Refused}
 
--- five tests that hold together: the first three and the last
-five : (b1 b2 b3 b4 b5 : Bool) → b1 && b2 && b3 && b4 && b5 ≡ true → (b1 ≡ true) × ((b2 ≡ true) × ((b3 ≡ true) × (b5 ≡ true)))
+-- five tests that hold together
+five : (b1 b2 b3 b4 b5 : Bool) → b1 && b2 && b3 && b4 && b5 ≡ true
+    → (b1 ≡ true) × ((b2 ≡ true) × ((b3 ≡ true) × ((b4 ≡ true) × (b5 ≡ true))))
 five b1 b2 b3 b4 b5 z =
     let z4 = and-true-left (b1 && b2 && b3 && b4) b5 z in
     let z3 = and-true-left (b1 && b2 && b3) b4 z4 in
     let z2 = and-true-left (b1 && b2) b3 z3 in
-    (and-true-left b1 b2 z2, (and-true-right b1 b2 z2, (and-true-right (b1 && b2) b3 z3, and-true-right (b1 && b2 && b3 && b4) b5 z)))
+    (and-true-left b1 b2 z2, (and-true-right b1 b2 z2, (and-true-right (b1 && b2) b3 z3, (and-true-right (b1 && b2 && b3) b4 z4, and-true-right (b1 && b2 && b3 && b4) b5 z))))
 
 -- the answers on a legal file; the test of the counts is b2
 module _ (s : List ℕ) (i o g a : ℕ) (k : Known s (sized i o g a)) (w y message root buffer : List ℕ) (m tau n h : ℕ) (count : h ≡ heightOf n) (b1 b2 : Bool)
@@ -88,12 +89,12 @@ module _ (s : List ℕ) (i o g a : ℕ) (k : Known s (sized i o g a)) (w y messa
       -- lengths as stated; the test of the unused bits is b6
       module _ (t3 : not b3 ≡ false) (b4 b5 b6 : Bool) (f4 : b4 ≡ unusedZero i w) (f5 : b5 ≡ unusedZero o y) (f6 : b6 ≡ b4 && b5) where
         -- what the lengths are
-        lent-holds : (length w ≡ oct i) × ((length y ≡ oct o) × ((length message ≤ 4096) × (proofRoom (circuitOf s) m tau n ≤ length buffer)))
+        lent-holds : (length w ≡ oct i) × ((length y ≡ oct o) × ((length message ≤ 4096) × ((length root ≡ 16) × (proofRoom (circuitOf s) m tau n ≤ length buffer))))
         lent-holds =
             let z =
             five (eqb (length w) (oct i)) (eqb (length y) (oct o)) (leb (length message) 4096) (eqb (length root) 16)
             (leb (proofRoom (circuitOf s) m tau n) (length buffer)) (held _ b3 f3 t3) in
-            (eqb-true _ _ (z .0), (eqb-true _ _ (z .1 .0), (leb-true _ _ (z .1 .1 .0), leb-true _ _ (z .1 .1 .1))))
+            (eqb-true _ _ (z .0), (eqb-true _ _ (z .1 .0), (leb-true _ _ (z .1 .1 .0), (eqb-true _ _ (z .1 .1 .1 .0), leb-true _ _ (z .1 .1 .1 .1)))))
 
         -- in the words of the operation
         unused-right : b6 ≡ unusedZero (circuitOf s .inputs) w && unusedZero (length (circuitOf s .outputs)) y
@@ -114,7 +115,7 @@ module _ (s : List ℕ) (i o g a : ℕ) (k : Known s (sized i o g a)) (w y messa
           prove-witness = record { size = lent-holds .0; unused = sym f4 ∙ and-true-left b4 b5 (held _ b6 f6 t6) }
 
           -- what the steps ask
-          pub prove-tested : readCircuit s ≡ legal (circuitOf s) → Tested s (sized i o g a) m tau n w y message root buffer
+          pub prove-tested : readCircuit s ≡ legal (circuitOf s) → Tested s (sized i o g a) m tau n w y message buffer
           prove-tested read =
               let f = output-bytes s i o g a k read y (lent-holds .1 .0) in
               record {
@@ -123,8 +124,12 @@ module _ (s : List ℕ) (i o g a : ℕ) (k : Known s (sized i o g a)) (w y messa
                 y-least = f .0;
                 y-most = f .1;
                 short = lent-holds .1 .1 .0;
-                room = lent-holds .1 .1 .1;
+                room = lent-holds .1 .1 .1 .1;
               }
+
+          -- the root has 16 bytes
+          pub prove-root : length root ≡ 16
+          prove-root = lent-holds .1 .1 .1 .0
 
           -- the test of the output is b7
           module _ (b7 : Bool) (f7 : b7 ≡ witnesses (circuitOf s) w y) where
@@ -135,12 +140,12 @@ module _ (s : List ℕ) (i o g a : ℕ) (k : Known s (sized i o g a)) (w y messa
                 rw (held _ b2 counts-right t2, held _ b3 (f3 ∙ lent-right) t3, held _ b6 unused-right t6, fell _ b7 f7 t)
 
             -- success
-            pub prove-done : not b7 ≡ false → (r : ℕ) (left : List ℕ) → r ≡ length (proofOf (circuitOf s) m tau n w (statementOf m tau n s y message) (mastersOf root))
-                → left ≡ proofOf (circuitOf s) m tau n w (statementOf m tau n s y message) (mastersOf root) ++ drop r buffer
+            pub prove-done : not b7 ≡ false → (r : ℕ) (left : List ℕ) → r ≡ length (proofOf (circuitOf s) m tau n w (statementOf m tau n s y message) root)
+                → left ≡ proofOf (circuitOf s) m tau n w (statementOf m tau n s y message) root ++ drop r buffer
                 → outcome (Written r) left ≡ proveLegal s w y message root m tau n buffer (circuitOf s)
             unfolding proveLegal written
             prove-done t r left e f =
-                let proof : List ℕ = proofOf (circuitOf s) m tau n w (statementOf m tau n s y message) (mastersOf root) in
+                let proof : List ℕ = proofOf (circuitOf s) m tau n w (statementOf m tau n s y message) root in
                 ap (outcome (Written r)) f ∙ ap (λ (x : ℕ). outcome (Written x) (proof ++ drop x buffer)) e
                 ∙ rw (held _ b2 counts-right t2, held _ b3 (f3 ∙ lent-right) t3, held _ b6 unused-right t6, held _ b7 f7 t)
 

@@ -23,6 +23,7 @@ use circuit::evaluation::evaluate;
 use circuit::reading::read;
 use mpc::tests::both;
 use mpc::tests::holds;
+use proof::Counts;
 use proof::HEADER_BYTES;
 use refusal::Refusal;
 use seeds::MAX_MESSAGE;
@@ -36,14 +37,16 @@ pub enum Answer {
 }
 
 // The bytes that the proof buffer must hold.
-fn room(s: &[u8], z: Sizes, m: usize, tau: usize, n: u32, h: u32) -> usize
-    requires { ⌜ Known (now s) z × ((m ≤ maxInstances) × ((tau ≤ m) × Tree n h)) ⌝ }
-    ensures { λ r. ⌜ r ≡ proofRoom (circuitOf (now (s .entry))) m tau n ⌝ }
+fn room(s: &[u8], z: Sizes, k: Counts) -> usize
+    requires { ⌜ Known (now s) z × ((k .instances ≤ maxInstances) × ((k .chosen ≤ k .instances) × Tree (k .parties) (k .height))) ⌝ }
+    ensures { λ r. ⌜ r ≡ proofRoom (circuitOf (now (s .entry))) (k .instances) (k .chosen) (k .parties) ⌝ }
 {
+    let m = k.instances as usize;
+    let tau = k.chosen as usize;
     let outputs = z.outputs;
     let ands = z.ands;
     let row = bits::oct(z.inputs) + bits::oct(ands + outputs);
-    let chosen = 16 * (h as usize) + bits::oct(ands) + 32 + row;
+    let chosen = 16 * (k.height as usize) + bits::oct(ands) + 32 + row;
     HEADER_BYTES + 48 * (m - tau) + tau * chosen
 }
 
@@ -51,24 +54,21 @@ fn room(s: &[u8], z: Sizes, m: usize, tau: usize, n: u32, h: u32) -> usize
 fn lengths(
     s: &[u8],
     z: Sizes,
-    m: usize,
-    tau: usize,
-    n: u32,
-    h: u32,
+    k: Counts,
     witness: &[u8],
     y: &[u8],
     message: &[u8],
     root: &[u8],
     buffer: &[u8],
 ) -> bool
-    requires { ⌜ Known (now s) z × ((m ≤ maxInstances) × ((tau ≤ m) × Tree n h)) ⌝ }
-    ensures { λ r. ⌜ r ≡ eqb (length (now (witness .entry))) (oct (z .inputs)) && eqb (length (now (y .entry))) (oct (z .outputs)) && leb (length (now (message .entry))) maxMessage && eqb (length (now (root .entry))) 16 && leb (proofRoom (circuitOf (now (s .entry))) m tau n) (length (now (buffer .entry))) ⌝ }
+    requires { ⌜ Known (now s) z × ((k .instances ≤ maxInstances) × ((k .chosen ≤ k .instances) × Tree (k .parties) (k .height))) ⌝ }
+    ensures { λ r. ⌜ r ≡ eqb (length (now (witness .entry))) (oct (z .inputs)) && eqb (length (now (y .entry))) (oct (z .outputs)) && leb (length (now (message .entry))) maxMessage && eqb (length (now (root .entry))) 16 && leb (proofRoom (circuitOf (now (s .entry))) (k .instances) (k .chosen) (k .parties)) (length (now (buffer .entry))) ⌝ }
 {
     let lent = both(
         both(holds(witness, z.inputs), holds(y, z.outputs)),
         message.len() <= MAX_MESSAGE,
     );
-    let space = room(s, z, m, tau, n, h) <= buffer.len();
+    let space = room(s, z, k) <= buffer.len();
     both(both(lent, root.len() == 16), space)
 }
 
@@ -103,19 +103,13 @@ fn prove_lent(
     if !both(counts(m, tau), h != 0) {
         return Answer::Refused(Refusal::Parameter);
     }
-    if !lengths(
-        s,
-        z,
-        m as usize,
-        tau as usize,
-        n,
-        h,
-        witness,
-        y,
-        message,
-        root,
-        buffer,
-    ) {
+    let k = Counts {
+        instances: m,
+        chosen: tau,
+        parties: n,
+        height: h,
+    };
+    if !lengths(s, z, k, witness, y, message, root, buffer) {
         return Answer::Refused(Refusal::BufferLength);
     }
     if !both(
@@ -127,7 +121,7 @@ fn prove_lent(
     if !gives(s, z, witness, y) {
         return Answer::Refused(Refusal::Output);
     }
-    Answer::Written(prove_with(s, z, m, tau, n, h, witness, y, message, root, buffer))
+    Answer::Written(prove_with(s, z, k, witness, y, message, root, buffer))
 }
 
 // Proves that the circuit gives y on the witness: writes a proof into the buffer and answers its length, or refuses and leaves the

@@ -1,22 +1,26 @@
 // Writing a proof.
 ghost use mathlib.Core.Path.{_≡_};
 ghost use mathlib.Core.List.{_++_};
-ghost use Prim.Native.Nat.{_*_, _≤_, _<_};
+ghost use Prim.Native.Nat.{suc, _*_, _^_, _<_};
 ghost use lib.ListN.{length, drop};
 ghost use Rattle.circuit.specs.File.{circuitOf};
 ghost use Rattle.mpc.specs.Steps.{Known};
+ghost use Rattle.cover.specs.Masters.{height as «height-of»};
 ghost use Rattle.instance.specs.Steps.{Tree, Lent};
 ghost use Rattle.proof.specs.File.{headerBytes, headerOf};
-ghost use Rattle.proof.specs.Protocol.{mastersOf, statementOf};
+ghost use Rattle.proof.specs.Protocol.{statementOf};
 ghost use Rattle.proof.specs.Prove.{proofOf};
-ghost use Rattle.proving.specs.Steps.{Tested};
+ghost use Rattle.proving.specs.Steps.{proofFrom, Tested};
+use crate::responding::answer;
 use crate::responding::first;
-use crate::responding::respond;
 use bits::copy;
 use circuit::Sizes;
+use cover::grow;
+use cover::height;
+use proof::Counts;
 use proof::HEADER_BYTES;
 use proof::asking::draw_challenge;
-use proof::asking::proof_bytes;
+use proof::nodes::row_count;
 
 // The header: M, τ, n, zero, h*.
 pub(crate) fn head(m: u32, tau: u32, n: u32, hstar: &[u8], out: &mut [u8])
@@ -30,99 +34,124 @@ pub(crate) fn head(m: u32, tau: u32, n: u32, hstar: &[u8], out: &mut [u8])
     copy(hstar, &mut out[6..]);
 }
 
-// Writes a proof into the buffer, and gives its length.
+// Writes a proof into the buffer, with the nodes of the masters' tree, and gives its length.
+pub(crate) fn prove_from(
+    s: &[u8],
+    z: Sizes,
+    k: Counts,
+    witness: &[u8],
+    y: &[u8],
+    message: &[u8],
+    nodes: &[u8],
+    buffer: &mut [u8],
+    tapes: &mut [u8],
+    memory: &mut [u8],
+) -> usize
+    requires { ⌜ Lent (now s) z (k .parties) (k .height) (now tapes) (now memory) × (Tested (now s) z (k .instances) (k .chosen) (k .parties) (now witness) (now y) (now message) (now buffer) × (length (now nodes) ≡ 16 * 2 ^ suc («height-of» (k .instances)))) ⌝ }
+    ensures { λ r. ⌜ r ≡ length (proofFrom (circuitOf (now (s .entry))) (k .instances) (k .chosen) (k .parties) (now (witness .entry)) (statementOf (k .instances) (k .chosen) (k .parties) (now (s .entry)) (now (y .entry)) (now (message .entry))) (now (nodes .entry))) ⌝ }
+    ensures { λ r. ⌜ now (buffer .exit) ≡ proofFrom (circuitOf (now (s .entry))) (k .instances) (k .chosen) (k .parties) (now (witness .entry)) (statementOf (k .instances) (k .chosen) (k .parties) (now (s .entry)) (now (y .entry)) (now (message .entry))) (now (nodes .entry)) ++ drop r (now (buffer .entry)) ⌝ }
+{
+    let m = k.instances as usize;
+    let kept = HEADER_BYTES + 32 * m;
+    let hstar = first(
+        s,
+        z,
+        k,
+        witness,
+        nodes,
+        &mut buffer[HEADER_BYTES..kept],
+        tapes,
+        memory,
+    );
+    head(
+        k.instances,
+        k.chosen,
+        k.parties,
+        &hstar,
+        &mut buffer[..HEADER_BYTES],
+    );
+    let mut table = [0u8; 512];
+    draw_challenge(s, k, &hstar, y, message, &mut table[..m]);
+    answer(
+        s,
+        z,
+        k,
+        &table[..m],
+        witness,
+        nodes,
+        &mut buffer[HEADER_BYTES..],
+        tapes,
+        memory,
+    )
+}
+
+// The same from the root.
 pub(crate) fn prove_in(
     s: &[u8],
     z: Sizes,
-    m: u32,
-    tau: u32,
-    n: u32,
-    h: u32,
+    k: Counts,
     witness: &[u8],
     y: &[u8],
     message: &[u8],
     root: &[u8],
     buffer: &mut [u8],
-    choices: &mut [u8],
     tapes: &mut [u8],
     memory: &mut [u8],
 ) -> usize
-    requires { ⌜ Lent (now s) z n h (now tapes) (now memory) × (Tested (now s) z m tau n (now witness) (now y) (now message) (now root) (now buffer) × (length (now choices) ≡ 3 * tau)) ⌝ }
-    ensures { λ r. ⌜ r ≡ length (proofOf (circuitOf (now (s .entry))) m tau n (now (witness .entry)) (statementOf m tau n (now (s .entry)) (now (y .entry)) (now (message .entry))) (mastersOf (now (root .entry)))) ⌝ }
-    ensures { λ r. ⌜ now (buffer .exit) ≡ proofOf (circuitOf (now (s .entry))) m tau n (now (witness .entry)) (statementOf m tau n (now (s .entry)) (now (y .entry)) (now (message .entry))) (mastersOf (now (root .entry))) ++ drop r (now (buffer .entry)) ⌝ }
+    requires { ⌜ Lent (now s) z (k .parties) (k .height) (now tapes) (now memory) × (Tested (now s) z (k .instances) (k .chosen) (k .parties) (now witness) (now y) (now message) (now buffer) × (length (now root) ≡ 16)) ⌝ }
+    ensures { λ r. ⌜ r ≡ length (proofOf (circuitOf (now (s .entry))) (k .instances) (k .chosen) (k .parties) (now (witness .entry)) (statementOf (k .instances) (k .chosen) (k .parties) (now (s .entry)) (now (y .entry)) (now (message .entry))) (now (root .entry))) ⌝ }
+    ensures { λ r. ⌜ now (buffer .exit) ≡ proofOf (circuitOf (now (s .entry))) (k .instances) (k .chosen) (k .parties) (now (witness .entry)) (statementOf (k .instances) (k .chosen) (k .parties) (now (s .entry)) (now (y .entry)) (now (message .entry))) (now (root .entry)) ++ drop r (now (buffer .entry)) ⌝ }
 {
-    let kept = HEADER_BYTES + 32 * (m as usize);
-    let hstar = first(
+    let m = k.instances;
+    let len = 16 * row_count(m);
+    let mut nodes = [0u8; 16384];
+    grow(65535, height(m), root, &mut nodes[..len]);
+    prove_from(
         s,
         z,
-        m,
-        n,
-        h,
+        k,
         witness,
-        root,
-        &mut buffer[HEADER_BYTES..kept],
+        y,
+        message,
+        &nodes[..len],
+        buffer,
         tapes,
         memory,
-    );
-    draw_challenge(s, m, tau, n, &hstar, y, message, choices);
-    head(m, tau, n, &hstar, &mut buffer[..HEADER_BYTES]);
-    let size = proof_bytes(s, z, m, n, h, choices);
-    respond(
-        s,
-        z,
-        m,
-        n,
-        h,
-        choices,
-        witness,
-        root,
-        &mut buffer[HEADER_BYTES..size],
-        tapes,
-        memory,
-    );
-    size
+    )
 }
 
 // The same with a work memory of its own.
 pub(crate) fn prove_with(
     s: &[u8],
     z: Sizes,
-    m: u32,
-    tau: u32,
-    n: u32,
-    h: u32,
+    k: Counts,
     witness: &[u8],
     y: &[u8],
     message: &[u8],
     root: &[u8],
     buffer: &mut [u8],
 ) -> usize
-    requires { ⌜ Known (now s) z × (Tree n h × Tested (now s) z m tau n (now witness) (now y) (now message) (now root) (now buffer)) ⌝ }
-    ensures { λ r. ⌜ r ≡ length (proofOf (circuitOf (now (s .entry))) m tau n (now (witness .entry)) (statementOf m tau n (now (s .entry)) (now (y .entry)) (now (message .entry))) (mastersOf (now (root .entry)))) ⌝ }
-    ensures { λ r. ⌜ now (buffer .exit) ≡ proofOf (circuitOf (now (s .entry))) m tau n (now (witness .entry)) (statementOf m tau n (now (s .entry)) (now (y .entry)) (now (message .entry))) (mastersOf (now (root .entry))) ++ drop r (now (buffer .entry)) ⌝ }
+    requires { ⌜ Known (now s) z × (Tree (k .parties) (k .height) × (Tested (now s) z (k .instances) (k .chosen) (k .parties) (now witness) (now y) (now message) (now buffer) × (length (now root) ≡ 16))) ⌝ }
+    ensures { λ r. ⌜ r ≡ length (proofOf (circuitOf (now (s .entry))) (k .instances) (k .chosen) (k .parties) (now (witness .entry)) (statementOf (k .instances) (k .chosen) (k .parties) (now (s .entry)) (now (y .entry)) (now (message .entry))) (now (root .entry))) ⌝ }
+    ensures { λ r. ⌜ now (buffer .exit) ≡ proofOf (circuitOf (now (s .entry))) (k .instances) (k .chosen) (k .parties) (now (witness .entry)) (statementOf (k .instances) (k .chosen) (k .parties) (now (s .entry)) (now (y .entry)) (now (message .entry))) (now (root .entry)) ++ drop r (now (buffer .entry)) ⌝ }
 {
     let inputs = z.inputs;
     let gates = z.gates;
     let ands = z.ands;
-    let mut choices = [0u8; 1533];
+    let n = k.parties as usize;
     let mut tapes = [0u8; 17408];
     let mut memory = [0u8; 299008];
-    let c = 3 * (tau as usize);
-    let t = (n as usize) * bits::oct(inputs + 2 * ands);
+    let t = n * bits::oct(inputs + 2 * ands);
     let w = 64 * (inputs + gates) + 4096;
     prove_in(
         s,
         z,
-        m,
-        tau,
-        n,
-        h,
+        k,
         witness,
         y,
         message,
         root,
         buffer,
-        &mut choices[..c],
         &mut tapes[..t],
         &mut memory[..w],
     )

@@ -1,1 +1,3 @@
 pub mod Instances
+pub mod Leaves
+pub mod Nodes

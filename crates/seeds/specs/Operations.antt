@@ -1,11 +1,14 @@
--- The operations with their refusals. Document 01: "Hash, expand or open a tree, derive a challenge: 8, 9, 6."
+-- The operations with their refusals. Document 01: "Hash, expand or open a tree, derive a challenge: 8, 9, 6." Document 02, order 5, has
+-- the tree over the masters.
 -- "A refusal returns its number alone, and all lent buffers hold what they held."
 -- Assumes nothing.
-use mathlib.Core.Bool.{Bool, _&&_}
-use mathlib.Core.List.{List, [], _∷_}
-use Prim.Native.Nat.{ℕ, _*_}
+use mathlib.Core.Bool.{Bool, not, _&&_}
+use mathlib.Core.List.{List, [], _∷_, flatten}
+use Prim.Native.Nat.{ℕ, _*_, _/_, _%_}
 use lib.Dec.{eqb, leb, ltb}
 use lib.ListN.{length}
+use Rattle.bits.specs.Bits.{tabulate}
+use Rattle.bits.specs.Bytes.{leAt}
 use Rattle.refusal.specs.Outcome as outcomes
 use Rattle.refusal.specs.Outcome.{refusal, success, Outcome, done, unless}
 use Rattle.refusal.specs.Refusal.{numberOf}
@@ -14,6 +17,8 @@ use Rattle.seeds.specs.declared.Answer.{Answer}
 use Rattle.seeds.specs.declared.Answer.the-variants.{Done, Refused}
 use Rattle.hashing.specs.Inputs.{boundOf}
 use Rattle.tree.specs.Tree.{leavesBelow, siblingsBelow}
+use Rattle.cover.specs.Cover.{some}
+use Rattle.cover.specs.Masters.{masterOf, coverOf, coverBytes}
 use Rattle.choice.specs.Challenge.{maxInstances, challengeOf}
 
 -- a success has no values
@@ -46,6 +51,42 @@ openOp j n p master lent =
     (unless (eqb (length master) 16) 6 (lent ∷ [])
     (unless (eqb (length lent) (16 * heightOf n)) 6 (lent ∷ [])
     (done (siblingsBelow j (heightOf n) 1 p master ∷ []))))))
+
+-- "M is 2..512"
+unfoldable pub isTreeSize : ℕ → Bool
+isTreeSize M = leb 2 M && leb M maxInstances
+
+-- "Let the masters be the leaves of one tree": the masters of M instances, from the root
+unfoldable pub mastersOp : ℕ → List ℕ → List ℕ → Outcome
+mastersOp M root lent =
+    unless (isTreeSize M) 8 (lent ∷ [])
+    (unless (eqb (length root) 16) 6 (lent ∷ [])
+    (unless (eqb (length lent) (16 * M)) 6 (lent ∷ []) (done (flatten (tabulate M (masterOf M root)) ∷ []))))
+
+-- hidden leaves come in any order, a u16 each: how many are listed, and the number of the leaf at place t
+abbrev pub leafCount : List ℕ → ℕ
+leafCount leaves = length leaves / 2
+
+unfoldable pub leafAt : List ℕ → ℕ → ℕ
+leafAt leaves t = leAt 2 leaves (2 * t)
+
+-- the set of the listed leaves: one of them is i
+unfoldable pub listed : List ℕ → ℕ → Bool
+listed leaves i = some (leafCount leaves) (λ t. eqb (leafAt leaves t) i)
+
+-- "An empty hidden set, or a leaf at or above M, gives 9"
+unfoldable pub areLeaves : ℕ → List ℕ → Bool
+areLeaves M leaves = leb 1 (leafCount leaves) && not (some (leafCount leaves) (λ t. leb M (leafAt leaves t)))
+
+-- "open the fewest nodes from which every unhidden leaf among the M follows and no hidden one does"; "a lent output not of 16 bytes for
+-- each opened node gives 6"
+unfoldable pub coverOp : ℕ → List ℕ → List ℕ → List ℕ → Outcome
+coverOp M leaves root lent =
+    unless (isTreeSize M) 8 (lent ∷ [])
+    (unless (areLeaves M leaves) 9 (lent ∷ [])
+    (unless (eqb (length leaves % 2) 0) 6 (lent ∷ [])
+    (unless (eqb (length root) 16) 6 (lent ∷ [])
+    (unless (eqb (length lent) (coverBytes M (listed leaves))) 6 (lent ∷ []) (done (coverOf M (listed leaves) root ∷ []))))))
 
 -- the limits on the bytes of a message, and on those of y, which hold 256 outputs
 abbrev pub maxMessage : ℕ

@@ -1,8 +1,28 @@
-// The operations on seeds: expand a tree, open it (document 01), derive a challenge (document 02, order 1).
+// The operations on seeds: expand a tree, open it (document 01), derive a challenge, make the masters, open their tree (document 02, orders
+// 1 and 5).
 ghost use mathlib.Core.Path.{_≡_};
-ghost use Rattle.seeds.specs.Operations.{outcome, areCounts, statementFits, expandOp, openOp, challengeOp};
+ghost use mathlib.Core.Bool.{true};
+ghost use mathlib.Core.List.{map, flatten, [], _∷_};
+ghost use Prim.Native.Nat.{suc, _*_, _^_, _≤_};
+ghost use lib.Dec.{eqb};
+ghost use lib.ListN.{length};
+ghost use Rattle.bits.specs.Bits.{bitVal, tabulate};
+ghost use Rattle.bits.specs.Bytes.{rowOf};
+ghost use Rattle.refusal.specs.Outcome.{done, unless};
+ghost use Rattle.cover.specs.Masters.{childOf, masterOf, coverOf, coverBytes};
+ghost use Rattle.cover.specs.Steps.{marksOf, coverBy, nodesOf};
+ghost use Rattle.seeds.specs.Operations.{outcome, areCounts, statementFits, isTreeSize, listed, areLeaves, expandOp, openOp, challengeOp, mastersOp, coverOp};
+use bits::clear;
+use bits::copy;
+use bits::read_u16;
 use choice::MAX_INSTANCES;
 use choice::derive;
+use cover::MASTERS;
+use cover::gather;
+use cover::grow;
+use cover::leaves;
+use cover::mark;
+use cover::opened_before;
 use parties::height;
 use refusal::Refusal;
 use tree::leaves_below;
@@ -120,4 +140,133 @@ pub fn challenge(
         out,
     );
     Answer::Done
+}
+
+// Whether a tree may have m masters.
+fn tree_size(m: u32) -> bool
+    ensures { λ r. ⌜ r ≡ isTreeSize m ⌝ }
+{
+    2 <= m && (m as usize) <= MAX_INSTANCES
+}
+
+// The masters of m instances.
+fn fill_masters(m: u32, root: &[u8], out: &mut [u8])
+    requires { ⌜ (m ≤ 512) × ((length (now root) ≡ 16) × (length (now out) ≡ 16 * m)) ⌝ }
+    ensures { λ _. ⌜ now (out .exit) ≡ flatten (tabulate m (masterOf m (now (root .entry)))) ⌝ }
+{
+    let h = cover::height(m);
+    let n = leaves(h);
+    let mut nodes = [0u8; 16384];
+    grow(MASTERS, h, root, &mut nodes[..32 * n]);
+    let a = 16 * n;
+    let e = a + out.len();
+    copy(&nodes[a..e], out);
+}
+
+// Makes the masters of m instances from the root.
+pub fn masters(m: u32, root: &[u8], out: &mut [u8]) -> Answer
+    ensures { λ r. ⌜ outcome r (now (out .exit)) ≡ mastersOp m (now (root .entry)) (now (out .entry)) ⌝ }
+{
+    let fit = tree_size(m);
+    if !fit {
+        return Answer::Refused(Refusal::Parameter);
+    }
+    if root.len() != 16 {
+        return Answer::Refused(Refusal::BufferLength);
+    }
+    if out.len() != 16 * (m as usize) {
+        return Answer::Refused(Refusal::BufferLength);
+    }
+    fill_masters(m, root, out);
+    Answer::Done
+}
+
+// Whether any leaf is listed, and each one is below m.
+fn are_leaves(m: u32, list: &[u8]) -> bool
+    ensures { λ r. ⌜ r ≡ areLeaves m (now (list .entry)) ⌝ }
+{
+    let n = list.len() / 2;
+    let mut k: usize = 0;
+    while k < n {
+        let leaf = read_u16(list, 2 * k);
+        if (leaf as u32) >= m {
+            return false;
+        }
+        k += 1;
+    }
+    1 <= n
+}
+
+// A table with 1 at each listed leaf, and 0 at every other.
+fn list_leaves(m: u32, list: &[u8], table: &mut [u8])
+    requires { ⌜ (areLeaves m (now list) ≡ true) × (m ≤ length (now table)) ⌝ }
+    ensures { λ _. ⌜ now (table .exit) ≡ tabulate (length (now (table .entry))) (λ i. bitVal (listed (now (list .entry)) i)) ⌝ }
+{
+    clear(table);
+    let n = list.len() / 2;
+    let mut k: usize = 0;
+    while k < n {
+        let leaf = read_u16(list, 2 * k);
+        table[leaf as usize] = 1;
+        k += 1;
+    }
+}
+
+// The marks of the nodes of a tree over m masters, from the listed leaves.
+fn mark_listed(m: u32, h: u32, list: &[u8], marks: &mut [u8])
+    requires { ⌜ (m ≤ 512) × ((areLeaves m (now list) ≡ true) × (length (now marks) ≡ 2 ^ suc h)) ⌝ }
+    ensures { λ _. ⌜ now (marks .exit) ≡ marksOf h m (listed (now (list .entry))) ⌝ }
+{
+    let mut table = [0u8; MAX_INSTANCES];
+    list_leaves(m, list, &mut table);
+    mark(h, &table, 0, m as usize, marks);
+}
+
+// The values of the opened nodes, from the root.
+fn open_nodes(h: u32, root: &[u8], marks: &[u8], out: &mut [u8])
+    requires { ⌜ ((h ≤ 9) × (length (now root) ≡ 16)) × ((length (now marks) ≡ 2 ^ suc h) × (length (now out) ≡ 16 * length (coverBy (now marks)))) ⌝ }
+    ensures { λ _. ⌜ now (out .exit) ≡ flatten (map (rowOf (nodesOf (childOf 65535) (now (root .entry)) h) 16) (coverBy (now (marks .entry)))) ⌝ }
+{
+    let mut nodes = [0u8; 16384];
+    let end = 16 * marks.len();
+    grow(MASTERS, h, root, &mut nodes[..end]);
+    gather(marks, &nodes[..end], out);
+}
+
+// Opens the tree over m masters, if the output has 16 bytes for each opened node.
+fn open_listed(m: u32, list: &[u8], root: &[u8], out: &mut [u8]) -> Answer
+    requires { ⌜ (m ≤ 512) × ((areLeaves m (now list) ≡ true) × (length (now root) ≡ 16)) ⌝ }
+    ensures { λ r. ⌜ outcome r (now (out .exit)) ≡ unless (eqb (length (now (out .entry))) (coverBytes m (listed (now (list .entry))))) 6 (now (out .entry) ∷ []) (done (coverOf m (listed (now (list .entry))) (now (root .entry)) ∷ [])) ⌝ }
+{
+    let h = cover::height(m);
+    let end = 2 * leaves(h);
+    let mut marks = [0u8; 1024];
+    mark_listed(m, h, list, &mut marks[..end]);
+    let n = opened_before(&marks[..end], end);
+    if out.len() != 16 * n {
+        return Answer::Refused(Refusal::BufferLength);
+    }
+    open_nodes(h, root, &marks[..end], out);
+    Answer::Done
+}
+
+// Opens the tree over m masters with the listed leaves hidden: the fewest nodes from which every other master follows and no hidden one.
+pub fn cover(m: u32, hidden: &[u8], root: &[u8], out: &mut [u8]) -> Answer
+    ensures { λ r. ⌜ outcome r (now (out .exit)) ≡ coverOp m (now (hidden .entry)) (now (root .entry)) (now (out .entry)) ⌝ }
+{
+    let fit = tree_size(m);
+    if !fit {
+        return Answer::Refused(Refusal::Parameter);
+    }
+    let listed = are_leaves(m, hidden);
+    if !listed {
+        return Answer::Refused(Refusal::Index);
+    }
+    if hidden.len() % 2 != 0 {
+        return Answer::Refused(Refusal::BufferLength);
+    }
+    if root.len() != 16 {
+        return Answer::Refused(Refusal::BufferLength);
+    }
+    open_listed(m, hidden, root, out)
 }

@@ -10,7 +10,7 @@ ghost use Rattle.mpc.specs.Operations.{prepareOp, runOp, showOp, replayOp};
 ghost use Rattle.proof.specs.Prove.{proveOp};
 ghost use Rattle.proof.specs.Check.{checkOp};
 ghost use Rattle.shelf.specs.Operations.{stockOp, drawOp};
-ghost use Rattle.seeds.specs.Operations.{expandOp, openOp, challengeOp};
+ghost use Rattle.seeds.specs.Operations.{expandOp, openOp, mastersOp, coverOp, challengeOp};
 ghost use Rattle.wivulameno.specs.Interface.{status, values, slot};
 ghost use Rattle.keccak.specs.Sponge.{«sha3-256», «shake128», «shake256»};
 
@@ -286,6 +286,30 @@ pub extern "C" fn wv_open(j: u32, n: u32, p: u32, master: &[u8], siblings: &mut 
     ensures { λ r. ⌜ (r ≡ status (openOp j n p (now (master .entry)) (now (siblings .entry)) .answer)) × (now (siblings .exit) ∷ [] ≡ openOp j n p (now (master .entry)) (now (siblings .entry)) .left) ⌝ }
 {
     let a = seeds::open(j, n, p, master, siblings);
+    match a {
+        seeds::Answer::Done => 0,
+        seeds::Answer::Refused(k) => refusal::number(k),
+    }
+}
+
+// Makes the masters of m instances from the root.
+#[no_mangle]
+pub extern "C" fn wv_masters(m: u32, root: &[u8], out: &mut [u8]) -> u32
+    ensures { λ r. ⌜ (r ≡ status (mastersOp m (now (root .entry)) (now (out .entry)) .answer)) × (now (out .exit) ∷ [] ≡ mastersOp m (now (root .entry)) (now (out .entry)) .left) ⌝ }
+{
+    let a = seeds::masters(m, root, out);
+    match a {
+        seeds::Answer::Done => 0,
+        seeds::Answer::Refused(k) => refusal::number(k),
+    }
+}
+
+// Opens the tree over m masters with the listed leaves hidden, a u16 each.
+#[no_mangle]
+pub extern "C" fn wv_cover(m: u32, hidden: &[u8], root: &[u8], out: &mut [u8]) -> u32
+    ensures { λ r. ⌜ (r ≡ status (coverOp m (now (hidden .entry)) (now (root .entry)) (now (out .entry)) .answer)) × (now (out .exit) ∷ [] ≡ coverOp m (now (hidden .entry)) (now (root .entry)) (now (out .entry)) .left) ⌝ }
+{
+    let a = seeds::cover(m, hidden, root, out);
     match a {
         seeds::Answer::Done => 0,
         seeds::Answer::Refused(k) => refusal::number(k),

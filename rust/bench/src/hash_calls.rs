@@ -73,10 +73,28 @@ fn of_digests(
     ]
 }
 
+/// The nodes of the masters' tree that a prover hashes: all inner ones, those above
+/// spare leaves alone too.
+fn nodes_grown(m: usize) -> usize {
+    m.next_power_of_two() - 1
+}
+
+/// The nodes of the masters' tree that a check hashes: the inner ones that have an
+/// unhidden leaf and no hidden leaf below them. Spare leaves are neither.
+fn nodes_regrown(hidden: &[bool]) -> usize {
+    let leaves = hidden.len().next_power_of_two();
+    let is_hashed = |k: &usize| {
+        let width = leaves >> k.ilog2();
+        let mut below = hidden.iter().skip(k * width - leaves).take(width);
+        below.len() > 0 && below.all(|hidden| !hidden)
+    };
+    (1..leaves).filter(is_hashed).count()
+}
+
 /// What a prover hashes, each input once.
 pub fn of_prove(sizes: Sizes, counts: Counts, statement: Statement) -> Vec<Hashes> {
     let [m, n] = [counts.m, counts.n].map(|count| count as usize);
-    let masters = [hashes(Shake128, 19, 16, m)];
+    let masters = [hashes(Shake128, 21, 32, nodes_grown(m))];
     let leaves = of_leaves(sizes, m * (n - 1), m * n, m);
     let digests = of_digests(sizes, counts, statement, m);
     [&masters[..], &leaves, &digests].concat()
@@ -86,15 +104,16 @@ pub fn of_prove(sizes: Sizes, counts: Counts, statement: Statement) -> Vec<Hashe
 pub fn of_check(sizes: Sizes, statement: Statement, proof: &[u8]) -> Vec<Hashes> {
     let (counts, h_star) = header(proof).expect("a header");
     let [m, tau, n] = [counts.m, counts.tau, counts.n].map(|count| count as usize);
-    let hidden = hidden_parties(statement, counts, h_star)
-        .into_iter()
-        .flatten();
+    let hidden = hidden_parties(statement, counts, h_star);
+    let chosen: Vec<bool> = hidden.iter().map(Option::is_some).collect();
+    let masters = [hashes(Shake128, 21, 32, nodes_regrown(&chosen))];
+    let hidden = hidden.into_iter().flatten();
     let last_hidden = hidden.filter(|&p| usize::from(p) == n - 1).count();
     // The nodes on the way to a hidden leaf are not known.
     let nodes = m * (n - 1) - tau * n.ilog2() as usize;
     let leaves = of_leaves(sizes, nodes, m * n - tau, m - last_hidden);
     let digests = of_digests(sizes, counts, statement, tau);
-    [&leaves[..], &digests].concat()
+    [&masters[..], &leaves, &digests].concat()
 }
 
 /// The hash calls alone, by OpenSSL or else by the second implementation.
@@ -126,6 +145,7 @@ pub fn call_of(openssl: Option<&OpenSsl>, all: Vec<Hashes>) -> Call<'_> {
 #[cfg(test)]
 mod tests {
     use super::*;
+    use reference::masters::hidden_among;
     use reference::proof::{longest, prove};
 
     /// One AND of two inputs.
@@ -150,14 +170,29 @@ mod tests {
         ]
     }
 
-    /// 4 trees of one node and 8 leaves, of which a check has 3 trees and 7 leaves;
-    /// h_j and h'_j; h, h', h*, the circuit's digest and the challenge.
+    /// The masters' tree of 3 inner nodes, of which a check hashes one; 4 trees of one
+    /// node and 8 leaves, of which a check has 3 trees and 7 leaves; h_j and h'_j; h, h',
+    /// h*, the circuit's digest and the challenge.
     #[test]
     fn calls_of_a_small_proof() {
         let times = |all: &Vec<Hashes>| all.iter().map(|hashes| hashes.times).sum::<usize>();
         let [prover, checker] = small_proof().each_ref().map(times);
-        assert_eq!(prover, 4 + 4 + 3 * 8 + 4 + 4 + 5);
-        assert_eq!(checker, 3 + 3 * 7 + 4 + 1 + 5);
+        assert_eq!(prover, 3 + 4 + 3 * 8 + 4 + 4 + 5);
+        assert_eq!(checker, 1 + 3 + 3 * 7 + 4 + 1 + 5);
+    }
+
+    /// By hand: five masters are nodes 8 to 12 of a tree of eight leaves, and node 7 has
+    /// only spare ones.
+    #[test]
+    fn nodes_that_are_hashed() {
+        assert_eq!(
+            [2, 4, 5, 8, 343, 512].map(nodes_grown),
+            [1, 3, 7, 7, 511, 511]
+        );
+        let of = |leaves: &[usize]| nodes_regrown(&hidden_among(5, leaves));
+        // Nodes 3, 4 and 6; nodes 2, 4 and 5; nodes 3 and 6.
+        assert_eq!([of(&[2]), of(&[4]), of(&[0, 3])], [3, 3, 2]);
+        assert_eq!([of(&[0, 2, 4]), of(&[0, 1, 2, 3, 4])], [0, 0]);
     }
 
     /// The circuit file has 18 bytes. The challenge's input has 72, and those of y

@@ -7,6 +7,7 @@ pub mod bits;
 pub mod bristol;
 pub mod circuit;
 pub mod fips202;
+pub mod masters;
 pub mod mpc;
 pub mod proof;
 pub mod seeds;

@@ -3,6 +3,7 @@
 use crate::bits::rest_is_zero;
 use crate::circuit::{legal, Circuit, Sizes};
 use crate::fips202::sha3_256;
+use crate::masters::{all_masters, opened_masters, opened_nodes, opened_values};
 use crate::mpc::{right_corrections, run_parties, run_shown, Showing};
 use crate::seeds::{self, ChallengeInput, Digest, Value};
 use crate::{u16_at, Refusal};
@@ -63,7 +64,7 @@ pub fn prove(
         return Err(10);
     }
     let instances = all_instances(&circuit, witness, root, counts);
-    let file = written(&instances, statement, counts, h_star(&instances));
+    let file = written(root, &instances, statement, counts, h_star(&instances));
     proof[..file.len()].copy_from_slice(&file);
     Ok(file.len())
 }
@@ -128,10 +129,11 @@ fn lengths_of(statement: Statement, sizes: Sizes) -> Result<(), Refusal> {
     good.then_some(()).ok_or(6)
 }
 
-/// The longest proof for these counts: every chosen instance has corrections.
+/// The room for every proof of these counts: an opened node for each instance that is
+/// not chosen, and corrections in each chosen one.
 pub fn longest(sizes: Sizes, counts: Counts) -> usize {
     let (m, tau) = (counts.m as usize, counts.tau as usize);
-    let not_chosen = stretch_len(sizes, counts.n, None);
+    let not_chosen = VALUE_LEN + stretch_len(sizes, counts.n, None);
     let chosen = stretch_len(sizes, counts.n, Some(0));
     HEADER_LEN + (m - tau) * not_chosen + tau * chosen
 }
@@ -139,7 +141,7 @@ pub fn longest(sizes: Sizes, counts: Counts) -> usize {
 /// The bytes of one instance in the proof, `hidden` its hidden party if chosen.
 pub fn stretch_len(sizes: Sizes, n: u32, hidden: Option<u8>) -> usize {
     let Some(p) = hidden else {
-        return VALUE_LEN + DIGEST_LEN;
+        return DIGEST_LEN;
     };
     let siblings = VALUE_LEN * n.ilog2() as usize;
     let corrections = match u32::from(p) == n - 1 {
@@ -182,21 +184,39 @@ pub fn header(proof: &[u8]) -> Option<(Counts, Digest)> {
     good.then(|| (counts, header[6..].try_into().unwrap()))
 }
 
-/// The part of each instance in the proof, if its length is that of all parts.
-pub fn stretches<'a>(
+/// The chosen instances: their masters are the hidden leaves of the masters' tree.
+fn is_chosen(hidden: &[Option<u8>]) -> Vec<bool> {
+    hidden.iter().map(Option::is_some).collect()
+}
+
+/// The bytes of the opened nodes in the proof.
+pub fn cover_len(hidden: &[Option<u8>]) -> usize {
+    VALUE_LEN * opened_nodes(&is_chosen(hidden)).len()
+}
+
+/// What follows the header of a proof.
+pub struct Parts<'a> {
+    /// The values of the opened nodes, ascending by their numbers.
+    pub cover: &'a [u8],
+    /// The part of each instance.
+    pub stretches: Vec<&'a [u8]>,
+}
+
+/// The parts of the proof, if its length is that of all parts.
+pub fn parts<'a>(
     sizes: Sizes,
     n: u32,
     hidden: &[Option<u8>],
     proof: &'a [u8],
-) -> Option<Vec<&'a [u8]>> {
+) -> Option<Parts<'a>> {
+    let (cover, mut rest) = proof[HEADER_LEN..].split_at_checked(cover_len(hidden))?;
     let mut stretches = vec![];
-    let mut rest = &proof[HEADER_LEN..];
     for &p in hidden {
         let (stretch, after) = rest.split_at_checked(stretch_len(sizes, n, p))?;
         stretches.push(stretch);
         rest = after;
     }
-    rest.is_empty().then_some(stretches)
+    rest.is_empty().then_some(Parts { cover, stretches })
 }
 
 /// Tags 9, 10 and 11: h* over all h_j and all h'_j.
@@ -282,7 +302,7 @@ impl Instance {
     fn stretch(&self, hidden: Option<u8>) -> Vec<u8> {
         let Preprocessing { j, master, .. } = self.preprocessing;
         let Some(p) = hidden.map(usize::from) else {
-            return [&master[..], &self.h_prime()].concat();
+            return self.h_prime().to_vec();
         };
         let n = self.preprocessing.seeds.len();
         let siblings = seeds::tree_opening(j, n, p, master).concat();
@@ -305,9 +325,10 @@ pub fn instances(file: &[u8], witness: &[u8], root: Value, counts: Counts) -> Ve
 }
 
 fn all_instances(circuit: &Circuit, witness: &[u8], root: Value, counts: Counts) -> Vec<Instance> {
-    let n = counts.n as usize;
-    let instances = (0..counts.m as u16).map(|j| {
-        let preprocessing = Preprocessing::of(circuit, j, n, seeds::master(j, root));
+    let (m, n) = (counts.m as usize, counts.n as usize);
+    let masters = (0..).zip(all_masters(m, root));
+    let instances = masters.map(|(j, master)| {
+        let preprocessing = Preprocessing::of(circuit, j, n, master);
         Instance::of(circuit, n, witness, preprocessing)
     });
     instances.collect()
@@ -320,20 +341,23 @@ pub fn h_star(instances: &[Instance]) -> Digest {
     digest_of_all(&h, &h_prime)
 }
 
-/// The proof file with this h*: the header, and what its challenge asks for.
+/// The proof file with this h*: the header, and what its challenge asks for. The
+/// cover is that of the masters of this root.
 pub fn written(
+    root: Value,
     instances: &[Instance],
     statement: Statement,
     counts: Counts,
     h_star: Digest,
 ) -> Vec<u8> {
     let hidden = hidden_parties(statement, counts, h_star);
-    written_answers(instances, counts, h_star, &hidden)
+    written_answers(root, instances, counts, h_star, &hidden)
 }
 
 /// The proof file with this h*: the header, and what a challenge asks for that
 /// hides these parties.
 pub fn written_answers(
+    root: Value,
     instances: &[Instance],
     counts: Counts,
     h_star: Digest,
@@ -343,13 +367,14 @@ pub fn written_answers(
     let mut file = [m as u16, tau as u16].map(u16::to_le_bytes).concat();
     file.extend([n as u8, 0]);
     file.extend(h_star);
+    file.extend(opened_values(&is_chosen(hidden), root).concat());
     for (instance, &p) in instances.iter().zip(hidden) {
         file.extend(instance.stretch(p));
     }
     file
 }
 
-/// What a proof has of one instance.
+/// What a proof has of one instance; the master follows from the opened nodes.
 enum Received<'a> {
     NotChosen { master: Value, h_prime: Digest },
     Chosen(Opened<'a>),
@@ -373,9 +398,18 @@ fn received<'a>(
     hidden: &[Option<u8>],
     proof: &'a [u8],
 ) -> Option<Vec<Received<'a>>> {
-    let stretches = stretches(sizes, n as u32, hidden, proof)?;
-    let parts = stretches.into_iter().zip(hidden);
-    let received = parts.map(|(stretch, &p)| Received::of(sizes, n, p, stretch));
+    let Parts { cover, stretches } = parts(sizes, n as u32, hidden, proof)?;
+    let values = cover.chunks(VALUE_LEN);
+    let values: Vec<Value> = values.map(|value| value.try_into().unwrap()).collect();
+    let masters = opened_masters(&is_chosen(hidden), &values);
+    let each = stretches.into_iter().zip(hidden).zip(masters);
+    let received = each.map(|((stretch, &hidden), master)| match (hidden, master) {
+        (Some(p), _) => Received::Chosen(Opened::of(sizes, n, p.into(), stretch)),
+        (None, master) => Received::NotChosen {
+            master: master.expect("every unhidden leaf follows"),
+            h_prime: stretch.try_into().unwrap(),
+        },
+    });
     Some(received.collect())
 }
 
@@ -387,34 +421,7 @@ struct Checked {
     output: Option<Vec<u8>>,
 }
 
-impl<'a> Received<'a> {
-    /// Takes a stretch of the right length apart.
-    fn of(sizes: Sizes, n: usize, hidden: Option<u8>, mut stretch: &'a [u8]) -> Received<'a> {
-        let mut next = |len| {
-            let (part, rest) = stretch.split_at(len);
-            stretch = rest;
-            part
-        };
-        let Some(p) = hidden.map(usize::from) else {
-            return Received::NotChosen {
-                master: next(VALUE_LEN).try_into().unwrap(),
-                h_prime: next(DIGEST_LEN).try_into().unwrap(),
-            };
-        };
-        let siblings = (0..n.ilog2()).map(|_| next(VALUE_LEN).try_into().unwrap());
-        Received::Chosen(Opened {
-            p,
-            siblings: siblings.collect(),
-            corrections: match p == n - 1 {
-                true => vec![0; sizes.corrections_len()],
-                false => next(sizes.corrections_len()).to_vec(),
-            },
-            com: next(DIGEST_LEN).try_into().unwrap(),
-            masked_inputs: next(sizes.inputs_len()),
-            row: next(sizes.row_len()),
-        })
-    }
-
+impl Received<'_> {
     fn unused_is_zero(&self, sizes: Sizes) -> bool {
         let Received::Chosen(opened) = self else {
             return true;
@@ -439,7 +446,28 @@ impl<'a> Received<'a> {
     }
 }
 
-impl Opened<'_> {
+impl<'a> Opened<'a> {
+    /// Takes a stretch of the right length apart.
+    fn of(sizes: Sizes, n: usize, p: usize, mut stretch: &'a [u8]) -> Opened<'a> {
+        let mut next = |len| {
+            let (part, rest) = stretch.split_at(len);
+            stretch = rest;
+            part
+        };
+        let siblings = (0..n.ilog2()).map(|_| next(VALUE_LEN).try_into().unwrap());
+        Opened {
+            p,
+            siblings: siblings.collect(),
+            corrections: match p == n - 1 {
+                true => vec![0; sizes.corrections_len()],
+                false => next(sizes.corrections_len()).to_vec(),
+            },
+            com: next(DIGEST_LEN).try_into().unwrap(),
+            masked_inputs: next(sizes.inputs_len()),
+            row: next(sizes.row_len()),
+        }
+    }
+
     /// The commitments and tapes of the parties that are opened, com_p and a row
     /// of zeros for p; then the run of the others.
     fn replayed(&self, circuit: &Circuit, j: u16, n: usize) -> Checked {
@@ -526,28 +554,28 @@ mod tests {
         let known = [
             (
                 counts(4, 1, 2),
-                232,
-                "93ac885fb74cac4607e7d39aa2363661b4b230b319c5e6b8262ef4992d15587d",
+                217,
+                "e821c86b35bb2fd53be62abc95cd7b7e248fcc4a86b131c82929f9669ffea9b2",
             ),
             (
                 counts(5, 2, 4),
-                316,
-                "f7d9a722134dd049aa72c7f67f5e3a0b7d43e7c504e553db6061b7002cb24361",
+                315,
+                "bddadd29c354b08d5043733561cfeee8d6d3e9969076e692da5f40ddd441c527",
             ),
             (
                 counts(6, 5, 8),
-                498,
-                "a5a18afe79d3058f7a980f1d6e620f9d2a431f8648158879b2b5ac01543fa417",
+                501,
+                "7f2585b5cd11f1c017c62ad585ebe9f5c411cc36033259ac2a17b3e0cf58d4fc",
             ),
             (
                 counts(20, 7, 16),
-                1355,
-                "d0085da66b27f02fcf5055b57d1cdca79bc34919358047e7eb194369ab09e9eb",
+                1291,
+                "f06c2715c548931824979ac6fbb9582832aeed3225176cae77c5e06f13f25c92",
             ),
             (
                 counts(300, 9, 16),
-                14897,
-                "d7ecd169a634a0ee406264561eb338e7e90d588066dc8f07692c564b5ed6697d",
+                10848,
+                "733570331c92b890472be8512c0854cd7c211504ab4595fb7b8b7fbc324015d7",
             ),
         ];
         for (counts, len, digest) in known {
@@ -567,7 +595,7 @@ mod tests {
             y: &[1],
             message: b"message",
         };
-        for (root, p, len) in [(1, 0, 233), (0, 1, 232)] {
+        for (root, p, len) in [(3, 0, 217), (1, 1, 216)] {
             let proof = proved(statement, &[3], &[root; 16], counts(4, 1, 2), 0).unwrap();
             let (counts, h_star) = header(&proof).unwrap();
             let hidden = hidden_parties(statement, counts, h_star);
@@ -650,15 +678,32 @@ mod tests {
         for (place, byte) in [(0, 1), (1, 2), (2, 0), (2, 5), (4, 3), (4, 32), (5, 1)] {
             assert_eq!(check(FOUR_GIVES_6, &with(place, byte)), Err(11));
         }
-        assert_eq!(check(FOUR_GIVES_6, &proof[..315]), Err(12));
+        assert_eq!(check(FOUR_GIVES_6, &proof[..314]), Err(12));
         // The last stretch but one is of instance 3, which is chosen, with its row
         // at the end: 2 bits of AND gates, 3 of outputs, 3 out of use.
-        let (row, last) = (316 - 48 - 1, 315);
+        let (row, last) = (315 - 32 - 1, 314);
         assert_eq!(check(FOUR_GIVES_6, &turned(&[(row, 0x24)])), Err(7));
         let output = turned(&[(row, 0x04), (last, 0xff)]);
         assert_eq!(check(FOUR_GIVES_6, &output), Err(10));
         assert_eq!(check(FOUR_GIVES_6, &turned(&[(last, 0xff)])), Err(13));
+        let output = turned(&[(row, 0x04), (38, 0xff)]);
+        assert_eq!(check(FOUR_GIVES_6, &output), Err(10));
+        assert_eq!(check(FOUR_GIVES_6, &turned(&[(38, 0xff)])), Err(13));
         assert_eq!(check(FOUR_GIVES_6, &proof), Ok(()));
+    }
+
+    /// Instances 1 and 3 are chosen of five: nodes 3, 8 and 10 are opened, after the
+    /// header and before the stretches.
+    #[test]
+    fn the_cover_of_a_proof() {
+        let proof = proved(FOUR_GIVES_6, &[6], &ROOT, counts(5, 2, 4), 0).unwrap();
+        let (counts, h_star) = header(&proof).unwrap();
+        let hidden = hidden_parties(FOUR_GIVES_6, counts, h_star);
+        assert_eq!(hidden, [None, Some(1), None, Some(3), None]);
+        assert_eq!(opened_nodes(&is_chosen(&hidden)), [3, 8, 10]);
+        let [_, right] = seeds::children(65_535, 1, ROOT);
+        let masters = all_masters(5, ROOT);
+        assert_eq!(proof[38..86], [right, masters[0], masters[2]].concat());
     }
 
     /// A witness for another output: each replay shows it.
@@ -667,7 +712,7 @@ mod tests {
         let counts = counts(5, 2, 4);
         let instances = instances(&FOUR, &[5], ROOT, counts);
         let h_star = h_star(&instances);
-        let proof = written(&instances, FOUR_GIVES_6, counts, h_star);
+        let proof = written(ROOT, &instances, FOUR_GIVES_6, counts, h_star);
         assert_eq!(check(FOUR_GIVES_6, &proof), Err(10));
     }
 }

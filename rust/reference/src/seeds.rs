@@ -146,15 +146,8 @@ fn height(n: usize) -> usize {
     n.ilog2() as usize
 }
 
-/// Tag 5: the master of instance j.
-pub fn master(j: u16, root: Value) -> Value {
-    let mut master = [0; 16];
-    shake128(&[&[5], &j.to_le_bytes()[..], &root].concat(), &mut master);
-    master
-}
-
 /// Tag 2: the values of nodes 2k and 2k + 1.
-fn children(j: u16, k: usize, value: Value) -> [Value; 2] {
+pub(crate) fn children(j: u16, k: usize, value: Value) -> [Value; 2] {
     let (j, k) = (j.to_le_bytes(), (k as u16).to_le_bytes());
     two_values(&[&[2], &j[..], &k, &value].concat())
 }
@@ -168,7 +161,7 @@ fn two_values(input: &[u8]) -> [Value; 2] {
 }
 
 /// The leaves in the subtree of node k, which are nodes of n and above.
-fn subtree_leaves(j: u16, n: usize, k: usize, value: Value) -> Vec<Value> {
+pub(crate) fn subtree_leaves(j: u16, n: usize, k: usize, value: Value) -> Vec<Value> {
     if k >= n {
         return vec![value];
     }
@@ -300,9 +293,7 @@ mod tests {
 
     #[test]
     fn known_tree() {
-        let root = std::array::from_fn(|i| i as u8);
-        let master = master(J, root);
-        assert_eq!(hex(&master), MASTER);
+        let master: Value = unhex(MASTER);
         let mut leaves = [0; 64];
         assert_eq!(expand(J.into(), 4, &master, &mut leaves), Ok(()));
         assert_eq!(hex(&leaves), LEAVES.concat());

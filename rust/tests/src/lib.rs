@@ -5,6 +5,7 @@ pub mod bristol;
 pub mod calls;
 pub mod challenges;
 pub mod circuits;
+pub mod covers;
 pub mod cut_disk;
 pub mod guarded;
 pub mod outcomes;

@@ -6,7 +6,8 @@ use crate::guarded::Guarded;
 use crate::random::Random;
 use reference::bits::oct;
 use reference::circuit::Sizes;
-use reference::proof::{header, hidden_parties, stretches, Statement};
+use reference::proof::{cover_len, header, hidden_parties, parts, Statement};
+use std::ops::Range;
 
 /// One call of prove. The counts are M, tau and n.
 #[derive(Clone, Debug)]
@@ -225,11 +226,16 @@ pub fn compare_check(random: &mut Random, call: &Check) -> Result<(), u32> {
 pub fn places(sizes: Sizes, call: &Check) -> Vec<(Option<u8>, usize, usize)> {
     let hidden = call.hidden();
     let n = u32::from(call.proof[4]);
-    let parts = stretches(sizes, n, &hidden, &call.proof).expect("all parts");
-    let mut start = 38;
-    let places = hidden.into_iter().zip(parts).map(|(p, part)| {
+    let parts = parts(sizes, n, &hidden, &call.proof).expect("all parts");
+    let mut start = 38 + parts.cover.len();
+    let places = hidden.into_iter().zip(parts.stretches).map(|(p, part)| {
         start += part.len();
         (p, start - part.len(), part.len())
     });
     places.collect()
+}
+
+/// The place of the opened nodes in a proof that is in form.
+pub fn cover_place(call: &Check) -> Range<usize> {
+    38..38 + cover_len(&call.hidden())
 }

@@ -9,6 +9,7 @@ use tests::bristol::{adder, comparator, damaged as damaged_text, shown};
 use tests::calls::{damage, Setting, NOT_A_COUNT};
 use tests::challenges::Challenge;
 use tests::circuits::{any_sizes, any_slots, damaged, legal};
+use tests::covers::{Cover, Masters};
 use tests::outcomes::Outcomes;
 use tests::paged::{lend, Edge, Paged};
 use tests::pages::{self, any_draws, any_page, any_root, any_size};
@@ -193,7 +194,7 @@ fn trees_and_challenges() {
     let mut random = Random::new(0x6a4);
     let mut outcomes = Outcomes::default();
     for _ in 0..BUDGET {
-        let call = [expand, open, challenge][random.below(3)];
+        let call = [expand, open, masters, cover, challenge][random.below(5)];
         outcomes.add_answer(&call(&mut random));
     }
     outcomes.expect(&[0, 6, 8, 9], 5);
@@ -245,6 +246,52 @@ fn open(random: &mut Random) -> Result<(), u32> {
     );
     let mut expected = siblings;
     let plain = seeds::open(j, n, p, &master, &mut expected);
+    assert_eq!(answer, plain.map_err(|refusal| refusal.number()));
+    assert_eq!(filled[0], expected);
+    answer
+}
+
+fn masters(random: &mut Random) -> Result<(), u32> {
+    let m = random.pick(&[2, 3, 5, 8, 64, 343, 511, 512, 1, 513]);
+    let (len, out_len) = (near(random, 16), near(random, 16 * m as usize));
+    let call = Masters {
+        m,
+        root: random.bytes(len),
+        out_len,
+    };
+    let out = random.bytes(call.out_len);
+    let (answer, filled) = lend(random, &[&call.root], from_ref(&out), |inputs, mut out| {
+        call.with(inputs[0], out[0])
+    });
+    let mut expected = out;
+    let plain = call.with(&call.root, &mut expected);
+    assert_eq!(answer, plain.map_err(|refusal| refusal.number()));
+    assert_eq!(filled[0], expected);
+    answer
+}
+
+/// Lists that are short and long, with a leaf too large, with a byte too many.
+fn cover(random: &mut Random) -> Result<(), u32> {
+    let m = random.pick(&[2, 3, 5, 8, 64, 343, 511, 512]);
+    let count = random.pick(&[1, 1, 2, m / 2, m, 2 * m, 3 * m]).max(1);
+    let leaves: Vec<usize> = (0..count).map(|_| random.below(m)).collect();
+    let len = near(random, 16);
+    let mut call = Cover::of(m, &leaves, &random.bytes(len));
+    call.out_len = near(random, call.out_len);
+    match random.below(12) {
+        0 => call.m = random.pick(&[0, 1, 513, 65_536 + 5]),
+        1 => call.hidden.truncate(random.below(2)),
+        2 => call.hidden.push(0),
+        3 => drop(call.hidden.pop()),
+        4 => call.hidden[1] = 2,
+        _ => {}
+    }
+    let out = random.bytes(call.out_len);
+    let (answer, filled) = lend(random, &call.inputs(), from_ref(&out), |inputs, mut out| {
+        call.with(inputs.try_into().expect("two inputs"), out[0])
+    });
+    let mut expected = out;
+    let plain = call.with(call.inputs(), &mut expected);
     assert_eq!(answer, plain.map_err(|refusal| refusal.number()));
     assert_eq!(filled[0], expected);
     answer
@@ -316,6 +363,20 @@ fn empty_buffers_are_not_touched() {
             circuit::from_bristol(inputs[0], out[0]).map(|_| ())
         });
         assert_eq!(answer, Err(22));
+        let (answer, _) = lend(&mut random, &[&[]], &[vec![]], |inputs, mut out| {
+            seeds::masters(2, inputs[0], out[0])
+        });
+        assert_eq!(answer, Err(6));
+        let (answer, _) = lend(&mut random, &[&[], &[]], &[vec![]], |inputs, mut out| {
+            seeds::cover(2, inputs[0], inputs[1], out[0])
+        });
+        assert_eq!(answer, Err(9));
+        // All leaves are hidden: nothing is written.
+        let (all, root) = (&[0, 0, 1, 0], &[7; 16]);
+        let (answer, _) = lend(&mut random, &[all, root], &[vec![]], |inputs, mut out| {
+            seeds::cover(2, inputs[0], inputs[1], out[0])
+        });
+        assert_eq!(answer, Ok(()));
         let text = b"0 1\n1 1\n1 1\n";
         let (answer, _) = lend(&mut random, &[text], &[vec![]], |inputs, mut out| {
             circuit::from_bristol(inputs[0], out[0]).map(|_| ())

@@ -26,7 +26,7 @@ const ROOT: usize = 4;
 impl Asked {
     fn any(random: &mut Random) -> Asked {
         let setting = Setting::any(random);
-        let m = random.from_to(2, 6);
+        let m = random.from_to(2, 9);
         let counts = [m, random.from_to(1, m - 1), setting.n as usize].map(|count| count as u32);
         let message_len = random.pick(&[0, 1, 20, 4096]);
         let parts = [

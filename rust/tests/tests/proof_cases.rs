@@ -4,7 +4,7 @@
 
 use reference::circuit::Sizes;
 use tests::calls::NOT_A_COUNT;
-use tests::proofs::{compare_check, compare_prove, longest, places, Check, Prove};
+use tests::proofs::{compare_check, compare_prove, cover_place, longest, places, Check, Prove};
 use tests::random::Random;
 
 /// One AND of two inputs.
@@ -33,7 +33,8 @@ const FIVE_SIZES: Sizes = Sizes {
 const WITNESS: u8 = 0b10110;
 const Y: u8 = 0b111;
 
-/// M is 6, tau 3 and n 4; of the length that is asked for.
+/// M is 6, tau 3 and n 4; the room that is asked for has 16 bytes of an opened node for
+/// each of the 3 instances that are not chosen.
 const COUNTS: [u32; 3] = [6, 3, 4];
 const LONGEST: usize = 38 + 48 * 3 + 3 * (16 * 2 + 1 + 32 + 1 + 1);
 
@@ -62,7 +63,7 @@ fn prove_five() -> Prove {
 }
 
 /// The proof of `prove_five`, with a root that hides a party before the last in
-/// the first chosen instance.
+/// the first chosen instance and opens two nodes or more.
 fn check_five() -> Check {
     let mut call = prove_five();
     for root in 0.. {
@@ -71,11 +72,11 @@ fn check_five() -> Check {
         let mut hidden = places(FIVE_SIZES, &check)
             .into_iter()
             .flat_map(|place| place.0);
-        if hidden.next() < Some(3) {
+        if hidden.next() < Some(3) && cover_place(&check).len() >= 32 {
             return check;
         }
     }
-    unreachable!("one root in four hides the last party");
+    unreachable!("most roots are good");
 }
 
 fn proved(name: &str, call: &Prove, expected: Result<usize, u32>) {
@@ -89,7 +90,7 @@ fn checked(name: &str, call: &Check, expected: Result<(), u32>) {
     assert_eq!(answer, expected, "{name}: {}", call.shown());
 }
 
-/// 233 bytes if party 0 is hidden, 232 if party 1 is.
+/// 217 bytes if party 0 is hidden, 216 if party 1 is; the room is 233 all the same.
 #[test]
 fn m10() {
     let mut times = [0; 2];
@@ -106,7 +107,8 @@ fn m10() {
         let [p] = hidden[..] else {
             panic!("one chosen instance");
         };
-        assert_eq!(proof.len(), [233, 232][usize::from(p)], "root {root}");
+        assert_eq!(proof.len(), [217, 216][usize::from(p)], "root {root}");
+        assert_eq!(cover_place(&check), 38..70, "two opened nodes, root {root}");
         times[usize::from(p)] += 1;
     }
     assert!(times.iter().all(|&times| times > 4), "{times:?}");
@@ -350,6 +352,9 @@ fn faults_of_check() -> Vec<Vec<Fault<Check>>> {
         in_check(12, |call| call.proof.push(0)),
         in_check(12, |call| call.proof.truncate(call.proof.len() - 1)),
         in_check(12, |call| call.proof.truncate(38)),
+        in_check(12, |call| call.proof.truncate(38 + 16)),
+        in_check(12, |call| drop(call.proof.drain(38..54))),
+        in_check(12, |call| drop(call.proof.splice(38..38, [7; 16]))),
     ]);
     faults.extend(faults_of_stretches());
     faults
@@ -386,7 +391,9 @@ fn faults_of_stretches() -> [Vec<Fault<Check>>; 3] {
         vec![
             turn(13, chosen + 33, 1),
             turn(13, not_chosen, 1),
-            turn(13, not_chosen + 16, 1),
+            turn(13, not_chosen + 31, 1),
+            turn(13, 38, 1),
+            turn(13, 38 + 31, 0x80),
         ],
     ]
 }

@@ -2,13 +2,14 @@
 //! they prove: on random circuits, for every n, and for M, tau, messages and
 //! buffers at the ends of their limits and between.
 
+use reference::masters::{hidden_among, opened_nodes};
 use tests::calls::{Setting, COUNTS};
 use tests::circuits::{any_slots, legal, File, AND, XOR};
 use tests::proofs::{compare_check, compare_prove, longest, Prove};
 use tests::random::Random;
 use wivulameno::circuit::sizes;
-use wivulameno::proof::{longest_proof, proof_len, Counts};
-use wivulameno::seeds::{challenge, ChallengeInput};
+use wivulameno::proof::{longest_proof, most_opened, proof_len, Counts};
+use wivulameno::seeds::{challenge, cover, ChallengeInput};
 
 const SETTINGS: usize = 120;
 
@@ -47,8 +48,26 @@ fn compare_lengths(call: &Prove, proof: &[u8]) {
     assert_eq!(drawn, Ok(()));
     let is_last = |instance: &&[u8]| u32::from(instance[2]) == n - 1;
     let hiding_last = chosen.chunks(3).filter(is_last).count() as u32;
-    let len = proof_len(sizes, counts, hiding_last);
+    let opened = compare_opened(call, &chosen, proof);
+    let len = proof_len(sizes, counts, opened, hiding_last);
     assert_eq!(len, Some(proof.len()), "{}", call.shown());
+    assert!(Some(opened) <= most_opened(m, tau), "{}", call.shown());
+}
+
+/// What follows the header is the library's cover of the chosen instances; how many
+/// nodes it has.
+fn compare_opened(call: &Prove, chosen: &[u8], proof: &[u8]) -> u32 {
+    let m = call.counts[0] as usize;
+    let numbers = chosen.chunks(3).map(|instance| &instance[..2]);
+    let leaves = numbers.clone().map(|j| u16::from_le_bytes([j[0], j[1]]));
+    let leaves: Vec<usize> = leaves.map(usize::from).collect();
+    let opened = opened_nodes(&hidden_among(m, &leaves)).len();
+    let mut nodes = vec![0; 16 * opened];
+    let numbers = numbers.collect::<Vec<_>>().concat();
+    let answer = cover(m as u32, &numbers, &call.root, &mut nodes);
+    assert_eq!(answer, Ok(()), "{}", call.shown());
+    assert!(proof[38..].starts_with(&nodes), "{}", call.shown());
+    opened as u32
 }
 
 fn a_small_setting(random: &mut Random, n: u32) -> Setting {
@@ -80,7 +99,7 @@ fn every_n_with_small_m() {
 fn every_n_with_large_m() {
     let mut random = Random::new(72);
     for n in COUNTS {
-        for m in [33, 64, 255, 256, 257, 511, 512] {
+        for m in [33, 63, 64, 65, 255, 256, 257, 343, 511, 512] {
             for tau in some_taus(&mut random, m) {
                 let setting = a_small_setting(&mut random, n);
                 compare(&mut random, &setting, [m, tau], 20);

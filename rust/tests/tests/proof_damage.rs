@@ -6,7 +6,7 @@ use reference::circuit::Sizes;
 use tests::calls::{Setting, COUNTS, NOT_A_COUNT};
 use tests::circuits::damaged;
 use tests::outcomes::Outcomes;
-use tests::proofs::{compare_check, compare_prove, places, Check, Prove};
+use tests::proofs::{compare_check, compare_prove, cover_place, places, Check, Prove};
 use tests::random::Random;
 
 const CIRCUITS: usize = 2_000;
@@ -67,7 +67,7 @@ fn small_proofs(random: &mut Random) -> Vec<Proved> {
 /// what a changed bit in use can lead to.
 fn parts(sizes: Sizes, n: u32, hidden: Option<u8>) -> Vec<(usize, usize, &'static [u32])> {
     let Some(p) = hidden else {
-        return vec![(48, 8 * 48, &[13])];
+        return vec![(32, 8 * 32, &[13])];
     };
     let siblings = 16 * n.ilog2() as usize;
     let corrections = match u32::from(p) == n - 1 {
@@ -90,6 +90,7 @@ fn allowed(proved: &Proved, bit: usize) -> &'static [u32] {
         0..5 => return &[7, 10, 11, 12, 13],
         5 => return &[11],
         6..38 => return &[7, 10, 12, 13],
+        byte if cover_place(&proved.call).contains(&byte) => return &[13],
         _ => {}
     }
     let Setting { sizes, n, .. } = proved.setting;
@@ -176,11 +177,12 @@ fn every_extension() {
     }
 }
 
-/// The header and the stretches, in the order of `places`.
-fn put_together(proof: &[u8], places: &[(Option<u8>, usize, usize)]) -> Vec<u8> {
+/// The header, the opened nodes and the stretches, in the order of `places`.
+fn put_together(call: &Check, places: &[(Option<u8>, usize, usize)]) -> Vec<u8> {
+    let proof = &call.proof;
     let parts = places.iter().map(|&(_, start, len)| &proof[start..][..len]);
     let parts: Vec<&[u8]> = parts.collect();
-    [&proof[..38], &parts.concat()].concat()
+    [&proof[..cover_place(call).end], &parts.concat()].concat()
 }
 
 /// Every two stretches exchanged. Two that are not chosen have no other test
@@ -195,7 +197,7 @@ fn exchanged_stretches() {
             for a in 0..b {
                 let mut exchanged = places.clone();
                 exchanged.swap(a, b);
-                let proof = put_together(&proved.call.proof, &exchanged);
+                let proof = put_together(&proved.call, &exchanged);
                 let answer = compare_check(&mut random, &proved.with(proof));
                 let refusal = answer.expect_err("exchanged");
                 let unchosen = places[a].0.is_none() && places[b].0.is_none();
@@ -229,6 +231,12 @@ fn stretches_of_another_proof() {
         let mut call = one.clone();
         call.proof[..38].copy_from_slice(&other.proof[..38]);
         assert!(compare_check(&mut random, &call).is_err(), "header");
+        for node in cover_place(&one).step_by(16) {
+            let mut call = one.clone();
+            call.proof[node..][..16].copy_from_slice(&other.proof[node..][..16]);
+            let answer = compare_check(&mut random, &call);
+            assert_eq!(answer, Err(13), "a node at {node}");
+        }
     }
 }
 
@@ -338,7 +346,7 @@ fn another_circuit_for_a_large_proof() {
     let mut random = Random::new(93);
     let proofs = large_proofs(&mut random);
     let mut outcomes = Outcomes::default();
-    for proved in proofs.iter().cycle().take(CIRCUITS / 2) {
+    for proved in proofs.iter().cycle().take(CIRCUITS) {
         let call = with_another_circuit(&mut random, proved);
         let answer = compare_check(&mut random, &call);
         let same_file = call.circuit == proved.call.circuit;

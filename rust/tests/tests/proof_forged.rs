@@ -154,8 +154,8 @@ fn any_root(random: &mut Random) -> Value {
 }
 
 /// The proof file that these instances lead to.
-fn written(instances: &[Instance], counts: Counts, statement: Statement) -> Vec<u8> {
-    reference::proof::written(instances, statement, counts, h_star(instances))
+fn written(root: Value, instances: &[Instance], counts: Counts, statement: Statement) -> Vec<u8> {
+    reference::proof::written(root, instances, statement, counts, h_star(instances))
 }
 
 /// Each instance is good or has any fault.
@@ -180,7 +180,7 @@ fn any_faults() {
             message: random.bytes(5),
             proof: vec![],
         };
-        let proof = written(&forged, counts, call.statement());
+        let proof = written(root, &forged, counts, call.statement());
         let call = Check { proof, ..call };
         let hidden = call.hidden();
         let each = faults.iter().zip(&hidden);
@@ -200,9 +200,9 @@ fn no_faults() {
         let setting = Setting::of_sizes(&mut random, [9, 3, 12], n);
         let call = Prove::of(&mut random, &setting, [7, 3], 5);
         let counts = Counts { m: 7, tau: 3, n };
-        let root = call.root[..].try_into().expect("16 bytes");
+        let root: Value = call.root[..].try_into().expect("16 bytes");
         let made = instances(&call.circuit, &call.witness, root, counts);
-        let proof = written(&made, counts, call.statement());
+        let proof = written(root, &made, counts, call.statement());
         assert!(Ok(&proof) == call.by_reference().as_ref(), "n {n}");
     }
 }
@@ -247,7 +247,7 @@ fn guessed_parties() {
                 row[place / 8] ^= 1 << (place % 8);
             }
         }
-        let proof = written(&made, counts, call.statement());
+        let proof = written(root, &made, counts, call.statement());
         let check = call.check(&proof);
         let each = check.hidden().into_iter().zip(guesses);
         let mut met = each.filter_map(|(p, guess)| p.map(|p| usize::from(p) == guess));
@@ -291,7 +291,7 @@ fn repeated_broadcasts() {
             instance.masked_inputs.clone_from(&inputs);
             instance.rows.clone_from(&rows);
         }
-        let check = call.check(&written(&made, counts, call.statement()));
+        let check = call.check(&written(root, &made, counts, call.statement()));
         let chosen = check.hidden();
         let answer = compare_check(&mut random, &check);
         let only_0 = chosen[1..].iter().all(Option::is_none);
@@ -315,7 +315,7 @@ fn another_h_star() {
         for bit in 0..256 {
             let mut turned = h_star(&made);
             turned[bit / 8] ^= 1 << (bit % 8);
-            let proof = reference::proof::written(&made, call.statement(), counts, turned);
+            let proof = reference::proof::written(root, &made, call.statement(), counts, turned);
             let answer = compare_check(&mut random, &call.check(&proof));
             assert_eq!(answer, Err(13), "n {n}, bit {bit}");
         }

@@ -68,6 +68,15 @@ fn trees_challenges_and_shelves() {
         let (mut leaves, mut out) = ([0; 256], [0; 3 * 511]);
         let expanded = wivulameno::seeds::expand(0, 16, &[1; 16], &mut leaves);
         assert_eq!(expanded, Ok(()));
+        let (mut masters, mut nodes) = ([0; 16 * 512], [0; 16 * 256]);
+        let made = wivulameno::seeds::masters(512, &[1; 16], &mut masters);
+        assert_eq!(made, Ok(()));
+        let every_second = std::array::from_fn::<u8, 512, _>(|k| match k % 2 {
+            0 => k as u8,
+            _ => (k / 256) as u8,
+        });
+        let covered = wivulameno::seeds::cover(512, &every_second, &[1; 16], &mut nodes);
+        assert_eq!(covered, Ok(()));
         let input = wivulameno::seeds::ChallengeInput {
             h_star: &[1; 32],
             circuit_digest: &[2; 32],

@@ -109,50 +109,51 @@ fn tapes() {
     assert_eq!(digest(&all), TAPES);
 }
 
-/// Proofs by the library of commit 3c53f4c, the last one whose permutation was not
-/// the five steps: the circuit with its witness and output, M, tau, n, and the digest
-/// of the whole proof. A request that moves the bytes of proofs replaces the digests
-/// and the commit.
+/// The circuit with its witness and output, M, tau, n, and the digest of the whole
+/// proof, in the layout of order 5. The proofs were made by the second implementation,
+/// and once more in Python over its hashlib, with the same digests. A request that
+/// moves the bytes of proofs replaces them; order 13, "16 parties give the same bytes",
+/// leans on them.
 const PROOFS: [(Circuit, [u32; 3], &str); 8] = [
     (
         adder,
         [2, 1, 2],
-        "5d1f0965e7dfdb0f1312e3282e5016666c1794bdc81a7aec231219818078c57c",
+        "1029994ac9fc101b3e0a14dd0af7c978f2e8f7593c443b7a181287bafbb01b3b",
     ),
     (
         adder,
         [40, 13, 4],
-        "f295bfd0b6002ca900c3c319759ebbe321710a6388ce229a053e4aa1656b9f76",
+        "3247d82a856d879647263dcfb79d98d02317ab04512e96eda42fb2c7971895b6",
     ),
     (
         adder,
         [145, 66, 8],
-        "8ad83a615836561b816310087525ccd23928e6ec08257916cc0611c34b827ff1",
+        "35d67e88495d2ab1998992adf99b188624ec7d86096280437a6bfd763da4e2ce",
     ),
     (
         adder,
         [343, 27, 16],
-        "d4fb528b34f0b9de5e5867826421f24ecb470b74c211ad33dbb87b8691b863e0",
+        "420c3eca361e38b960b7845d8f9abd4511d7222ff3636fea22df820f95bb082d",
     ),
     (
         ladder,
         [64, 36, 2],
-        "1ac8c9b9d83fd78e2298e86f9a55538be4c0a4d1fca51b9f212c8b6fcbbbf93c",
+        "a25dce48c228a581bc7957e7e291f21ed550b6f51d826483f5490f0e2cfd0be2",
     ),
     (
         ladder,
         [17, 5, 4],
-        "a830acbb5d6f42aa9978ce8d7457fd56a68862325d767a8cdcbbc190110fb01d",
+        "a6d128dbd7d22acc73b47a0458198328fcaf0604558722eee40fcccc72b92a82",
     ),
     (
         ladder,
         [252, 44, 8],
-        "41d74bef8f8df1b1e7af56a6daf866180c539facf8ea5832bff813d94985feee",
+        "615489a608da676bf34a2e45d10effa02a8a97405bffa706a40dda33f8678260",
     ),
     (
         ladder,
         [47, 17, 16],
-        "e6673c72bdbabb693182ce8690e3c079fbc9f24ab8aeb968f532b02d4144e2a6",
+        "d2866ae8bc15e272300e846761366812d56a58fccd43a16b5b48a78004d5ba4d",
     ),
 ];
 

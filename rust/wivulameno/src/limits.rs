@@ -27,10 +27,10 @@ pub const MAX_INSTANCE_NUMBER: u32 = 65_535;
 /// A message has 0 to so many bytes.
 pub const MAX_MESSAGE: usize = 4096;
 
-/// The bytes of a proof before its instances.
+/// The bytes of a proof before its opened nodes and its instances.
 pub const PROOF_HEADER_LEN: usize = 38;
 
-/// The bytes of the longest proof of all.
+/// Room for every proof.
 pub const MAX_PROOF: usize = {
     let sizes = Sizes {
         inputs: MAX_INPUTS,

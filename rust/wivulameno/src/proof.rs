@@ -6,7 +6,7 @@ mod soundness;
 
 pub use counts::Counts;
 pub(crate) use length::oct;
-pub use length::{longest_proof, proof_len};
+pub use length::{longest_proof, most_opened, proof_len};
 
 use crate::{answer, Refusal};
 

@@ -22,7 +22,8 @@ pub enum Refusal {
     UnusedBits = 7,
     /// M, tau or n is not allowed.
     Counts = 8,
-    /// There is no such party, or the cut is behind the last gate.
+    /// There is no such party or leaf, no leaf is hidden, or the cut is behind the last
+    /// gate.
     Party = 9,
     /// The output is not the claimed one.
     Output = 10,
@@ -125,7 +126,9 @@ impl Refusal {
             Refusal::Length => "an input or a buffer does not have the length that is asked for",
             Refusal::UnusedBits => "a bit that must be zero is not",
             Refusal::Counts => "the number of instances, of chosen ones or of parties is not allowed",
-            Refusal::Party => "there is no such party, or the cut is behind the last gate",
+            Refusal::Party => {
+                "there is no such party or leaf, no leaf is hidden, or the cut is behind the last gate"
+            }
             Refusal::Output => "the output is not the claimed one",
             Refusal::ProofHeader => "the proof does not begin with a proof's header",
             Refusal::ProofLength => "the proof's length is not what its challenge asks for",

@@ -21,6 +21,22 @@ extern "C" {
         siblings: *mut u8,
         siblings_len: usize,
     ) -> u32;
+    fn wv_masters(
+        m: u32,
+        root: *const u8,
+        root_len: usize,
+        masters: *mut u8,
+        masters_len: usize,
+    ) -> u32;
+    fn wv_cover(
+        m: u32,
+        hidden: *const u8,
+        hidden_len: usize,
+        root: *const u8,
+        root_len: usize,
+        nodes: *mut u8,
+        nodes_len: usize,
+    ) -> u32;
     fn wv_challenge(
         m: u32,
         tau: u32,
@@ -41,6 +57,9 @@ extern "C" {
 /// Fills `leaves` with the n leaves of the tree of `master`, 16 bytes each, for
 /// the instance j, 0 to
 /// [`MAX_INSTANCE_NUMBER`](crate::limits::MAX_INSTANCE_NUMBER). Refuses with 8, 6.
+///
+/// Never use 65,535 for an instance: it is the number of the tree over the masters,
+/// and over a root it gives the [`masters`] of n instances.
 pub fn expand(j: u32, n: u32, master: &[u8], leaves: &mut [u8]) -> Result<(), Refusal> {
     // SAFETY: both slices are valid for their lengths and do not overlap.
     answer(unsafe {
@@ -68,6 +87,47 @@ pub fn open(j: u32, n: u32, p: u32, master: &[u8], siblings: &mut [u8]) -> Resul
             master.len(),
             siblings.as_mut_ptr(),
             siblings.len(),
+        )
+    })
+}
+
+/// Fills `masters` with the masters of the instances 0 to M - 1, 16 bytes each. They
+/// are the first M leaves of one tree over the root, whose leaves are the least power
+/// of two that is at least M. Refuses with 8 for M, 6 for a root that is not of 16
+/// bytes or `masters` that are not of 16 M.
+pub fn masters(m: u32, root: &[u8], masters: &mut [u8]) -> Result<(), Refusal> {
+    // SAFETY: both slices are valid for their lengths and do not overlap.
+    answer(unsafe {
+        wv_masters(
+            m,
+            root.as_ptr(),
+            root.len(),
+            masters.as_mut_ptr(),
+            masters.len(),
+        )
+    })
+}
+
+/// Fills `nodes` with the opening of all masters but the hidden ones: the values of
+/// the fewest nodes of the masters' tree from which all others follow and no hidden
+/// one does, 16 bytes each, ascending by the nodes' numbers. `hidden` is a list of
+/// leaves below M, two bytes each, the lower first, in any order; a leaf may be there
+/// more than once. If all are hidden, no node is opened.
+///
+/// Refuses with 8 for M, 9 for a list without a leaf or with one that is not below M,
+/// 6 for a root that is not of 16 bytes, `nodes` that are not of 16 for each opened
+/// node, or a list of an odd number of bytes.
+pub fn cover(m: u32, hidden: &[u8], root: &[u8], nodes: &mut [u8]) -> Result<(), Refusal> {
+    // SAFETY: the slices are valid for their lengths and `nodes` overlaps no other.
+    answer(unsafe {
+        wv_cover(
+            m,
+            hidden.as_ptr(),
+            hidden.len(),
+            root.as_ptr(),
+            root.len(),
+            nodes.as_mut_ptr(),
+            nodes.len(),
         )
     })
 }

@@ -3,8 +3,9 @@
 
 use wivulameno::circuit::{read, sizes, Sizes};
 use wivulameno::limits::*;
-use wivulameno::proof::{check, longest_proof, proof_len, prove, Counts, Statement};
-use wivulameno::seeds::{challenge, expand, ChallengeInput};
+use wivulameno::proof::{check, longest_proof, most_opened, proof_len, prove};
+use wivulameno::proof::{Counts, Statement};
+use wivulameno::seeds::{challenge, cover, expand, masters, ChallengeInput};
 use wivulameno::{sha3_256, shelf, Refusal};
 
 /// A circuit whose gates are INV, one after the other from wire 0; all outputs
@@ -52,6 +53,21 @@ fn of_trees() {
     assert_eq!(expand(MAX_INSTANCE_NUMBER, MAX_PARTIES), Ok(()));
     assert_eq!(expand(MAX_INSTANCE_NUMBER + 1, 2), Err(Refusal::Counts));
     assert_eq!(expand(0, 2 * MAX_PARTIES), Err(Refusal::Counts));
+    let masters = |m: u32| masters(m, &[1; ROOT_LEN], &mut vec![0; m as usize * ROOT_LEN]);
+    assert_eq!(masters(MAX_INSTANCES), Ok(()));
+    assert_eq!(masters(2), Ok(()));
+    assert_eq!(masters(MAX_INSTANCES + 1), Err(Refusal::Counts));
+    assert_eq!(masters(1), Err(Refusal::Counts));
+    // The last leaf is alone in its half of the tree: one node is opened, the other half.
+    let last = |m: u32, leaf: u32| {
+        let leaf = (leaf as u16).to_le_bytes();
+        cover(m, &leaf, &[1; ROOT_LEN], &mut [0; ROOT_LEN])
+    };
+    assert_eq!(last(2, 1), Ok(()));
+    assert_eq!(last(2, 2), Err(Refusal::Party));
+    assert_eq!(last(MAX_INSTANCES / 2 + 1, MAX_INSTANCES / 2), Ok(()));
+    assert_eq!(last(MAX_INSTANCES, MAX_INSTANCES), Err(Refusal::Party));
+    assert_eq!(last(MAX_INSTANCES + 1, 0), Err(Refusal::Counts));
 }
 
 /// `Counts::are_legal` says what the library says.
@@ -124,8 +140,8 @@ fn of_messages() {
     assert_eq!(prove(&[7; MAX_MESSAGE + 1]), Err(Refusal::Length));
 }
 
-/// How many chosen instances of a proof hide the last party.
-fn hiding_last(proof: &[u8], Counts { m, tau, n }: Counts, statement: Statement) -> u32 {
+/// The chosen instances of a proof, as the challenge is filled: 3 bytes each.
+fn chosen(proof: &[u8], Counts { m, tau, n }: Counts, statement: Statement) -> Vec<u8> {
     let mut chosen = vec![0; 3 * tau as usize];
     let input = ChallengeInput {
         h_star: &proof[PROOF_HEADER_LEN - DIGEST_LEN..PROOF_HEADER_LEN],
@@ -134,8 +150,20 @@ fn hiding_last(proof: &[u8], Counts { m, tau, n }: Counts, statement: Statement)
         message: statement.message,
     };
     challenge(m, tau, n, input, &mut chosen).expect("no refusal");
-    let is_last = |instance: &&[u8]| u32::from(instance[2]) == n - 1;
-    chosen.chunks(3).filter(is_last).count() as u32
+    chosen
+}
+
+/// How many nodes the cover of these instances has: the one number that is accepted.
+fn opened(m: u32, chosen: &[u8]) -> u32 {
+    let leaves = chosen.chunks(3).map(|instance| &instance[..2]);
+    let leaves = leaves.collect::<Vec<_>>().concat();
+    let accepted = |nodes: &u32| {
+        let mut out = vec![0; *nodes as usize * ROOT_LEN];
+        cover(m, &leaves, &[1; ROOT_LEN], &mut out).is_ok()
+    };
+    let found: Vec<u32> = (0..=m).filter(accepted).collect();
+    assert_eq!(found.len(), 1, "{found:?}");
+    found[0]
 }
 
 #[test]
@@ -153,8 +181,13 @@ fn lengths_of_proofs() {
             proof.truncate(len);
             assert_eq!(check(k(&message), &proof), Ok(()));
             assert_eq!(Counts::of_proof(&proof), Some(counts));
-            let last = hiding_last(&proof, counts, k(&message));
-            assert_eq!(proof_len(sizes, counts, last), Some(len), "{counts:?}");
+            let chosen = chosen(&proof, counts, k(&message));
+            let is_last = |instance: &&[u8]| u32::from(instance[2]) == n - 1;
+            let last = chosen.chunks(3).filter(is_last).count() as u32;
+            let opened = opened(m, &chosen);
+            assert!(Some(opened) <= most_opened(m, tau), "{counts:?}");
+            let expected = proof_len(sizes, counts, opened, last);
+            assert_eq!(expected, Some(len), "{counts:?}");
         }
     }
 }

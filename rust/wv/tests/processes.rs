@@ -269,14 +269,14 @@ fn after_kill(folder: &Folder, proofs: &mut Vec<Vec<u8>>) {
     }
 }
 
-/// The length of a proof of K with M = 4, tau = 2, n = 2 by the paper's rule:
-/// 38 + 48 · 2 and, for each chosen one, 16 + oct(A) + 32 + oct(I) + oct(A + O),
-/// without oct(A) where the last party is hidden. Its own length, if it is one of
-/// these.
+/// The length of a proof of K with M = 4, tau = 2, n = 2 by the paper's rule: 38, one
+/// opened node of 16 or two, 32 · 2 and, for each chosen one, 16 + oct(A) + 32 +
+/// oct(I) + oct(A + O), without oct(A) where the last party is hidden. Its own length,
+/// if it is one of these.
 fn bytes_of_proof(proof: &[u8]) -> usize {
-    let longest = 38 + 48 * 2 + 2 * (16 + 1 + 32 + 1 + 1);
-    match proof.len() {
-        len if len <= longest && len + 2 >= longest => len,
+    let longest: usize = 38 + 32 + 32 * 2 + 2 * (16 + 1 + 32 + 1 + 1);
+    match longest.checked_sub(proof.len()) {
+        Some(0..=2 | 16..=18) => proof.len(),
         _ => longest,
     }
 }

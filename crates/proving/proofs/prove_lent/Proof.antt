@@ -1,7 +1,7 @@
 -- `proving::prove_lent` meets its contract.
 -- Assumes nothing.
 use mathlib.Core.Path.{refl}
-use Rattle.proving.proofs.Provings.{prove-counts, prove-few, prove-tree, prove-length, prove-unused, prove-witness, prove-tested, prove-output, prove-done}
+use Rattle.proving.proofs.Provings.{prove-counts, prove-few, prove-tree, prove-length, prove-unused, prove-witness, prove-tested, prove-root, prove-output, prove-done}
 use Rattle.proving.proofs.prove_lent.Statement.{statement}
 use Rattle.proving.proofs.prove_lent.Tie as tie
 
@@ -63,12 +63,15 @@ prove-with-requires c κs =
       p .1,
       (
         prove-tree _ _ _ _ _ (p .1) (x .witness .now) (x .y .now) (x .message .now) (x .root .now) (x .buffer .now) _ _ _ _ (c .before .before .before .before .before .before .before .before .before .before .before .before .before .height .ensures) _ _ (c .before .before .before .before .before .before .before .before .before .before .before .before .counts .ensures) (c .before .before .before .before .before .before .before .before .before .before .before .both .ensures) (c .before .before .before .before .before .before .before .before .before .before .if1 .left),
-        prove-tested _ _ _ _ _ (p .1) (x .witness .now) (x .y .now) (x .message .now) (x .root .now) (x .buffer .now) _ _ _ _ (c .before .before .before .before .before .before .before .before .before .before .before .before .before .height .ensures) _ _ (c .before .before .before .before .before .before .before .before .before .before .before .before .counts .ensures) (c .before .before .before .before .before .before .before .before .before .before .before .both .ensures) (c .before .before .before .before .before .before .before .before .before .before .if1 .left) _ (c .before .before .before .before .before .before .before .before .lengths .ensures) (c .before .before .before .before .before .before .before .if2 .left) _ _ _ (c .before .before .before .before .before .before .unused-zero .ensures) (c .before .before .before .before .before .unused-zero2 .ensures) (c .before .before .before .before .both2 .ensures) (c .before .before .before .if3 .left) (p .0),
+        (
+          prove-tested _ _ _ _ _ (p .1) (x .witness .now) (x .y .now) (x .message .now) (x .root .now) (x .buffer .now) _ _ _ _ (c .before .before .before .before .before .before .before .before .before .before .before .before .before .height .ensures) _ _ (c .before .before .before .before .before .before .before .before .before .before .before .before .counts .ensures) (c .before .before .before .before .before .before .before .before .before .before .before .both .ensures) (c .before .before .before .before .before .before .before .before .before .before .if1 .left) _ (c .before .before .before .before .before .before .before .before .lengths .ensures) (c .before .before .before .before .before .before .before .if2 .left) _ _ _ (c .before .before .before .before .before .before .unused-zero .ensures) (c .before .before .before .before .before .unused-zero2 .ensures) (c .before .before .before .before .both2 .ensures) (c .before .before .before .if3 .left) (p .0),
+          prove-root _ _ _ _ _ (p .1) (x .witness .now) (x .y .now) (x .message .now) (x .root .now) (x .buffer .now) _ _ _ _ (c .before .before .before .before .before .before .before .before .before .before .before .before .before .height .ensures) _ _ (c .before .before .before .before .before .before .before .before .before .before .before .before .counts .ensures) (c .before .before .before .before .before .before .before .before .before .before .before .both .ensures) (c .before .before .before .before .before .before .before .before .before .before .if1 .left) _ (c .before .before .before .before .before .before .before .before .lengths .ensures) (c .before .before .before .before .before .before .before .if2 .left) _ _ _ (c .before .before .before .before .before .before .unused-zero .ensures) (c .before .before .before .before .before .unused-zero2 .ensures) (c .before .before .before .before .both2 .ensures) (c .before .before .before .if3 .left),
+        ),
       ),
     )
 
 same-length-4 : tie.Need-same-length-4
-same-length-4 c = c .before .before .prove-with .kept .1 .1 .1 .1 .1 .1 .1 .1 .1 .1 .0
+same-length-4 c = c .before .before .prove-with .kept .1 .1 .1 .1 .1 .1 .1 .0
 
 returns-5 : tie.Need-returns-5
 returns-5 c =

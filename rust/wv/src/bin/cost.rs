@@ -74,7 +74,7 @@ mod measuring {
     use std::time::Instant;
     use wivulameno::circuit::evaluate;
     use wivulameno::proof::{check, prove, Counts, Statement};
-    use wv::cost::{data_head, longest, Measured, FAMILIES};
+    use wv::cost::{data_head, room, Measured, FAMILIES};
 
     const ROUNDS: usize = 20;
 
@@ -107,7 +107,7 @@ mod measuring {
             y: &y,
             message: b"order 4711",
         };
-        let mut proof = vec![0; longest(sizes, counts)];
+        let mut proof = vec![0; room(sizes, counts)];
         let mut bytes = 0;
         let prove_time = best(|| {
             let made = prove(statement, &witness, &[0x5a; 16], counts, &mut proof);

@@ -136,7 +136,7 @@ mod proof {
     use std::time::Instant;
     use wivulameno::circuit::sizes;
     use wivulameno::proof::{check, prove, Counts, Statement};
-    use wv::cost::{bits_shown, longest, USUAL};
+    use wv::cost::{bits_shown, room, USUAL};
 
     const MESSAGE: &[u8] = b"order 4711 of 15 November";
 
@@ -148,7 +148,7 @@ mod proof {
         };
         let Counts { m, tau, n } = USUAL;
         println!("The proof, with M {m}, tau {tau}, n {n}.");
-        let mut proof = vec![0; longest(sizes(&example.circuit)?, USUAL)];
+        let mut proof = vec![0; room(sizes(&example.circuit)?, USUAL)];
         let start = Instant::now();
         let len = prove(statement, &example.witness, root, USUAL, &mut proof)?;
         println!("  made in {}", milliseconds(start));

@@ -1,43 +1,24 @@
 -- `checking::verifying::check_instance` meets its contract.
 -- Assumes nothing.
 use borrow.Author.Needs.{needs}
-use mathlib.Core.Path.{sym}
 use native.Mathlib.Omega.{arith}
 use Rattle.circuit.specs.File.{circuitOf}
-use Rattle.checking.proofs.Verified.{open-size, open-master, open-online, open-answer, hidden-size, hidden-unused, hidden-answer}
+use Rattle.checking.proofs.Verified.{open-online, open-answer, hidden-size, hidden-unused, hidden-answer}
 use Rattle.checking.proofs.verifying.check_instance.Statement.{statement}
 use Rattle.checking.proofs.verifying.check_instance.Tie as tie
 
-slice-aggregate-reopen : tie.Need-slice-aggregate-reopen
-slice-aggregate-reopen c =
-    let x = c .before .before .before .before .before .before .before .args in
-    sym (open-master (circuitOf (x .s .now)) (x .inst .parties) (x .inst .number) (x .p) (x .y .now) (x .part .now) (c .before .if1 .taken) (c .before .before .before .before .before .before .before .pre .1 .1 .0))
-
 reopen-requires : tie.Need-reopen-requires
 reopen-requires c κs =
-    let x = c .before .before .before .before .before .before .before .before .before .args in
-    (c .before .before .before .before .before .before .before .before .before .pre .0, open-master (circuitOf (x .s .now)) (x .inst .parties) (x .inst .number) (x .p) (x .y .now) (x .part .now) (c .before .before .before .if1 .taken) (c .before .before .before .before .before .before .before .before .before .pre .1 .1 .0))
-
-sub-copy : tie.Need-sub-copy
-sub-copy c =
-    let x = c .before .before .before .before .before .before .before .before .before .before .before .before .before .before .args in
-    omega (arith, open-size (circuitOf (x .s .now)) (x .inst .parties) (x .inst .number) (x .p) (x .y .now) (x .part .now) (c .before .before .before .before .before .before .before .before .if1 .taken) (c .before .before .before .before .before .before .before .before .before .before .before .before .before .before .pre .1 .1 .0))
-
-part-copy-start : tie.Need-part-copy-start
-part-copy-start c =
-    let x = c .before .before .before .before .before .before .before .before .before .before .before .before .before .before .args in
-    omega (arith, open-size (circuitOf (x .s .now)) (x .inst .parties) (x .inst .number) (x .p) (x .y .now) (x .part .now) (c .before .before .before .before .before .before .before .before .if1 .taken) (c .before .before .before .before .before .before .before .before .before .before .before .before .before .before .pre .1 .1 .0))
-
-part-copy-end : tie.Need-part-copy-end
-part-copy-end c = search needs
+    let q = c .before .before .before .before .before .before .before .before .before .pre in
+    (q .0, q .1 .1 .0)
 
 slice-aggregate-copy : tie.Need-slice-aggregate-copy
 slice-aggregate-copy c = search needs
 
 copy-requires : tie.Need-copy-requires
 copy-requires c κs =
-    let x = c .before .before .before .before .before .before .before .before .before .before .before .before .before .before .before .before .args in
-    open-online (circuitOf (x .s .now)) (x .inst .parties) (x .inst .number) (x .p) (x .y .now) (x .part .now) (c .before .before .before .before .before .before .before .before .before .before .if1 .taken) (c .before .before .before .before .before .before .before .before .before .before .before .before .before .before .before .before .pre .1 .1 .0)
+    let x = c .before .before .before .before .before .before .before .before .before .before .before .before .before .before .before .args in
+    open-online (circuitOf (x .s .now)) (x .inst .parties) (x .inst .number) (x .p) (x .y .now) (x .master .now) (x .part .now) (c .before .before .before .before .before .before .before .before .if1 .taken) (c .before .before .before .before .before .before .before .before .before .before .before .before .before .before .before .pre .1 .1 .1 .0)
 
 same-length : tie.Need-same-length
 same-length c = search needs
@@ -47,15 +28,15 @@ same-length-2 c = search needs
 
 returns : tie.Need-returns
 returns c =
-    let x = c .before .before .before .before .before .before .before .before .before .before .before .before .before .before .before .before .before .before .args in
-    open-answer (circuitOf (x .s .now)) (x .inst .parties) (x .inst .number) (x .p) (x .y .now) (x .part .now) (c .before .before .before .before .before .before .before .before .before .before .before .before .if1 .taken) (c .before .before .before .before .before .before .before .before .reopen .result) (c .before .copy .last .1 .0)
-    (c .before .before .before .before .before .before .before .before .reopen .ensures .0) (c .before .copy .ensures)
+    let x = c .before .before .before .before .before .before .before .before .before .before .before .before .before .before .before .before .before .args in
+    open-answer (circuitOf (x .s .now)) (x .inst .parties) (x .inst .number) (x .p) (x .y .now) (x .master .now) (x .part .now) (c .before .before .before .before .before .before .before .before .before .before .if1 .taken) (c .before .before .before .before .before .before .before .reopen .result) (c .before .copy .last .1 .0)
+    (c .before .before .before .before .before .before .before .reopen .ensures .0) (c .before .copy .ensures)
 
 replay-requires : tie.Need-replay-requires
 replay-requires c κs =
-    let x = c .before .before .before .before .before .before .before .before .args in
-    let q = c .before .before .before .before .before .before .before .before .pre in
-    (q .0, (omega (arith, q .1 .0, c .before .before .if1 .left), (hidden-size (circuitOf (x .s .now)) (x .inst .parties) (x .inst .number) (x .p) (x .y .now) (x .part .now) (c .before .before .if1 .left) (q .1 .1 .0), hidden-unused (circuitOf (x .s .now)) (x .inst .parties) (x .inst .number) (x .p) (x .y .now) (x .part .now) (c .before .before .if1 .left) (q .1 .1 .1))))
+    let x = c .before .before .before .before .before .before .before .before .before .args in
+    let q = c .before .before .before .before .before .before .before .before .before .pre in
+    (q .0, (omega (arith, q .1 .0, c .before .before .if1 .left), (hidden-size (circuitOf (x .s .now)) (x .inst .parties) (x .inst .number) (x .p) (x .y .now) (x .master .now) (x .part .now) (c .before .before .if1 .left) (q .1 .1 .1 .0), hidden-unused (circuitOf (x .s .now)) (x .inst .parties) (x .inst .number) (x .p) (x .y .now) (x .master .now) (x .part .now) (c .before .before .if1 .left) (q .1 .1 .1 .1))))
 
 same-length-3 : tie.Need-same-length-3
 same-length-3 c = search needs
@@ -65,20 +46,16 @@ same-length-4 c = search needs
 
 returns-2 : tie.Need-returns-2
 returns-2 c =
-    let x = c .before .before .before .before .before .before .before .before .before .before .before .before .before .args in
+    let x = c .before .before .before .before .before .before .before .before .before .before .before .before .before .before .args in
     let r = c .before .before .before .before .replay .result in
-    hidden-answer (circuitOf (x .s .now)) (x .inst .parties) (x .inst .number) (x .p) (x .y .now) (x .part .now) (c .before .before .before .before .before .before .before .if1 .left) (r .agrees) (r .commitments) (r .online)
+    hidden-answer (circuitOf (x .s .now)) (x .inst .parties) (x .inst .number) (x .p) (x .y .now) (x .master .now) (x .part .now) (c .before .before .before .before .before .before .before .if1 .left) (r .agrees) (r .commitments) (r .online)
     (c .before .before .before .before .replay .ensures .0)
 
 pub check-instance-spec : {M : Type 1} → statement M
 check-instance-spec =
     tie.close
     (tie.spec
-    slice-aggregate-reopen
     reopen-requires
-    sub-copy
-    part-copy-start
-    part-copy-end
     slice-aggregate-copy
     copy-requires
     same-length

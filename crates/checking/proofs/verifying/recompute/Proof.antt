@@ -10,27 +10,28 @@ use Rattle.bits.specs.Bits.{tabulate}
 use Rattle.circuit.specs.File.{circuitOf}
 use Rattle.hashing.specs.Inputs.{allCommitmentsInput, allOnlineInput}
 use Rattle.hashing.specs.Steps.{taken}
-use Rattle.instance.specs.Opened.{stretchCommitments, stretchOnline, stretchOutput}
+use Rattle.instance.specs.Opened.{stretchOnline, stretchOutput}
 use Rattle.proof.specs.Steps.{askOf, asksIn}
-use Rattle.proof.specs.File.{stretchStart}
+use Rattle.proof.specs.File.{hides, stretchStart}
 use Rattle.proof.specs.Check.{every}
+use Rattle.proof.proofs.Leaves.{opened-few, length-masterIn}
 use Rattle.proof.proofs.Sizes.{start-none}
-use Rattle.checking.proofs.Verified.{outputAt, commitmentsAt, onlineAt, every-none, every-turn, every-end, turn-inside, turn-place, turn-size, turn-unused, turn-test, turn-digest, sponge-room, digest-length, commitments-none, commitments-turn, online-none, online-turn, hstar-made}
+use Rattle.checking.proofs.Verified.{outputAt, commitmentsAt, onlineAt, every-none, every-turn, every-end, turn-inside, turn-place, turn-size, turn-unused, turn-test, turn-digest, turn-commitments, sponge-room, digest-length, commitments-none, commitments-turn, online-none, online-turn, hstar-made}
 use Rattle.checking.proofs.verifying.recompute.Statement.{statement}
 use Rattle.checking.proofs.verifying.recompute.Tie as tie
 
 abbrev Inv-loop : tie.InvT-loop
-Inv-loop s z m n h choices y proof tapes₀ memory₀ agrees₀ all₀ online₀ at₀ j₀ tapes memory agrees all online at j =
+Inv-loop s z table opened nodes y proof tapes₀ memory₀ m n h agrees₀ all₀ online₀ at₀ j₀ tapes memory agrees all online at j =
     (j ≤ m)
-    × ((at ≡ stretchStart (circuitOf s) n (asksIn n choices) j)
+    × ((at ≡ stretchStart (circuitOf s) m n (asksIn n table) j)
     × ((length tapes ≡ length tapes₀)
     × ((length memory ≡ length memory₀)
-    × ((agrees ≡ every j (outputAt (circuitOf s) n (asksIn n choices) proof y))
-    × ((all ≡ taken (allCommitmentsInput (flatten (tabulate j (commitmentsAt (circuitOf s) n (asksIn n choices) proof)))))
-    × (online ≡ taken (allOnlineInput (flatten (tabulate j (onlineAt (circuitOf s) n (asksIn n choices) proof))))))))))
+    × ((agrees ≡ every j (outputAt (circuitOf s) m n (asksIn n table) proof y))
+    × ((all ≡ taken (allCommitmentsInput (flatten (tabulate j (commitmentsAt (circuitOf s) m n (asksIn n table) proof)))))
+    × (online ≡ taken (allOnlineInput (flatten (tabulate j (onlineAt (circuitOf s) m n (asksIn n table) proof))))))))))
 
 abbrev μ-loop : tie.MeasureT-loop
-μ-loop s z m n h choices y proof tapes₀ memory₀ agrees₀ all₀ online₀ at₀ j₀ tapes memory agrees all online at j =
+μ-loop s z table opened nodes y proof tapes₀ memory₀ m n h agrees₀ all₀ online₀ at₀ j₀ tapes memory agrees all online at j =
     m - j
 
 start-all-commitments-requires : tie.Need-start-all-commitments-requires Inv-loop μ-loop
@@ -39,26 +40,38 @@ start-all-commitments-requires c κs = tt
 start-all-online-requires : tie.Need-start-all-online-requires Inv-loop μ-loop
 start-all-online-requires c κs = tt
 
+add-at : tie.Need-add-at Inv-loop μ-loop
+add-at c =
+    let x = c .before .before .before .before .before .before .before .before .before .args in
+    let q = c .before .before .before .before .before .before .before .before .before .pre in
+    omega (arith, q .1 .1 .1 .0, opened-few (x .k .instances) (q .1 .0 .few) (hides (asksIn (x .k .parties) (x .table .now))))
+
 loop-holds : tie.Need-loop-holds Inv-loop μ-loop
 loop-holds c =
-    let x = c .before .before .before .before .before .before .before .before .args in
-    let ask = asksIn (x .n) (x .choices .now) in
-    (omega arith, (start-none (circuitOf (x .s .now)) (x .n) ask, (refl, (refl, (every-none (outputAt (circuitOf (x .s .now)) (x .n) ask (x .proof .now) (x .y .now)), (commitments-none (commitmentsAt (circuitOf (x .s .now)) (x .n) ask (x .proof .now)) (c .before .start-all-commitments .result) (c .before .start-all-commitments .ensures), online-none (onlineAt (circuitOf (x .s .now)) (x .n) ask (x .proof .now)) (c .start-all-online .result) (c .start-all-online .ensures)))))))
+    let x = c .before .before .before .before .before .before .before .before .before .args in
+    let k = circuitOf (x .s .now) in
+    let m = x .k .instances in
+    let n = x .k .parties in
+    let ask = asksIn n (x .table .now) in
+    (omega arith, (start-none k m n ask (x .opened) (c .before .before .before .before .before .before .before .before .before .pre .1 .1 .1 .0), (refl, (refl, (every-none (outputAt k m n ask (x .proof .now) (x .y .now)), (commitments-none (commitmentsAt k m n ask (x .proof .now)) (c .before .start-all-commitments .result) (c .before .start-all-commitments .ensures), online-none (onlineAt k m n ask (x .proof .now)) (c .start-all-online .result) (c .start-all-online .ensures)))))))
 
 asked-requires : tie.Need-asked-requires Inv-loop μ-loop
 asked-requires c κs = tt
 
 stretch-bytes-requires : tie.Need-stretch-bytes-requires Inv-loop μ-loop
 stretch-bytes-requires c κs =
-    let q = c .before .before .before .before .before .before .before .before .before .before .before .pre in
+    let q = c .before .before .before .before .before .before .before .before .before .before .before .before .pre in
     (q .0 .known, (q .0 .tree, omega (arith, c .asked .ensures, q .1 .0 .asking .parties (c .before .before .loop .j))))
 
 add-end : tie.Need-add-end Inv-loop μ-loop
 add-end c =
-    let x = c .before .before .before .before .before .before .before .before .before .before .before .before .args in
+    let x = c .before .before .before .before .before .before .before .before .before .before .before .before .before .args in
     let l = c .before .before .before .loop in
-    let ask = asksIn (x .n) (x .choices .now) in
-    omega (arith, turn-inside (circuitOf (x .s .now)) (x .n) (x .m) ask (x .proof .now) (c .before .before .before .before .before .before .before .before .before .before .before .before .pre .1 .0 .size) (l .j) (l .at) (c .stretch-bytes .result) (askOf (x .n) (c .before .asked .result)) (c .before .before .loop-test .taken) (l .inv .1 .0) (ap (askOf (x .n)) (c .before .asked .ensures)) (c .stretch-bytes .ensures), c .before .before .before .before .before .before .before .before .before .before .before .before .good .1 .1 .1 .1 .1 .1 .1 .0 .0)
+    let n = x .k .parties in
+    omega (arith, turn-inside (circuitOf (x .s .now)) n (x .k .instances) (asksIn n (x .table .now)) (x .proof .now) (c .before .before .before .before .before .before .before .before .before .before .before .before .before .pre .1 .0 .size) (l .j) (l .at) (c .stretch-bytes .result) (askOf n (c .before .asked .result)) (c .before .before .loop-test .taken) (l .inv .1 .0) (ap (askOf n) (c .before .asked .ensures)) (c .stretch-bytes .ensures), c .before .before .before .before .before .before .before .before .before .before .before .before .before .good .1 .1 .1 .1 .1 .1 .1 .0 .0)
+
+master-requires : tie.Need-master-requires Inv-loop μ-loop
+master-requires c κs = omega (arith, c .before .before .before .before .before .before .before .before .before .before .before .before .before .pre .1 .0 .few, c .before .before .loop-test .taken)
 
 sub-check-instance : tie.Need-sub-check-instance Inv-loop μ-loop
 sub-check-instance c = omega arith
@@ -68,17 +81,21 @@ part-check-instance-start c = omega arith
 
 part-check-instance-end : tie.Need-part-check-instance-end Inv-loop μ-loop
 part-check-instance-end c =
-    let x = c .before .before .before .before .before .before .before .before .before .before .before .before .args in
-    let l = c .before .before .before .loop in
-    let ask = asksIn (x .n) (x .choices .now) in
-    turn-inside (circuitOf (x .s .now)) (x .n) (x .m) ask (x .proof .now) (c .before .before .before .before .before .before .before .before .before .before .before .before .pre .1 .0 .size) (l .j) (l .at) (c .stretch-bytes .result) (askOf (x .n) (c .before .asked .result)) (c .before .before .loop-test .taken) (l .inv .1 .0) (ap (askOf (x .n)) (c .before .asked .ensures)) (c .stretch-bytes .ensures)
+    let x = c .before .before .before .before .before .before .before .before .before .before .before .before .before .before .args in
+    let l = c .before .before .before .before .loop in
+    let n = x .k .parties in
+    turn-inside (circuitOf (x .s .now)) n (x .k .instances) (asksIn n (x .table .now)) (x .proof .now) (c .before .before .before .before .before .before .before .before .before .before .before .before .before .before .pre .1 .0 .size) (l .j) (l .at) (c .before .stretch-bytes .result) (askOf n (c .before .before .asked .result)) (c .before .before .before .loop-test .taken) (l .inv .1 .0) (ap (askOf n) (c .before .before .asked .ensures)) (c .before .stretch-bytes .ensures)
 
 check-instance-requires : tie.Need-check-instance-requires Inv-loop μ-loop
 check-instance-requires c κs =
-    let x = c .before .before .before .before .before .before .before .before .before .before .before .before .before .before .before .args in
-    let l = c .before .before .before .before .before .before .loop in
-    let ask = asksIn (x .n) (x .choices .now) in
-    let q = c .before .before .before .before .before .before .before .before .before .before .before .before .before .before .before .pre in (
+    let x = c .before .before .before .before .before .before .before .before .before .before .before .before .before .before .before .before .before .args in
+    let l = c .before .before .before .before .before .before .before .loop in
+    let k = circuitOf (x .s .now) in
+    let m = x .k .instances in
+    let n = x .k .parties in
+    let ask = asksIn n (x .table .now) in
+    let q = c .before .before .before .before .before .before .before .before .before .before .before .before .before .before .before .before .before .pre in
+    let low = c .before .before .before .before .before .before .loop-test .taken in (
       record {
         known = q .0 .known;
         tree = q .0 .tree;
@@ -86,10 +103,13 @@ check-instance-requires c κs =
         room = omega (arith, l .inv .1 .1 .1 .0, q .0 .room);
       },
       (
-        omega (arith, c .before .before .before .before .asked .ensures, q .1 .0 .asking .parties (l .j)),
+        omega (arith, c .before .before .before .before .before .asked .ensures, q .1 .0 .asking .parties (l .j)),
         (
-          turn-size (circuitOf (x .s .now)) (x .n) (x .m) ask (x .proof .now) (c .before .before .before .before .before .before .before .before .before .before .before .before .before .before .before .pre .1 .0 .size) (l .j) (l .at) (c .before .before .before .stretch-bytes .result) (askOf (x .n) (c .before .before .before .before .asked .result)) (c .before .before .before .before .before .loop-test .taken) (l .inv .1 .0) (ap (askOf (x .n)) (c .before .before .before .before .asked .ensures)) (c .before .before .before .stretch-bytes .ensures),
-          turn-unused (circuitOf (x .s .now)) (x .n) (x .m) ask (x .proof .now) (c .before .before .before .before .before .before .before .before .before .before .before .before .before .before .before .pre .1 .0 .size) (l .j) (l .at) (c .before .before .before .stretch-bytes .result) (askOf (x .n) (c .before .before .before .before .asked .result)) (c .before .before .before .before .before .loop-test .taken) (l .inv .1 .0) (ap (askOf (x .n)) (c .before .before .before .before .asked .ensures)) (c .before .before .before .stretch-bytes .ensures) (q .1 .1),
+          ap length (c .before .before .before .master .ensures) ∙ length-masterIn m (x .nodes .now) (q .1 .1 .1 .1 .rows) (l .j) low,
+          (
+            turn-size k n m ask (x .proof .now) (q .1 .0 .size) (l .j) (l .at) (c .before .before .before .before .stretch-bytes .result) (askOf n (c .before .before .before .before .before .asked .result)) low (l .inv .1 .0) (ap (askOf n) (c .before .before .before .before .before .asked .ensures)) (c .before .before .before .before .stretch-bytes .ensures),
+            turn-unused k n m ask (x .proof .now) (q .1 .0 .size) (l .j) (l .at) (c .before .before .before .before .stretch-bytes .result) (askOf n (c .before .before .before .before .before .asked .result)) low (l .inv .1 .0) (ap (askOf n) (c .before .before .before .before .before .asked .ensures)) (c .before .before .before .before .stretch-bytes .ensures) (q .1 .1 .0),
+          ),
         ),
       ),
     )
@@ -98,43 +118,50 @@ both-requires : tie.Need-both-requires Inv-loop μ-loop
 both-requires c κs = tt
 
 absorb-requires : tie.Need-absorb-requires Inv-loop μ-loop
-absorb-requires c κs = (omega arith, (refl, sponge-room _ (c .before .before .before .before .before .before .before .before .before .before .before .before .before .before .before .loop .all) (c .before .before .before .before .before .before .before .before .before .before .before .before .before .before .before .loop .inv .1 .1 .1 .1 .1 .0)))
+absorb-requires c κs = (omega arith, (refl, sponge-room _ (c .before .before .before .before .before .before .before .before .before .before .before .before .before .before .before .before .loop .all) (c .before .before .before .before .before .before .before .before .before .before .before .before .before .before .before .before .loop .inv .1 .1 .1 .1 .1 .0)))
 
 absorb-requires-2 : tie.Need-absorb-requires-2 Inv-loop μ-loop
-absorb-requires-2 c κs = (omega arith, (refl, sponge-room _ (c .before .before .before .before .before .before .before .before .before .before .before .before .before .before .before .before .before .before .before .loop .online) (c .before .before .before .before .before .before .before .before .before .before .before .before .before .before .before .before .before .before .before .loop .inv .1 .1 .1 .1 .1 .1)))
+absorb-requires-2 c κs = (omega arith, (refl, sponge-room _ (c .before .before .before .before .before .before .before .before .before .before .before .before .before .before .before .before .before .before .before .before .loop .online) (c .before .before .before .before .before .before .before .before .before .before .before .before .before .before .before .before .before .before .before .before .loop .inv .1 .1 .1 .1 .1 .1)))
 
 add-j : tie.Need-add-j Inv-loop μ-loop
-add-j c = omega (arith, c .before .before .before .before .before .before .before .before .before .before .before .before .before .before .before .before .before .before .before .before .before .before .before .before .before .before .before .before .before .fits .m, c .before .before .before .before .before .before .before .before .before .before .before .before .before .before .before .before .before .before .before .loop-test .taken)
+add-j c = omega (arith, c .before .before .before .before .before .before .before .before .before .before .before .before .before .before .before .before .before .before .before .before .before .before .before .before .before .before .before .before .before .before .before .pre .1 .0 .few, c .before .before .before .before .before .before .before .before .before .before .before .before .before .before .before .before .before .before .before .before .loop-test .taken)
 
 loop-less : tie.Need-loop-less Inv-loop μ-loop
-loop-less c = omega (arith, c .before .before .before .before .before .before .before .before .before .before .before .before .before .before .before .before .before .before .before .loop-test .taken)
+loop-less c = omega (arith, c .before .before .before .before .before .before .before .before .before .before .before .before .before .before .before .before .before .before .before .before .loop-test .taken)
 
 loop-again : tie.Need-loop-again Inv-loop μ-loop
 loop-again c =
-    let x = c .before .before .before .before .before .before .before .before .before .before .before .before .before .before .before .before .before .before .before .before .before .before .before .before .before .before .before .before .before .args in
-    let l = c .before .before .before .before .before .before .before .before .before .before .before .before .before .before .before .before .before .before .before .before .loop in
-    let ask = asksIn (x .n) (x .choices .now) in
+    let x = c .before .before .before .before .before .before .before .before .before .before .before .before .before .before .before .before .before .before .before .before .before .before .before .before .before .before .before .before .before .before .before .args in
+    let l = c .before .before .before .before .before .before .before .before .before .before .before .before .before .before .before .before .before .before .before .before .before .loop in
+    let k = circuitOf (x .s .now) in
+    let m = x .k .instances in
+    let n = x .k .parties in
+    let ask = asksIn n (x .table .now) in
+    let q = c .before .before .before .before .before .before .before .before .before .before .before .before .before .before .before .before .before .before .before .before .before .before .before .before .before .before .before .before .before .before .before .pre in
+    let low = c .before .before .before .before .before .before .before .before .before .before .before .before .before .before .before .before .before .before .before .before .loop-test .taken in
+    let b = c .before .before .before .before .before .before .before .before .before .before .before .before .before .before .before .before .before .before .stretch-bytes in
+    let p = c .before .before .before .before .before .before .before .before .before .before .before .before .before .before .before .before .before .before .before .asked in
     let i = l .inv .1 .1 in
-    let r = c .before .before .before .before .before .before .before .before .before .before .before .before .before .check-instance .result in
-    let e = c .before .before .before .before .before .before .before .before .before .before .before .before .before .check-instance .ensures in
-    let digest = turn-digest (circuitOf (x .s .now)) (x .n) (x .m) ask (x .proof .now) (c .before .before .before .before .before .before .before .before .before .before .before .before .before .before .before .before .before .before .before .before .before .before .before .before .before .before .before .before .before .pre .1 .0 .size) (l .j) (l .at) (c .before .before .before .before .before .before .before .before .before .before .before .before .before .before .before .before .before .stretch-bytes .result) (askOf (x .n) (c .before .before .before .before .before .before .before .before .before .before .before .before .before .before .before .before .before .before .asked .result)) (c .before .before .before .before .before .before .before .before .before .before .before .before .before .before .before .before .before .before .before .loop-test .taken) (l .inv .1 .0) (ap (askOf (x .n)) (c .before .before .before .before .before .before .before .before .before .before .before .before .before .before .before .before .before .before .asked .ensures)) (c .before .before .before .before .before .before .before .before .before .before .before .before .before .before .before .before .before .stretch-bytes .ensures) in (
-      omega (arith, c .before .before .before .before .before .before .before .before .before .before .before .before .before .before .before .before .before .before .before .loop-test .taken),
+    let v = c .before .before .before .before .before .before .before .before .before .before .before .before .before .check-instance in
+    let r = v .result in
+    let e = v .ensures in (
+      omega (arith, low),
       (
-        turn-place (circuitOf (x .s .now)) (x .n) (x .m) ask (x .proof .now) (c .before .before .before .before .before .before .before .before .before .before .before .before .before .before .before .before .before .before .before .before .before .before .before .before .before .before .before .before .before .pre .1 .0 .size) (l .j) (l .at) (c .before .before .before .before .before .before .before .before .before .before .before .before .before .before .before .before .before .stretch-bytes .result) (askOf (x .n) (c .before .before .before .before .before .before .before .before .before .before .before .before .before .before .before .before .before .before .asked .result)) (c .before .before .before .before .before .before .before .before .before .before .before .before .before .before .before .before .before .before .before .loop-test .taken) (l .inv .1 .0) (ap (askOf (x .n)) (c .before .before .before .before .before .before .before .before .before .before .before .before .before .before .before .before .before .before .asked .ensures)) (c .before .before .before .before .before .before .before .before .before .before .before .before .before .before .before .before .before .stretch-bytes .ensures),
+        turn-place k n m ask (x .proof .now) (q .1 .0 .size) (l .j) (l .at) (b .result) (askOf n (p .result)) low (l .inv .1 .0) (ap (askOf n) (p .ensures)) (b .ensures),
         (
-          c .before .before .before .before .before .before .before .before .before .before .before .before .before .check-instance .kept .1 .1 .1 .1 .1 .1 .0 ∙ i .0,
+          v .kept .1 .1 .1 .1 .1 .1 .1 .0 ∙ i .0,
           (
-            c .before .before .before .before .before .before .before .before .before .before .before .before .before .check-instance .kept .1 .1 .1 .1 .1 .1 .1 .0 ∙ i .1 .0,
+            v .kept .1 .1 .1 .1 .1 .1 .1 .1 .0 ∙ i .1 .0,
             (
-              every-turn (outputAt (circuitOf (x .s .now)) (x .n) ask (x .proof .now) (x .y .now)) (l .j) (l .agrees) (r .agrees) (c .before .before .before .before .before .before .before .before .both .result) (i .1 .1 .0)
-                  (turn-test (circuitOf (x .s .now)) (x .n) (x .m) ask (x .proof .now) (c .before .before .before .before .before .before .before .before .before .before .before .before .before .before .before .before .before .before .before .before .before .before .before .before .before .before .before .before .before .pre .1 .0 .size) (l .j) (l .at) (c .before .before .before .before .before .before .before .before .before .before .before .before .before .before .before .before .before .stretch-bytes .result) (askOf (x .n) (c .before .before .before .before .before .before .before .before .before .before .before .before .before .before .before .before .before .before .asked .result)) (c .before .before .before .before .before .before .before .before .before .before .before .before .before .before .before .before .before .before .before .loop-test .taken) (l .inv .1 .0) (ap (askOf (x .n)) (c .before .before .before .before .before .before .before .before .before .before .before .before .before .before .before .before .before .before .asked .ensures)) (c .before .before .before .before .before .before .before .before .before .before .before .before .before .before .before .before .before .stretch-bytes .ensures) (stretchOutput (circuitOf (x .s .now)) (x .n) (l .j) (x .y .now)) (r .agrees) (e .0))
+              every-turn (outputAt k m n ask (x .proof .now) (x .y .now)) (l .j) (l .agrees) (r .agrees) (c .before .before .before .before .before .before .before .before .both .result) (i .1 .1 .0)
+                  (turn-test k n m ask (x .proof .now) (q .1 .0 .size) (l .j) (l .at) (b .result) (askOf n (p .result)) low (l .inv .1 .0) (ap (askOf n) (p .ensures)) (b .ensures) (stretchOutput k n (l .j) (x .y .now)) (r .agrees) (e .0))
                   (c .before .before .before .before .before .before .before .before .both .ensures),
               (
-                commitments-turn (commitmentsAt (circuitOf (x .s .now)) (x .n) ask (x .proof .now)) (l .j) (l .all) (c .before .before .before .before .absorb .result) (r .commitments) (i .1 .1 .1 .0)
-                    (digest (stretchCommitments (circuitOf (x .s .now)) (x .n) (l .j)) (r .commitments) (e .1 .0))
+                commitments-turn (commitmentsAt k m n ask (x .proof .now)) (l .j) (l .all) (c .before .before .before .before .absorb .result) (r .commitments) (i .1 .1 .1 .0)
+                    (turn-commitments k n m ask (x .proof .now) (q .1 .0 .size) (l .j) (l .at) (b .result) (askOf n (p .result)) low (l .inv .1 .0) (ap (askOf n) (p .ensures)) (b .ensures) (x .nodes .now) _ (r .commitments) (q .1 .1 .1 .1 .masters) (c .before .before .before .before .before .before .before .before .before .before .before .before .before .before .before .before .before .master .ensures) (e .1 .0))
                     (c .before .before .before .before .absorb .ensures),
-                online-turn (onlineAt (circuitOf (x .s .now)) (x .n) ask (x .proof .now)) (l .j) (l .online) (c .absorb2 .result) (r .online) (i .1 .1 .1 .1)
-                    (digest (stretchOnline (circuitOf (x .s .now)) (x .n) (l .j)) (r .online) (e .1 .1))
+                online-turn (onlineAt k m n ask (x .proof .now)) (l .j) (l .online) (c .absorb2 .result) (r .online) (i .1 .1 .1 .1)
+                    (turn-digest k n m ask (x .proof .now) (q .1 .0 .size) (l .j) (l .at) (b .result) (askOf n (p .result)) low (l .inv .1 .0) (ap (askOf n) (p .ensures)) (b .ensures) (stretchOnline k n (l .j)) (r .online) (e .1 .1))
                     (c .absorb2 .ensures),
               ),
             ),
@@ -166,13 +193,16 @@ same-length-2 c = c .before .before .before .before .before .before .loop .inv .
 
 returns : tie.Need-returns Inv-loop μ-loop
 returns c =
-    let x = c .before .before .before .before .before .before .before .before .before .before .before .before .before .before .before .args in
+    let x = c .before .before .before .before .before .before .before .before .before .before .before .before .before .before .before .before .args in
     let l = c .before .before .before .before .before .before .loop in
+    let k = circuitOf (x .s .now) in
+    let m = x .k .instances in
+    let n = x .k .parties in
     let i = l .inv .1 .1 .1 .1 in
-    let ask = asksIn (x .n) (x .choices .now) in
-    let q : l .j ≡ x .m = omega (arith, l .inv .0, c .before .before .before .before .before .loop-test .left) in (
-      every-end (outputAt (circuitOf (x .s .now)) (x .n) ask (x .proof .now) (x .y .now)) (l .j) (x .m) (l .agrees) q (i .0),
-      hstar-made (circuitOf (x .s .now)) (x .n) ask (x .proof .now) (λ k. c .before .before .before .before .before .before .before .before .before .before .before .shared-slice-known4 .given k .fits) (l .j) (x .m) (l .all) (l .online) (c .before .before .before .before .finish .result)
+    let ask = asksIn n (x .table .now) in
+    let q : l .j ≡ m = omega (arith, l .inv .0, c .before .before .before .before .before .loop-test .left) in (
+      every-end (outputAt k m n ask (x .proof .now) (x .y .now)) (l .j) m (l .agrees) q (i .0),
+      hstar-made k m n ask (x .proof .now) (λ a. c .before .before .before .before .before .before .before .before .before .before .before .shared-slice-known5 .given a .fits) (l .j) m (l .all) (l .online) (c .before .before .before .before .finish .result)
           (c .before .before .finish2 .result) (c .transcript .result) q (i .1 .0) (i .1 .1) (c .before .before .before .before .finish .ensures) (c .before .before .finish2 .ensures) (c .transcript .ensures),
     )
 
@@ -184,10 +214,12 @@ recompute-spec =
     μ-loop
     start-all-commitments-requires
     start-all-online-requires
+    add-at
     loop-holds
     asked-requires
     stretch-bytes-requires
     add-end
+    master-requires
     sub-check-instance
     part-check-instance-start
     part-check-instance-end

@@ -1,104 +1,82 @@
--- `proving::writing::prove_in` meets its contract: the h'_j, the header, and the response over the h'_j.
+-- `proving::writing::prove_in` meets its contract: the rows of the masters' tree are grown from the root.
 -- Assumes nothing.
-use mathlib.Core.Path.{sym, _∙_}
+use mathlib.Core.Path.{sym, ap, _∙_}
+use mathlib.Core.List.{List, _++_}
+use Prim.Native.Nat.{ℕ, suc, _*_, _^_}
 use native.Mathlib.Omega.{arith}
-use borrow.Author.Needs.{needs}
-use Rattle.proving.proofs.Buffers.{head-inside, head-part, head-fits, few-instances, onlines-fit, onlines-part, length-first, first-drawable, asking-right, size-right, size-start, part-inside, response-asks, proof-made, buffer-kept, lent-again}
+use lib.ListN.{length, drop}
+use Rattle.bits.proofs.Copies.{prefix-length}
+use Rattle.circuit.specs.File.{circuitOf}
+use Rattle.cover.specs.Masters.{childOf}
+use Rattle.cover.specs.Steps.{nodesOf}
+use Rattle.seeds.proofs.Instances.{counts-fit}
+use Rattle.instance.proofs.Sent.{front-inside, front-back, front-taken}
+use Rattle.proof.specs.Protocol.{statementOf}
+use Rattle.proof.proofs.Leaves.{masters-low}
+use Rattle.proving.proofs.Trees.{rows-grown, proof-grown}
 use Rattle.proving.proofs.writing.prove_in.Statement.{statement}
 use Rattle.proving.proofs.writing.prove_in.Tie as tie
 
-mul-kept : tie.Need-mul-kept
-mul-kept c = omega (arith, few-instances _ _ _ _ _ _ _ _ _ _ _ (c .before .before .before .before .before .before .before .before .before .pre .1 .0) (c .before .before .before .before .before .before .before .before .before .pre .0 .tree))
+row-count-requires : tie.Need-row-count-requires
+row-count-requires c κs = counts-fit _ _ (c .before .before .before .before .before .before .before .before .pre .1 .0 .counts) .most
 
-add-kept : tie.Need-add-kept
-add-kept c = omega (arith, few-instances _ _ _ _ _ _ _ _ _ _ _ (c .before .before .before .before .before .before .before .before .before .pre .1 .0) (c .before .before .before .before .before .before .before .before .before .pre .0 .tree))
+mul-len : tie.Need-mul-len
+mul-len c = omega (arith, c .row-count .ensures .1)
 
-sub-first : tie.Need-sub-first
-sub-first c = omega arith
+height-requires : tie.Need-height-requires
+height-requires c κs = counts-fit _ _ (c .before .before .before .before .before .before .before .before .before .pre .1 .0 .counts) .most
 
-part-first-start : tie.Need-part-first-start
-part-first-start c = omega arith
+array-borrow-prefix-nodes : tie.Need-array-borrow-prefix-nodes
+array-borrow-prefix-nodes c = omega (arith, c .before .row-count .ensures .1)
 
-part-first-end : tie.Need-part-first-end
-part-first-end c = onlines-fit _ _ _ _ _ _ _ _ _ _ _ (c .before .before .before .before .before .before .before .before .before .pre .1 .0) (c .before .before .before .before .before .before .before .before .before .pre .0 .tree)
+slice-aggregate-grow : tie.Need-slice-aggregate-grow
+slice-aggregate-grow c = sym (prefix-length (16 * c .before .before .row-count .result) 16384 (omega (arith, c .before .before .row-count .ensures .1)))
 
-first-requires : tie.Need-first-requires
-first-requires c κs = (c .before .before .before .before .before .before .before .before .before .before .before .before .pre .0, (c .before .before .before .before .before .before .before .before .before .before .before .before .pre .1 .0 .witness-fits, (few-instances _ _ _ _ _ _ _ _ _ _ _ (c .before .before .before .before .before .before .before .before .before .before .before .before .pre .1 .0) (c .before .before .before .before .before .before .before .before .before .before .before .before .pre .0 .tree), onlines-part _ _ _ _ _ _ _ _ _ _ _ (c .before .before .before .before .before .before .before .before .before .before .before .before .pre .1 .0) (c .before .before .before .before .before .before .before .before .before .before .before .before .pre .0 .tree))))
+grow-requires : tie.Need-grow-requires
+grow-requires c κs =
+    let e = c .before .before .row-count .ensures .0 ∙ ap (λ (h : ℕ). 2 ^ suc h) (sym (c .before .height .ensures)) in
+    (omega (arith, c .before .height .ensures, masters-low (c .before .before .before .before .before .before .before .before .before .before .before .args .k .instances) (counts-fit _ _ (c .before .before .before .before .before .before .before .before .before .before .before .pre .1 .0 .counts) .most)), (c .before .before .before .before .before .before .before .before .before .before .before .pre .1 .1, prefix-length (16 * c .before .before .row-count .result) 16384 (omega (arith, c .before .before .row-count .ensures .1)) ∙ ap (λ (i : ℕ). 16 * i) e))
 
-slice-aggregate-draw-challenge : tie.Need-slice-aggregate-draw-challenge
-slice-aggregate-draw-challenge c = search needs
+array-share-prefix-nodes : tie.Need-array-share-prefix-nodes
+array-share-prefix-nodes c = front-inside 16384 (16 * c .before .before .before .before .row-count .result) (c .before .grow .last .1 .1 .1 .0) (omega (arith, c .before .before .before .before .row-count .ensures .1)) (c .before .grow .kept .1 .1 .1 .0)
 
-draw-challenge-requires : tie.Need-draw-challenge-requires
-draw-challenge-requires c κs = let p = c .before .before .before .before .before .before .before .before .before .before .before .before .before .before .before .before .before .before .before .before .before .pre in first-drawable _ _ _ _ _ _ _ _ _ _ _ (p .1 .0) (p .0 .tree) _ _ (c .before .before .before .before .before .before .before .before .first .ensures .0) (p .1 .1)
+slice-aggregate-prove-from : tie.Need-slice-aggregate-prove-from
+slice-aggregate-prove-from c = front-taken 16384 (16 * c .before .before .before .before .before .row-count .result) (c .before .before .grow .last .1 .1 .1 .0) (omega (arith, c .before .before .before .before .before .row-count .ensures .1)) (c .before .before .grow .kept .1 .1 .1 .0)
 
-slice-aggregate-head : tie.Need-slice-aggregate-head
-slice-aggregate-head c = search needs
-
-slice-relend-prefix-head : tie.Need-slice-relend-prefix-head
-slice-relend-prefix-head c = head-inside _ (c .before .before .before .before .before .before .before .before .before .before .before .before .before .before .before .before .before .before .before .before .before .before .before .before .before .args .buffer .now) (c .before .before .before .before .before .before .before .before .before .before .before .before .first .last .1 .1 .1 .1 .1 .1 .1 .0) (onlines-fit _ _ _ _ _ _ _ _ _ _ _ (c .before .before .before .before .before .before .before .before .before .before .before .before .before .before .before .before .before .before .before .before .before .before .before .before .before .pre .1 .0) (c .before .before .before .before .before .before .before .before .before .before .before .before .before .before .before .before .before .before .before .before .before .before .before .before .before .pre .0 .tree)) (c .before .before .before .before .before .before .before .before .before .before .before .before .first .kept .1 .1 .1 .1 .1 .1 .1 .0)
-
-slice-aggregate-head-2 : tie.Need-slice-aggregate-head-2
-slice-aggregate-head-2 c = sym (head-part _ (c .before .before .before .before .before .before .before .before .before .before .before .before .before .before .before .before .before .before .before .before .before .before .before .before .before .before .args .buffer .now) (c .before .before .before .before .before .before .before .before .before .before .before .before .before .first .last .1 .1 .1 .1 .1 .1 .1 .0) (onlines-fit _ _ _ _ _ _ _ _ _ _ _ (c .before .before .before .before .before .before .before .before .before .before .before .before .before .before .before .before .before .before .before .before .before .before .before .before .before .before .pre .1 .0) (c .before .before .before .before .before .before .before .before .before .before .before .before .before .before .before .before .before .before .before .before .before .before .before .before .before .before .pre .0 .tree)) (c .before .before .before .before .before .before .before .before .before .before .before .before .before .first .kept .1 .1 .1 .1 .1 .1 .1 .0))
-
-head-requires : tie.Need-head-requires
-head-requires c κs =
-    let z = head-fits _ _ _ _ _ _ _ _ _ _ _ (c .before .before .before .before .before .before .before .before .before .before .before .before .before .before .before .before .before .before .before .before .before .before .before .before .before .before .pre .1 .0) (c .before .before .before .before .before .before .before .before .before .before .before .before .before .before .before .before .before .before .before .before .before .before .before .before .before .before .pre .0 .tree) in
-    (z .0, (z .1 .0, (z .1 .1, (length-first _ _ _ _ _ _ _ _ _ _ _ (c .before .before .before .before .before .before .before .before .before .before .before .before .before .before .before .before .before .before .before .before .before .before .before .before .before .before .pre .1 .0) (c .before .before .before .before .before .before .before .before .before .before .before .before .before .before .before .before .before .before .before .before .before .before .before .before .before .before .pre .0 .tree) _ (c .before .before .before .before .before .before .before .before .before .before .before .before .before .first .ensures .0), head-part _ (c .before .before .before .before .before .before .before .before .before .before .before .before .before .before .before .before .before .before .before .before .before .before .before .before .before .before .args .buffer .now) (c .before .before .before .before .before .before .before .before .before .before .before .before .before .first .last .1 .1 .1 .1 .1 .1 .1 .0) (onlines-fit _ _ _ _ _ _ _ _ _ _ _ (c .before .before .before .before .before .before .before .before .before .before .before .before .before .before .before .before .before .before .before .before .before .before .before .before .before .before .pre .1 .0) (c .before .before .before .before .before .before .before .before .before .before .before .before .before .before .before .before .before .before .before .before .before .before .before .before .before .before .pre .0 .tree)) (c .before .before .before .before .before .before .before .before .before .before .before .before .before .first .kept .1 .1 .1 .1 .1 .1 .1 .0)))))
-
-proof-bytes-requires : tie.Need-proof-bytes-requires
-proof-bytes-requires c κs = (c .before .before .before .before .before .before .before .before .before .before .before .before .before .before .before .before .before .before .before .before .before .before .before .before .before .before .before .before .before .before .pre .0 .known, (c .before .before .before .before .before .before .before .before .before .before .before .before .before .before .before .before .before .before .before .before .before .before .before .before .before .before .before .before .before .before .pre .0 .tree, (few-instances _ _ _ _ _ _ _ _ _ _ _ (c .before .before .before .before .before .before .before .before .before .before .before .before .before .before .before .before .before .before .before .before .before .before .before .before .before .before .before .before .before .before .pre .1 .0) (c .before .before .before .before .before .before .before .before .before .before .before .before .before .before .before .before .before .before .before .before .before .before .before .before .before .before .before .before .before .before .pre .0 .tree), asking-right _ _ _ _ _ _ _ _ _ _ _ (c .before .before .before .before .before .before .before .before .before .before .before .before .before .before .before .before .before .before .before .before .before .before .before .before .before .before .before .before .before .before .pre .1 .0) (c .before .before .before .before .before .before .before .before .before .before .before .before .before .before .before .before .before .before .before .before .before .before .before .before .before .before .before .before .before .before .pre .0 .tree) _ _ (c .before .before .before .before .before .before .before .before .before .before .before .before .before .before .before .before .before .first .ensures .0) (c .before .before .before .before .before .before .before .before .draw-challenge .ensures))))
-
-sub-respond : tie.Need-sub-respond
-sub-respond c = size-start _ _ _ _ _ _ _ _ _ _ _ (c .before .before .before .before .before .before .before .before .before .before .before .before .before .before .before .before .before .before .before .before .before .before .before .before .before .before .before .before .before .before .before .before .pre .1 .0) (c .before .before .before .before .before .before .before .before .before .before .before .before .before .before .before .before .before .before .before .before .before .before .before .before .before .before .before .before .before .before .before .before .pre .0 .tree) _ _ (c .before .before .before .before .before .before .before .before .before .before .before .before .before .before .before .before .before .before .before .first .ensures .0) (c .before .before .before .before .before .before .before .before .before .before .draw-challenge .ensures) _ (c .before .proof-bytes .ensures)
-
-part-respond-start : tie.Need-part-respond-start
-part-respond-start c = size-start _ _ _ _ _ _ _ _ _ _ _ (c .before .before .before .before .before .before .before .before .before .before .before .before .before .before .before .before .before .before .before .before .before .before .before .before .before .before .before .before .before .before .before .before .pre .1 .0) (c .before .before .before .before .before .before .before .before .before .before .before .before .before .before .before .before .before .before .before .before .before .before .before .before .before .before .before .before .before .before .before .before .pre .0 .tree) _ _ (c .before .before .before .before .before .before .before .before .before .before .before .before .before .before .before .before .before .before .before .first .ensures .0) (c .before .before .before .before .before .before .before .before .before .before .draw-challenge .ensures) _ (c .before .proof-bytes .ensures)
-
-part-respond-end : tie.Need-part-respond-end
-part-respond-end c = part-inside _ _ _ _ _ _ _ _ _ _ _ (c .before .before .before .before .before .before .before .before .before .before .before .before .before .before .before .before .before .before .before .before .before .before .before .before .before .before .before .before .before .before .before .before .pre .1 .0) (c .before .before .before .before .before .before .before .before .before .before .before .before .before .before .before .before .before .before .before .before .before .before .before .before .before .before .before .before .before .before .before .before .pre .0 .tree) _ _ (c .before .before .before .before .before .before .before .before .before .before .before .before .before .before .before .before .before .before .before .first .ensures .0) (c .before .before .before .before .before .before .before .before .before .before .draw-challenge .ensures) _ (c .before .proof-bytes .ensures) _ _ (c .before .before .before .before .before .before .before .before .before .before .before .before .before .before .before .before .before .before .before .first .kept .1 .1 .1 .1 .1 .1 .1 .0) (c .before .before .before .before .before .before .before .before .before .before .before .before .before .before .before .before .before .before .before .first .ensures .1) (c .before .before .before .before .before .head .ensures)
-
-respond-requires : tie.Need-respond-requires
-respond-requires c κs =
-    (lent-again _ _ _ _ _ _ _ _ _ _ _ (c .before .before .before .before .before .before .before .before .before .before .before .before .before .before .before .before .before .before .before .before .before .before .before .before .before .before .before .before .before .before .before .before .before .before .before .pre .0) (c .before .before .before .before .before .before .before .before .before .before .before .before .before .before .before .before .before .before .before .before .before .before .first .kept .1 .1 .1 .1 .1 .1 .1 .1 .0) (c .before .before .before .before .before .before .before .before .before .before .before .before .before .before .before .before .before .before .before .before .before .before .first .kept .1 .1 .1 .1 .1 .1 .1 .1 .1 .0), (c .before .before .before .before .before .before .before .before .before .before .before .before .before .before .before .before .before .before .before .before .before .before .before .before .before .before .before .before .before .before .before .before .before .before .before .pre .1 .0 .witness-fits, response-asks _ _ _ _ _ _ _ _ _ _ _ (c .before .before .before .before .before .before .before .before .before .before .before .before .before .before .before .before .before .before .before .before .before .before .before .before .before .before .before .before .before .before .before .before .before .before .before .pre .1 .0) (c .before .before .before .before .before .before .before .before .before .before .before .before .before .before .before .before .before .before .before .before .before .before .before .before .before .before .before .before .before .before .before .before .before .before .before .pre .0 .tree) _ _ (c .before .before .before .before .before .before .before .before .before .before .before .before .before .before .before .before .before .before .before .before .before .before .first .ensures .0) (c .before .before .before .before .before .before .before .before .before .before .before .before .before .draw-challenge .ensures) _ (c .before .before .before .before .proof-bytes .ensures) _ _ (c .before .before .before .before .before .before .before .before .before .before .before .before .before .before .before .before .before .before .before .before .before .before .first .kept .1 .1 .1 .1 .1 .1 .1 .0) (c .before .before .before .before .before .before .before .before .before .before .before .before .before .before .before .before .before .before .before .before .before .before .first .ensures .1) (c .before .before .before .before .before .before .before .before .head .ensures)))
+prove-from-requires : tie.Need-prove-from-requires
+prove-from-requires c κs =
+    let x = c .before .before .before .before .before .before .before .before .before .before .before .before .before .before .before .before .before .args in
+    (c .before .before .before .before .before .before .before .before .before .before .before .before .before .before .before .before .before .pre .0, (c .before .before .before .before .before .before .before .before .before .before .before .before .before .before .before .before .before .pre .1 .0, rows-grown (circuitOf (x .s .now)) (x .k .instances) (x .k .chosen) (x .k .parties) (x .witness .now) (statementOf (x .k .instances) (x .k .chosen) (x .k .parties) (x .s .now) (x .y .now) (x .message .now)) (x .root .now) _ (c .before .before .before .before .before .before .before .before .before .before .before .before .before .before .before .before .before .pre .1 .1) (front-back 16384 (16 * c .before .before .before .before .before .before .before .before .row-count .result) (c .before .before .before .before .before .grow .last .1 .1 .1 .0) (omega (arith, c .before .before .before .before .before .before .before .before .row-count .ensures .1)) (c .before .before .before .before .before .grow .kept .1 .1 .1 .0) ∙ c .before .before .before .before .before .grow .ensures ∙ ap (nodesOf (childOf 65535) (x .root .now)) (c .before .before .before .before .before .before .before .height .ensures))))
 
 same-length : tie.Need-same-length
-same-length c = buffer-kept _ _ _ _ _ _ _ _ _ _ _ (c .before .before .before .before .before .before .before .before .before .before .before .before .before .before .before .before .before .before .before .before .before .before .before .before .before .before .before .before .before .before .before .before .before .before .before .before .before .before .before .before .before .before .pre .1 .0) (c .before .before .before .before .before .before .before .before .before .before .before .before .before .before .before .before .before .before .before .before .before .before .before .before .before .before .before .before .before .before .before .before .before .before .before .before .before .before .before .before .before .before .pre .0 .tree) _ _ (c .before .before .before .before .before .before .before .before .before .before .before .before .before .before .before .before .before .before .before .before .before .before .before .before .before .before .before .before .before .first .ensures .0) (c .before .before .before .before .before .before .before .before .before .before .before .before .before .before .before .before .before .before .before .before .draw-challenge .ensures) _ (c .before .before .before .before .before .before .before .before .before .before .before .proof-bytes .ensures) _ _ (c .before .before .before .before .before .before .before .before .before .before .before .before .before .before .before .before .before .before .before .before .before .before .before .before .before .before .before .before .before .first .kept .1 .1 .1 .1 .1 .1 .1 .0) (c .before .before .before .before .before .before .before .before .before .before .before .before .before .before .before .before .before .before .before .before .before .before .before .before .before .before .before .before .before .first .ensures .1) (c .before .before .before .before .before .before .before .before .before .before .before .before .before .before .before .head .ensures) _ (c .before .before .before .before .before .before .respond .ensures) (c .before .before .before .before .before .before .respond .kept .1 .1 .1 .1 .1 .1 .1 .1 .0)
+same-length c = c .before .before .before .before .before .before .prove-from .kept .1 .1 .1 .1 .1 .1 .1 .0
 
 same-length-2 : tie.Need-same-length-2
-same-length-2 c = c .before .before .before .before .before .before .before .before .before .before .before .before .before .before .before .before .before .before .before .before .draw-challenge .kept .1 .1 .1 .1 .1 .1 .1 .0
+same-length-2 c = c .before .before .before .before .before .before .prove-from .kept .1 .1 .1 .1 .1 .1 .1 .1 .0
 
 same-length-3 : tie.Need-same-length-3
-same-length-3 c = c .before .before .before .before .before .before .respond .kept .1 .1 .1 .1 .1 .1 .1 .1 .1 .0 ∙ c .before .before .before .before .before .before .before .before .before .before .before .before .before .before .before .before .before .before .before .before .before .before .before .before .before .before .before .before .before .first .kept .1 .1 .1 .1 .1 .1 .1 .1 .0
-
-same-length-4 : tie.Need-same-length-4
-same-length-4 c = c .before .before .before .before .before .before .respond .kept .1 .1 .1 .1 .1 .1 .1 .1 .1 .1 .0 ∙ c .before .before .before .before .before .before .before .before .before .before .before .before .before .before .before .before .before .before .before .before .before .before .before .before .before .before .before .before .before .first .kept .1 .1 .1 .1 .1 .1 .1 .1 .1 .0
+same-length-3 c = c .before .before .before .before .before .before .prove-from .kept .1 .1 .1 .1 .1 .1 .1 .1 .1 .0
 
 returns : tie.Need-returns
-returns c = (size-right _ _ _ _ _ _ _ _ _ _ _ (c .before .before .before .before .before .before .before .before .before .before .before .before .before .before .before .before .before .before .before .before .before .before .before .before .before .before .before .before .before .before .before .before .before .before .before .before .before .before .before .before .before .before .pre .1 .0) (c .before .before .before .before .before .before .before .before .before .before .before .before .before .before .before .before .before .before .before .before .before .before .before .before .before .before .before .before .before .before .before .before .before .before .before .before .before .before .before .before .before .before .pre .0 .tree) _ _ (c .before .before .before .before .before .before .before .before .before .before .before .before .before .before .before .before .before .before .before .before .before .before .before .before .before .before .before .before .before .first .ensures .0) (c .before .before .before .before .before .before .before .before .before .before .before .before .before .before .before .before .before .before .before .before .draw-challenge .ensures) _ (c .before .before .before .before .before .before .before .before .before .before .before .proof-bytes .ensures), proof-made _ _ _ _ _ _ _ _ _ _ _ (c .before .before .before .before .before .before .before .before .before .before .before .before .before .before .before .before .before .before .before .before .before .before .before .before .before .before .before .before .before .before .before .before .before .before .before .before .before .before .before .before .before .before .pre .1 .0) (c .before .before .before .before .before .before .before .before .before .before .before .before .before .before .before .before .before .before .before .before .before .before .before .before .before .before .before .before .before .before .before .before .before .before .before .before .before .before .before .before .before .before .pre .0 .tree) _ _ (c .before .before .before .before .before .before .before .before .before .before .before .before .before .before .before .before .before .before .before .before .before .before .before .before .before .before .before .before .before .first .ensures .0) (c .before .before .before .before .before .before .before .before .before .before .before .before .before .before .before .before .before .before .before .before .draw-challenge .ensures) _ (c .before .before .before .before .before .before .before .before .before .before .before .proof-bytes .ensures) _ _ (c .before .before .before .before .before .before .before .before .before .before .before .before .before .before .before .before .before .before .before .before .before .before .before .before .before .before .before .before .before .first .kept .1 .1 .1 .1 .1 .1 .1 .0) (c .before .before .before .before .before .before .before .before .before .before .before .before .before .before .before .before .before .before .before .before .before .before .before .before .before .before .before .before .before .first .ensures .1) (c .before .before .before .before .before .before .before .before .before .before .before .before .before .before .before .head .ensures) _ (c .before .before .before .before .before .before .respond .ensures))
+returns c =
+    let x = c .before .before .before .before .before .before .before .before .before .before .before .before .before .before .before .before .before .before .before .before .before .before .before .before .args in
+    let e = proof-grown (circuitOf (x .s .now)) (x .k .instances) (x .k .chosen) (x .k .parties) (x .witness .now) (statementOf (x .k .instances) (x .k .chosen) (x .k .parties) (x .s .now) (x .y .now) (x .message .now)) (x .root .now) _ (c .before .before .before .before .before .before .before .before .before .before .before .before .before .before .before .before .before .before .before .before .before .before .before .before .pre .1 .1) (front-back 16384 (16 * c .before .before .before .before .before .before .before .before .before .before .before .before .before .before .before .row-count .result) (c .before .before .before .before .before .before .before .before .before .before .before .before .grow .last .1 .1 .1 .0) (omega (arith, c .before .before .before .before .before .before .before .before .before .before .before .before .before .before .before .row-count .ensures .1)) (c .before .before .before .before .before .before .before .before .before .before .before .before .grow .kept .1 .1 .1 .0) ∙ c .before .before .before .before .before .before .before .before .before .before .before .before .grow .ensures ∙ ap (nodesOf (childOf 65535) (x .root .now)) (c .before .before .before .before .before .before .before .before .before .before .before .before .before .before .height .ensures)) in
+    (c .before .before .before .before .before .before .prove-from .ensures .0 ∙ ap length e, c .before .before .before .before .before .before .prove-from .ensures .1 ∙ ap (λ (t : List ℕ). t ++ drop (c .before .before .before .before .before .before .prove-from .result) (x .buffer .now)) e)
 
 pub prove-in-spec : {M : Type 1} → statement M
 prove-in-spec =
     tie.close
     (tie.spec
-    mul-kept
-    add-kept
-    sub-first
-    part-first-start
-    part-first-end
-    first-requires
-    slice-aggregate-draw-challenge
-    draw-challenge-requires
-    slice-aggregate-head
-    slice-relend-prefix-head
-    slice-aggregate-head-2
-    head-requires
-    proof-bytes-requires
-    sub-respond
-    part-respond-start
-    part-respond-end
-    respond-requires
+    row-count-requires
+    mul-len
+    height-requires
+    array-borrow-prefix-nodes
+    slice-aggregate-grow
+    grow-requires
+    array-share-prefix-nodes
+    slice-aggregate-prove-from
+    prove-from-requires
     same-length
     same-length-2
     same-length-3
-    same-length-4
     returns)

@@ -21,8 +21,8 @@ use Rattle.tree.specs.Tree.{siblingsBelow}
 use Rattle.party.specs.Derive.{commitmentOf}
 use Rattle.tree.proofs.Lengths.{length-siblings}
 use Rattle.instance.specs.Instance.{Asked, opened, hiding, onlineDigest, masterSeeds, masterTapes, masterCorrections, masterRun, masterMasked, masterOnline, sentCorrections, stretchOf}
-use Rattle.instance.specs.Stretch.{correctionBytes, stretchBytes, sentMaster, sentOnline, siblingsPart, correctionsPart, commitmentPart, maskedPart, rowPart}
-use Rattle.honest.proofs.Places.{middle}
+use Rattle.instance.specs.Stretch.{correctionBytes, stretchBytes, siblingsPart, correctionsPart, commitmentPart, maskedPart, rowPart}
+use Rattle.proof.proofs.Places.{middle}
 
 -- five strings one after the other, of the lengths of a chosen instance's parts
 module _ (c : Circuit) (n p : ℕ) (siblings corrections committed masked row : List ℕ) (size-1 : length siblings ≡ 16 * heightOf n)
@@ -77,7 +77,7 @@ module _ (c : Circuit) (n p : ℕ) (siblings corrections committed masked row : 
 -- instance j of the protocol by n parties, from a master
 module _ (c : Circuit) (n j : ℕ) (witness master : List ℕ) where
   -- a digest has 32 bytes
-  length-online : length (masterOnline c n j witness master) ≡ 32
+  pub length-online : length (masterOnline c n j witness master) ≡ 32
   unfolding masterOnline onlineDigest
   length-online = length-sha3-256 _
 
@@ -110,23 +110,10 @@ module _ (c : Circuit) (n j : ℕ) (witness master : List ℕ) where
   unfolding masterRun
   length-rowBits p = length-honest c n p witness (masterTapes c n j master)
 
-  -- an instance that is not chosen
-  module _ (size : length master ≡ 16) where
-    abbrev shut : List ℕ
-    shut = stretchOf c n j witness master opened
-
-    -- it has 48 bytes: the master and h'_j
-    length-shut : length shut ≡ 48
-    unfolding stretchOf
-    length-shut = length-append master _ ∙ omega (arith, length-online)
-
-    pub master-back : sentMaster shut ≡ master
-    unfolding stretchOf
-    master-back = take-at master _ 16 size
-
-    pub online-back : sentOnline shut ≡ masterOnline c n j witness master
-    unfolding stretchOf
-    online-back = drop-at master _ 16 size
+  -- an instance that is not chosen: h'_j
+  length-shut : length (stretchOf c n j witness master opened) ≡ 32
+  unfolding stretchOf
+  length-shut = length-online
 
   -- a chosen one, with p hidden
   module _ (p : ℕ) where
@@ -182,7 +169,7 @@ module _ (c : Circuit) (n j : ℕ) (witness master : List ℕ) where
     row-back = last-back c n p siblings sent committed masked row length-siblings-sent (length-sent p) (length-commitment p) length-masked
 
   -- the stretch has the bytes that are asked
-  pub length-stretch : length master ≡ 16 → (a : Asked) → length (stretchOf c n j witness master a) ≡ stretchBytes c n a
+  pub length-stretch : (a : Asked) → length (stretchOf c n j witness master a) ≡ stretchBytes c n a
   unfolding stretchBytes
-  length-stretch size opened = length-shut size
-  length-stretch size (hiding p) = length-chosen p
+  length-stretch opened = length-shut
+  length-stretch (hiding p) = length-chosen p

@@ -1,6 +1,6 @@
 -- Tests that an operation has passed.
 -- Assumes nothing.
-use mathlib.Core.Path.{_≡_, refl, ap}
+use mathlib.Core.Path.{_≡_, refl, sym, ap, _∙_}
 use mathlib.Core.Bool.{Bool, true, false, _&&_}
 use mathlib.Core.List.{List}
 use mathlib.Core.Logic.{⊎-elim}
@@ -8,8 +8,10 @@ use Prim.Native.Nat.{ℕ, zero, suc, _<_}
 use native.Mathlib.Omega.{arith}
 use Rattle.bits.proofs.Numbers.{lt-or-le}
 use Rattle.bits.proofs.Tests.{and-true-left, and-true-right}
+use Rattle.parties.specs.Parties.{heightOf, isPartyCount}
+use Rattle.parties.proofs.Counts.{count-no}
 use Rattle.refusal.specs.Outcome.{Answer, refusal, success, Outcome, refuses, unless}
 use Rattle.proof.specs.Check.{every}
 
 -- the outcome of a success
 abbrev pub succeeded : List ℕ → List (List ℕ) → Outcome
@@ -52,3 +54,7 @@ pub all-every : (m : ℕ) (test : ℕ → Bool) → ((j : ℕ) → j < m → tes
 unfolding every
 all-every zero test h = refl
 all-every (suc m) test h = and-true (every m test) (test m) (all-every m test (λ j l. h j (omega arith))) (h m (omega arith))
+
+-- a party count has a height
+pub has-height : (n : ℕ) → isPartyCount n ≡ true → heightOf n ≡ 0 → ⊥
+has-height n h e = let z : _≡_ {A = Bool} true false = sym h ∙ count-no n e in let o : _≡_ {A = ℕ} 0 1 = cc in omega arith

@@ -1,7 +1,7 @@
 -- Parts of different lengths one after the other, and where each of them stands.
 -- Assumes nothing.
 use mathlib.Core.Path.{_≡_, sym, ap, _∙_}
-use mathlib.Core.List.{List, _++_, flatten, append-assoc, append-nil}
+use mathlib.Core.List.{List, [], _++_, flatten, append-assoc, append-nil}
 use mathlib.Core.Logic.{⊎-elim}
 use Prim.Native.Nat.{ℕ, zero, suc, _+_, _*_, _/_, _%_, _≤_, _<_}
 use native.Mathlib.Nat.{div-add-mod', div-lt-iff-lt-mul, mod-lt}
@@ -11,7 +11,8 @@ use lib.Seq.{take-at, drop-at, take-all, take-append-le, drop-append-le, ext-get
 use Rattle.bits.specs.Bits.{tabulate}
 use Rattle.bits.specs.Bytes.{rowOf}
 use Rattle.bits.proofs.Numbers.{lt-or-le}
-use Rattle.bits.proofs.Rows.{row-fits, row-getD, flatten-more}
+use Rattle.bits.proofs.Rows.{row-fits, row-getD, flatten-more, length-flatten}
+use Rattle.bits.proofs.Tabulate.{length-tabulate, getD-tabulate}
 
 -- the second of three parts
 pub middle : (x y z : List ℕ) (m k : ℕ) → length x ≡ m → length y ≡ k → take k (drop m (x ++ (y ++ z))) ≡ y
@@ -81,3 +82,9 @@ ext-rows n len a b la lb h =
     ∙ (row-getD b len i t (omega arith) r ∙ ap (λ (z : ℕ). getD b z 0) q))))
     (λ none. let z : len ≡ 0 = omega arith in absurd (omega (arith, rw z at s)))
     (lt-or-le 0 len))
+
+-- n rows of len bytes
+pub length-rows : (len n : ℕ) (f : ℕ → List ℕ) → ((i : ℕ) → length (f i) ≡ len) → length (flatten (tabulate n f)) ≡ n * len
+length-rows len n f h =
+    length-flatten len (tabulate n f) (λ i l. ap length (getD-tabulate n f i [] (omega (arith, length-tabulate n f))) ∙ h i)
+    ∙ ap (λ (m : ℕ). m * len) (length-tabulate n f)
