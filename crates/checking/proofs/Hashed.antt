@@ -8,7 +8,7 @@ use lib.Seq.{getD-drop}
 use Rattle.bits.specs.Bits.{tabulate}
 use Rattle.keccak.proofs.Absorbing.{Bytes}
 use Rattle.circuit.specs.Circuit.{Circuit}
-use Rattle.mpc.specs.Showing.{rowsOf}
+use Rattle.plain.specs.Showing.{rowsOf}
 use Rattle.hashing.specs.Inputs.{commitmentsInput, onlineInput}
 use Rattle.hashing.proofs.Hashes.{bytes-append}
 use Rattle.instance.specs.Instance.{Asked, opened, hiding, commitmentsDigest, onlineDigest, commitmentsOf, masterSeeds, masterCorrections, masterCommitments}

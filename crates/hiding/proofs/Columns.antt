@@ -9,7 +9,7 @@ use borrow.Author.Tests.{eq-eqb, ne-eqb}
 use Rattle.bits.specs.Xor.{_⊕_, xors}
 use Rattle.bits.proofs.Numbers.{eq-or-ne}
 use Rattle.bits.proofs.Xor.{ring, xor-false, xors-zero, xors-suc, xors-change, xors-without-cong, share-from-others}
-use Rattle.mpc.specs.Run.{Column, plus, broadcast}
+use Rattle.plain.specs.Run.{Column, plus, broadcast}
 
 -- the column that is d at party p
 abbrev pub at : ℕ → Bool → Column

@@ -11,8 +11,8 @@ use native.Mathlib.Omega.{arith}
 use Rattle.bits.specs.Xor.{_⊕_, xors}
 use Rattle.bits.proofs.Xor.{xor-self-left}
 use Rattle.circuit.specs.Circuit.{Gate, xor, and, inv, put, ands}
-use Rattle.mpc.specs.Run.{Column, next, corrections, corrected, broadcast, asSent, run}
-use Rattle.mpc.specs.Showing.{rowBits}
+use Rattle.plain.specs.Run.{Column, next, corrections, corrected, broadcast, asSent, run}
+use Rattle.plain.specs.Showing.{rowBits}
 use Rattle.hiding.proofs.Columns.{Others, all-agree, sum-agrees}
 use Rattle.hiding.proofs.Masked.{bit}
 

@@ -13,8 +13,8 @@ use borrow.Author.Tests.{eq-eqb, ne-eqb, eqb-true, eqb-false}
 use Rattle.bits.specs.Xor.{_⊕_, xors}
 use Rattle.bits.proofs.Xor.{ring}
 use Rattle.circuit.specs.Circuit.{Gate, xor, and, inv, put, ands, evalGates}
-use Rattle.mpc.specs.Run.{Column, next, plus, corrections, corrected, broadcast, asSent, outputs, run}
-use Rattle.mpc.specs.Showing.{rowBits}
+use Rattle.plain.specs.Run.{Column, next, plus, corrections, corrected, broadcast, asSent, outputs, run}
+use Rattle.plain.specs.Showing.{rowBits}
 use Rattle.hiding.proofs.Columns.{at, xors-at}
 use Rattle.hiding.proofs.Masked.{bit, Masked, masked-xor, masked-and, masked-inv}
 

@@ -13,11 +13,11 @@ use Rattle.bits.proofs.Packing.{length-pack, pack-unpack}
 use Rattle.bits.proofs.Rows.{row-tabulate}
 use Rattle.circuit.specs.Circuit.{Gate, xor, and, inv, Circuit, put, ands}
 use Rattle.circuit.proofs.Chain.{put-same}
-use Rattle.mpc.specs.Run.{Column, next, broadcast, asShown, outputs, run}
-use Rattle.mpc.specs.Tapes.{andsOf}
-use Rattle.mpc.specs.Showing.{runWith, rowBits, rowsOf, Showing, replayOf}
+use Rattle.plain.specs.Run.{Column, next, broadcast, asShown, outputs, run}
+use Rattle.plain.specs.Tapes.{andsOf}
+use Rattle.plain.specs.Showing.{runWith, rowBits, rowsOf, Showing, replayOf}
 use Rattle.hiding.specs.Hiding.{Bytes}
-use Rattle.mpc.proofs.Lengths.{length-row}
+use Rattle.plain.proofs.Lengths.{length-row}
 
 -- p's bits of the outputs are those of its row
 outputs-lent : (n p : ℕ) (ws : List ℕ) (row : ℕ → Bool) (s : ℕ → Column) (m : ℕ → Bool)

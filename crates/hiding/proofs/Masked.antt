@@ -11,7 +11,7 @@ use borrow.Author.Tests.{eq-eqb, ne-eqb}
 use Rattle.bits.specs.Xor.{_⊕_, xors}
 use Rattle.bits.proofs.Xor.{ring, xors-suc, xors-xor, xors-cong}
 use Rattle.circuit.specs.Circuit.{Gate, xor, and, inv, put, evalGates}
-use Rattle.mpc.specs.Run.{Column, next, plus, corrections, corrected, broadcast, asSent, outputs, run}
+use Rattle.plain.specs.Run.{Column, next, plus, corrections, corrected, broadcast, asSent, outputs, run}
 use Rattle.hiding.specs.Laws.{after}
 use Rattle.hiding.proofs.Columns.{xors-broadcast}
 

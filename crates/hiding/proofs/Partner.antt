@@ -17,8 +17,8 @@ use Rattle.bits.proofs.Packing.{bitAt-pack, length-pack, pack-lt, unused-all, a
 use Rattle.bits.proofs.Tabulate.{length-tabulate, getD-tabulate, getD-tabulate-end}
 use Rattle.bits.proofs.Xor.{xor-false}
 use Rattle.circuit.specs.Circuit.{Circuit}
-use Rattle.mpc.specs.Run.{Column, plus}
-use Rattle.mpc.specs.Tapes.{andsOf, rowBytes, tapeRow, inputMasks, outputMasks, usedBits, withRow}
+use Rattle.plain.specs.Run.{Column, plus}
+use Rattle.plain.specs.Tapes.{andsOf, rowBytes, tapeRow, inputMasks, outputMasks, usedBits, withRow}
 use Rattle.hiding.specs.Hiding.{Row, Witness}
 use Rattle.hiding.proofs.Masked.{bit}
 use Rattle.hiding.proofs.Flips.{maskFlips, productFlips, length-maskFlips, length-productFlips}

@@ -16,9 +16,9 @@ use Rattle.bits.proofs.Packing.{bitAt-pack}
 use Rattle.bits.proofs.Tabulate.{getD-tabulate, getD-tabulate-end}
 use Rattle.bits.proofs.Xor.{xors-false}
 use Rattle.circuit.specs.Circuit.{Gate, xor, and, inv, Circuit, put}
-use Rattle.mpc.specs.Run.{Column, next, plus, corrected, broadcast, asSent, asShown, Transcript, outputs, run}
-use Rattle.mpc.specs.Tapes.{andsOf, rowBytes, tapeRow, inputMasks, outputMasks, productShares}
-use Rattle.mpc.specs.Showing.{correctionBits, maskedInput, maskedInputs, runWith, runOn, honestRun, rowBits, rowsOf, hidden, Showing, showing, replayOf}
+use Rattle.plain.specs.Run.{Column, next, plus, corrected, broadcast, asSent, asShown, Transcript, outputs, run}
+use Rattle.plain.specs.Tapes.{andsOf, rowBytes, tapeRow, inputMasks, outputMasks, productShares}
+use Rattle.plain.specs.Showing.{correctionBits, maskedInput, maskedInputs, runWith, runOn, honestRun, rowBits, rowsOf, hidden, Showing, showing, replayOf}
 use Rattle.hiding.specs.Hiding.{Tapes, Witness}
 use Rattle.hiding.specs.Laws.{ReplayRuns, RowUnseen}
 use Rattle.hiding.proofs.Columns.{Others, all-agree}

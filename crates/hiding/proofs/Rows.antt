@@ -13,7 +13,7 @@ use lib.Seq.{length-take-le, take-at, drop-at, getD-take, getD-drop, getD-append
 use Rattle.bits.proofs.Numbers.{lt-or-le}
 use Rattle.bits.proofs.Rows.{row-inside, row-outside, row-length, row-getD, row-fits}
 use Rattle.circuit.specs.Circuit.{Circuit}
-use Rattle.mpc.specs.Tapes.{andsOf, rowBytes, tapeRow, inputMasks, usedBits, withRow}
+use Rattle.plain.specs.Tapes.{andsOf, rowBytes, tapeRow, inputMasks, usedBits, withRow}
 
 -- place k of a list that begins with a places
 pub getD-past : {A : Type 0} (xs ys : List A) (a k : ℕ) (d : A) → length xs ≡ a → getD (xs ++ ys) (a + k) d ≡ getD ys k d

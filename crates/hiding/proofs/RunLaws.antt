@@ -7,9 +7,9 @@ use Prim.Native.Nat.{ℕ}
 use lib.ListN.{length, take}
 use Rattle.bits.specs.Bits.{bitAt}
 use Rattle.circuit.specs.Circuit.{Gate, xor, and, inv, evaluate}
-use Rattle.mpc.specs.Run.{Column, next, asSent, outputs, run}
-use Rattle.mpc.specs.Tapes.{inputMasks, outputMasks, productShares}
-use Rattle.mpc.specs.Showing.{correctionBits, maskedInput, runWith, runOn, honestRun}
+use Rattle.plain.specs.Run.{Column, next, asSent, outputs, run}
+use Rattle.plain.specs.Tapes.{inputMasks, outputMasks, productShares}
+use Rattle.plain.specs.Showing.{correctionBits, maskedInput, runWith, runOn, honestRun}
 use Rattle.hiding.specs.Laws.{after, wiresAfter, RunEnds, MaskedValues, RunEvaluates}
 use Rattle.hiding.proofs.Masked.{run-output, after-masked}
 

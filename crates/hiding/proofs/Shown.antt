@@ -11,9 +11,9 @@ use Rattle.bits.specs.Bits.{tabulate, pack, unpack}
 use Rattle.bits.proofs.Packing.{unpack-pack}
 use Rattle.bits.proofs.Tabulate.{getD-tabulate}
 use Rattle.circuit.specs.Circuit.{Circuit}
-use Rattle.mpc.specs.Tapes.{andsOf}
-use Rattle.mpc.specs.Showing.{honestRun, rowBits, shownBits, firstBits}
-use Rattle.mpc.proofs.Lengths.{first-all, length-honest}
+use Rattle.plain.specs.Tapes.{andsOf}
+use Rattle.plain.specs.Showing.{honestRun, rowBits, shownBits, firstBits}
+use Rattle.plain.proofs.Lengths.{first-all, length-honest}
 
 -- packed bits of one number are equal if their bytes are
 pub pack-injective : (a b : List Bool) → length a ≡ length b → pack a ≡ pack b → a ≡ b

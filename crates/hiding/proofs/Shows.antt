@@ -16,8 +16,8 @@ use Rattle.refusal.specs.Outcome.{Outcome, done}
 use Rattle.parties.specs.Parties.{isPartyCount}
 use Rattle.circuit.specs.Circuit.{Circuit}
 use Rattle.circuit.specs.File.{legal, readCircuit}
-use Rattle.mpc.specs.Tapes.{rowBytes, tapeRow, usedBits, unusedRows, withRow}
-use Rattle.mpc.specs.Showing.{Showing, showing}
+use Rattle.plain.specs.Tapes.{rowBytes, tapeRow, usedBits, unusedRows, withRow}
+use Rattle.plain.specs.Showing.{Showing, showing}
 use Rattle.mpc.specs.Operations.{partsOf, holdsShowing, showLegal, showOp}
 use Rattle.hiding.specs.Hiding.{Row, Tapes, Witness, Partner, PartnerShown, HidingShown}
 use Rattle.hiding.proofs.Rows.{byte-other, length-withRow, row-here, row-other}

@@ -14,9 +14,9 @@ use Rattle.bits.specs.Xor.{_⊕_, xors}
 use Rattle.bits.proofs.Numbers.{lt-or-le}
 use Rattle.bits.proofs.Xor.{ring}
 use Rattle.circuit.specs.Circuit.{Circuit, evalGates, evaluate}
-use Rattle.mpc.specs.Run.{Column, asSent}
-use Rattle.mpc.specs.Tapes.{andsOf, rowBytes, tapeRow, inputMasks, outputMasks, productShares, withRow}
-use Rattle.mpc.specs.Showing.{correctionBits, maskedInput, maskedInputs, runWith, runOn, honestRun, rowBits, shownBits, firstBits, hidden, showing}
+use Rattle.plain.specs.Run.{Column, asSent}
+use Rattle.plain.specs.Tapes.{andsOf, rowBytes, tapeRow, inputMasks, outputMasks, productShares, withRow}
+use Rattle.plain.specs.Showing.{correctionBits, maskedInput, maskedInputs, runWith, runOn, honestRun, rowBits, shownBits, firstBits, hidden, showing}
 use Rattle.hiding.specs.Hiding.{Row, Witness, Partner, Hiding}
 use Rattle.hiding.proofs.Columns.{xors-at}
 use Rattle.hiding.proofs.Masked.{bit}

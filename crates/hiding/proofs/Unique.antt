@@ -13,15 +13,15 @@ use Rattle.bits.proofs.Numbers.{lt-or-le}
 use Rattle.bits.proofs.Packing.{ext-bitAt, unused-all}
 use Rattle.bits.proofs.Tabulate.{length-tabulate}
 use Rattle.circuit.specs.Circuit.{Circuit}
-use Rattle.mpc.specs.Run.{Column, corrections, corrected, asSent, run}
-use Rattle.mpc.specs.Tapes.{andsOf, rowBytes, tapeRow, inputMasks, outputMasks, productShares, usedBits, withRow}
-use Rattle.mpc.specs.Showing.{correctionBits, maskedInput, maskedInputs, runWith, runOn, honestRun, rowBits, Showing, showing}
+use Rattle.plain.specs.Run.{Column, corrections, corrected, asSent, run}
+use Rattle.plain.specs.Tapes.{andsOf, rowBytes, tapeRow, inputMasks, outputMasks, productShares, usedBits, withRow}
+use Rattle.plain.specs.Showing.{correctionBits, maskedInput, maskedInputs, runWith, runOn, honestRun, rowBits, Showing, showing}
 use Rattle.hiding.specs.Hiding.{Row}
 use Rattle.hiding.proofs.Columns.{Others, all-agree, sum-agrees}
 use Rattle.hiding.proofs.Masked.{bit}
 use Rattle.hiding.proofs.Fixed.{cancel, row-fixes}
 use Rattle.hiding.proofs.Rows.{inputs-end, used-last, used-inside, row-here, row-other}
-use Rattle.mpc.proofs.Lengths.{length-corrections, length-honest}
+use Rattle.plain.proofs.Lengths.{length-corrections, length-honest}
 use Rattle.hiding.proofs.Shown.{pack-injective, tabulate-injective, row-all}
 
 -- rows of one party are equal if their input masks, output masks and product shares are

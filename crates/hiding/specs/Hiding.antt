@@ -11,8 +11,8 @@ use Rattle.refusal.specs.Outcome.{Outcome, done}
 use Rattle.parties.specs.Parties.{isPartyCount}
 use Rattle.circuit.specs.Circuit.{Circuit, evaluate}
 use Rattle.circuit.specs.File.{legal, readCircuit}
-use Rattle.mpc.specs.Tapes.{rowBytes, usedBits, withRow, unusedRows}
-use Rattle.mpc.specs.Showing.{Showing, showing}
+use Rattle.plain.specs.Tapes.{rowBytes, usedBits, withRow, unusedRows}
+use Rattle.plain.specs.Showing.{Showing, showing}
 use Rattle.mpc.specs.Operations.{holdsShowing, showOp}
 
 -- len bytes

@@ -8,9 +8,9 @@ use lib.ListN.{length, getD, take}
 use Rattle.bits.specs.Bits.{bitAt}
 use Rattle.bits.specs.Xor.{_⊕_, xors}
 use Rattle.circuit.specs.Circuit.{Gate, xor, and, inv, Circuit, put, evalGates, evaluate}
-use Rattle.mpc.specs.Run.{Column, next, plus, broadcast, asSent, outputs, corrected}
-use Rattle.mpc.specs.Tapes.{inputMasks, outputMasks, productShares, withRow}
-use Rattle.mpc.specs.Showing.{correctionBits, maskedInput, honestRun, rowsOf, hidden, showing, replayOf}
+use Rattle.plain.specs.Run.{Column, next, plus, broadcast, asSent, outputs, corrected}
+use Rattle.plain.specs.Tapes.{inputMasks, outputMasks, productShares, withRow}
+use Rattle.plain.specs.Showing.{correctionBits, maskedInput, honestRun, rowsOf, hidden, showing, replayOf}
 use Rattle.hiding.specs.Hiding.{Tapes, Row, Witness}
 
 -- the wires in the middle of a run: the shares of their masks, and their masked values

@@ -12,7 +12,7 @@ use Rattle.bits.specs.Bytes.{leAt}
 use Rattle.bits.proofs.Little.{leAt-cong}
 use Rattle.parties.specs.Parties.{heightOf}
 use Rattle.circuit.specs.Circuit.{Circuit}
-use Rattle.mpc.specs.Tapes.{andsOf}
+use Rattle.plain.specs.Tapes.{andsOf}
 use Rattle.instance.specs.Instance.{Asked, opened, hiding}
 use Rattle.instance.specs.Stretch.{correctionBytes, stretchBytes, siblingsPart, correctionsPart, commitmentPart, maskedPart, rowPart}
 use Rattle.proof.specs.File.{headerBytes, headerM, headerTau, headerN, headerHstar, stretchStart, stretchAt}

@@ -14,7 +14,7 @@ use Rattle.bits.proofs.Rows.{row-tabulate}
 use Rattle.keccak.proofs.Absorbing.{Bytes}
 use Rattle.keccak.proofs.Lengths.{length-shake128}
 use Rattle.circuit.specs.Circuit.{Circuit}
-use Rattle.mpc.specs.Tapes.{rowBytes, tapeRow, usedBits, unusedRows}
+use Rattle.plain.specs.Tapes.{rowBytes, tapeRow, usedBits, unusedRows}
 use Rattle.hiding.specs.Hiding.{Tapes}
 use Rattle.party.specs.Derive.{seedRow, clearFrom}
 use Rattle.party.specs.Derive as derive

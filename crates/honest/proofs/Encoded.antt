@@ -12,7 +12,7 @@ use Rattle.bits.proofs.Little.{leBytes-leAt}
 use Rattle.bits.proofs.Rows.{flatten-more}
 use Rattle.parties.specs.Parties.{heightOf}
 use Rattle.circuit.specs.Circuit.{Circuit}
-use Rattle.mpc.specs.Tapes.{andsOf}
+use Rattle.plain.specs.Tapes.{andsOf}
 use Rattle.instance.specs.Instance.{Asked, opened, hiding}
 use Rattle.proof.specs.File.{headerBytes}
 use Rattle.honest.specs.Response.{encodeHeader, encodeSent, encode, decodeHeader, boundIn, challengeIn, auxBytes, decodeSent, bytesFrom, nodesBytes, decode, sentBytes, allBytes, impliedLength}

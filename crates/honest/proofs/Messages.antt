@@ -14,9 +14,9 @@ use Rattle.bits.proofs.Packing.{length-pack}
 use Rattle.bits.proofs.Rows.{row-tabulate}
 use Rattle.parties.specs.Parties.{heightOf}
 use Rattle.circuit.specs.Circuit.{Circuit}
-use Rattle.mpc.specs.Tapes.{andsOf}
-use Rattle.mpc.specs.Showing.{runWith, rowBits, rowsOf, replayOf}
-use Rattle.mpc.proofs.Lengths.{length-row}
+use Rattle.plain.specs.Tapes.{andsOf}
+use Rattle.plain.specs.Showing.{runWith, rowBits, rowsOf, replayOf}
+use Rattle.plain.proofs.Lengths.{length-row}
 use Rattle.hiding.proofs.Kept.{replay-keeps-row}
 use Rattle.instance.specs.Instance.{Asked, opened, hiding}
 use Rattle.instance.specs.Stretch.{correctionBytes, stretchBytes, rowPart}

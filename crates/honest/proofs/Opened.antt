@@ -17,8 +17,8 @@ use Rattle.bits.proofs.Tabulate.{tabulate-cong, length-tabulate}
 use Rattle.parties.specs.Parties.{heightOf}
 use Rattle.parties.proofs.Counts.{height-pow}
 use Rattle.circuit.specs.Circuit.{Circuit, evaluate}
-use Rattle.mpc.specs.Tapes.{andsOf, rowBytes, tapeRow, usedBits}
-use Rattle.mpc.specs.Showing.{correctionBits, maskedInput, maskedInputs, rowBits, rowsOf, hidden, Showing, showing, replayOf}
+use Rattle.plain.specs.Tapes.{andsOf, rowBytes, tapeRow, usedBits}
+use Rattle.plain.specs.Showing.{correctionBits, maskedInput, maskedInputs, rowBits, rowsOf, hidden, Showing, showing, replayOf}
 use Rattle.hiding.specs.Hiding.{Tapes, Witness}
 use Rattle.hiding.proofs.Rows.{length-withRow, row-here, row-other}
 use Rattle.hiding.proofs.Shown.{row-all}

@@ -19,9 +19,9 @@ use Rattle.keccak.specs.Sponge.{sha3-256}
 use Rattle.parties.specs.Parties.{heightOf}
 use Rattle.parties.proofs.Counts.{count-yes}
 use Rattle.circuit.specs.Circuit.{Circuit}
-use Rattle.mpc.specs.Run.{Transcript}
-use Rattle.mpc.specs.Tapes.{andsOf, rowBytes, usedBits}
-use Rattle.mpc.specs.Showing.{rowsOf, hidden, replayOf}
+use Rattle.plain.specs.Run.{Transcript}
+use Rattle.plain.specs.Tapes.{andsOf, rowBytes, usedBits}
+use Rattle.plain.specs.Showing.{rowsOf, hidden, replayOf}
 use Rattle.hashing.specs.Inputs.{commitmentsInput, onlineInput}
 use Rattle.tree.specs.Tree.{leavesBelow, openedBelow}
 use Rattle.party.specs.Derive.{commitmentOf, tapeRow}

@@ -11,7 +11,7 @@ use Rattle.bits.specs.Bits.{tabulate, oct, unusedZero}
 use Rattle.bits.specs.Bytes.{leAt, leBytes}
 use Rattle.parties.specs.Parties.{heightOf}
 use Rattle.circuit.specs.Circuit.{Circuit}
-use Rattle.mpc.specs.Tapes.{andsOf}
+use Rattle.plain.specs.Tapes.{andsOf}
 use Rattle.cover.specs.Masters.{coverBytes}
 use Rattle.instance.specs.Instance.{Asked, opened, hiding}
 use Rattle.proof.specs.Protocol.{statementOf, challenged}

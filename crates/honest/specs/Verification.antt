@@ -11,9 +11,9 @@ use Rattle.bits.specs.Bytes.{rowOf}
 use Rattle.keccak.specs.Sponge.{sha3-256}
 use Rattle.parties.specs.Parties.{heightOf}
 use Rattle.circuit.specs.Circuit.{Circuit}
-use Rattle.mpc.specs.Run.{Transcript}
-use Rattle.mpc.specs.Tapes.{andsOf, rowBytes, usedBits}
-use Rattle.mpc.specs.Showing.{correctionBits, rowBits, hidden, replayOf}
+use Rattle.plain.specs.Run.{Transcript}
+use Rattle.plain.specs.Tapes.{andsOf, rowBytes, usedBits}
+use Rattle.plain.specs.Showing.{correctionBits, rowBits, hidden, replayOf}
 use Rattle.hashing.specs.Inputs.{commitmentInput, commitmentsInput, onlineInput, allCommitmentsInput, allOnlineInput, transcriptInput}
 use Rattle.tree.specs.Tree.{leftChild, rightChild, nodeValue}
 use Rattle.party.specs.Derive.{seedRow, tapeRow}

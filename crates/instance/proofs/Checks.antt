@@ -17,7 +17,7 @@ use Rattle.bits.proofs.Tests.{and-true-left, and-true-right}
 use Rattle.bits.proofs.Copies.{part-cleared}
 use Rattle.parties.specs.Parties.{heightOf}
 use Rattle.circuit.specs.File.{circuitOf}
-use Rattle.mpc.specs.Tapes.{andsOf, withRow}
+use Rattle.plain.specs.Tapes.{andsOf, withRow}
 use Rattle.mpc.specs.Steps.{Known}
 use Rattle.mpc.proofs.Opened.{sized, circuit-inputs, circuit-outputs, circuit-ands, circuit-row}
 use Rattle.tree.specs.Tree.{openedBelow}

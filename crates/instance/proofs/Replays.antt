@@ -16,8 +16,8 @@ use Rattle.bits.proofs.Copies.{prefix-length}
 use Rattle.parties.specs.Parties.{heightOf}
 use Rattle.circuit.specs.File.{circuitOf}
 use Rattle.engine.specs.Steps.{packed, packedRows}
-use Rattle.mpc.specs.Tapes.{andsOf}
-use Rattle.mpc.specs.Showing.{correctionBits, Showing, rowsOf, replayOf}
+use Rattle.plain.specs.Tapes.{andsOf}
+use Rattle.plain.specs.Showing.{correctionBits, Showing, rowsOf, replayOf}
 use Rattle.mpc.specs.Steps.{Known, Begun, replayed, replayedValues}
 use Rattle.mpc.proofs.Worked.{replayed-rows, replayed-output}
 use Rattle.party.specs.Derive.{commitmentOf}

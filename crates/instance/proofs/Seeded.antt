@@ -14,7 +14,7 @@ use Rattle.bits.proofs.Rows.{row-length}
 use Rattle.parties.specs.Parties.{heightOf}
 use Rattle.parties.proofs.Counts.{Sizes, sizes, count-no}
 use Rattle.circuit.specs.File.{circuitOf}
-use Rattle.mpc.specs.Tapes.{rowBytes, usedBits}
+use Rattle.plain.specs.Tapes.{rowBytes, usedBits}
 use Rattle.mpc.specs.Steps.{Known}
 use Rattle.mpc.proofs.Opened.{sized, circuit-inputs, circuit-ands, circuit-row}
 use Rattle.tree.specs.Tree.{leavesBelow}

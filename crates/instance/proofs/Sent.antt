@@ -14,10 +14,10 @@ use Rattle.bits.proofs.Tabulate.{tabulate-cong}
 use Rattle.bits.proofs.Copies.{prefix-length}
 use Rattle.circuit.specs.File.{circuitOf}
 use Rattle.engine.specs.Steps.{Room, packed, packedRows}
-use Rattle.mpc.specs.Showing as shown
-use Rattle.mpc.specs.Showing.{correctionBits, honestRun, rowBits}
+use Rattle.plain.specs.Showing as shown
+use Rattle.plain.specs.Showing.{correctionBits, honestRun, rowBits}
 use Rattle.mpc.specs.Steps.{Known, Parties, Begun, worked}
-use Rattle.mpc.proofs.Lengths.{first-all, length-honest}
+use Rattle.plain.proofs.Lengths.{first-all, length-honest}
 use Rattle.mpc.proofs.Worked.{worked-corrections, worked-row, worked-rows}
 use Rattle.mpc.proofs.Opened.{sized, begun, circuit-outputs, circuit-ands, ands-low, room}
 use Rattle.mpc.proofs.Asks.{ands-few}

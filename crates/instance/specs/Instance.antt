@@ -11,9 +11,9 @@ use Rattle.bits.specs.Bytes.{rowOf}
 use Rattle.keccak.specs.Sponge.{sha3-256}
 use Rattle.parties.specs.Parties.{heightOf}
 use Rattle.circuit.specs.Circuit.{Circuit}
-use Rattle.mpc.specs.Run.{Transcript}
-use Rattle.mpc.specs.Tapes.{rowBytes, usedBits}
-use Rattle.mpc.specs.Showing.{correctionBits, maskedInputs, honestRun, rowBits, rowsOf}
+use Rattle.plain.specs.Run.{Transcript}
+use Rattle.plain.specs.Tapes.{rowBytes, usedBits}
+use Rattle.plain.specs.Showing.{correctionBits, maskedInputs, honestRun, rowBits, rowsOf}
 use Rattle.hashing.specs.Inputs.{commitmentsInput, onlineInput}
 use Rattle.tree.specs.Tree.{leavesBelow, siblingsBelow}
 use Rattle.party.specs.Derive.{seedRow, commitmentOf}

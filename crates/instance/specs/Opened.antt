@@ -9,9 +9,9 @@ use Rattle.bits.specs.Bits.{tabulate, oct, pack, unusedZero}
 use Rattle.bits.specs.Bytes.{sameBytes}
 use Rattle.parties.specs.Parties.{heightOf}
 use Rattle.circuit.specs.Circuit.{Circuit}
-use Rattle.mpc.specs.Run.{Transcript}
-use Rattle.mpc.specs.Tapes.{andsOf}
-use Rattle.mpc.specs.Showing.{rowsOf, hidden, Showing, replayOf}
+use Rattle.plain.specs.Run.{Transcript}
+use Rattle.plain.specs.Tapes.{andsOf}
+use Rattle.plain.specs.Showing.{rowsOf, hidden, Showing, replayOf}
 use Rattle.tree.specs.Tree.{openedBelow}
 use Rattle.party.specs.Derive.{commitmentOf}
 use Rattle.instance.specs.Instance.{Asked, opened, hiding, seedsOf, tapesOf, commitmentsDigest, onlineDigest, masterCommitments}

@@ -8,7 +8,7 @@ use lib.ListN.{length, take, drop}
 use Rattle.bits.specs.Bits.{oct}
 use Rattle.parties.specs.Parties.{heightOf}
 use Rattle.circuit.specs.Circuit.{Circuit}
-use Rattle.mpc.specs.Tapes.{andsOf}
+use Rattle.plain.specs.Tapes.{andsOf}
 use Rattle.instance.specs.Instance.{Asked, opened, hiding}
 
 -- the bytes of corrections that are sent

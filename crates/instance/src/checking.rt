@@ -7,7 +7,7 @@ ghost use lib.ListN.{length, replicate};
 ghost use Rattle.bits.specs.Bits.{oct, pack, unusedZero};
 ghost use Rattle.bits.specs.Bytes.{sameBytes};
 ghost use Rattle.circuit.specs.File.{maxGates, circuitOf};
-ghost use Rattle.mpc.specs.Showing.{rowsOf, replayOf};
+ghost use Rattle.plain.specs.Showing.{rowsOf, replayOf};
 ghost use Rattle.engine.specs.Steps.{wireCount};
 ghost use Rattle.mpc.specs.Steps.{Known, Parties, ShowingFits, TapesFit, prepared, replayed as «replayed-memory»};
 ghost use Rattle.instance.specs.Instance.{commitmentsDigest, onlineDigest, masterTapes, masterCommitments, hiding};

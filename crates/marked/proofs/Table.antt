@@ -19,9 +19,9 @@ use Rattle.circuit.specs.File.{withinLimits, rightLength, goodRecord, goodRecor
 use Rattle.circuit.specs.Chain.{walkFrom}
 use Rattle.circuit.specs.Operations.{readAnswer, readOp}
 use Rattle.parties.specs.Parties.{heightOf, isPartyCount}
-use Rattle.mpc.specs.Run.{corrections, corrected, broadcast, outputs, run}
-use Rattle.mpc.specs.Tapes.{inputMasks, outputMasks, productShares, usedBits, unusedRows, withRow}
-use Rattle.mpc.specs.Showing.{correctionBits, maskedInput, maskedInputs, runWith, runOn, honestRun, rowBits, rowsOf, shownBits, firstBits, showing}
+use Rattle.plain.specs.Run.{corrections, corrected, broadcast, outputs, run}
+use Rattle.plain.specs.Tapes.{inputMasks, outputMasks, productShares, usedBits, unusedRows, withRow}
+use Rattle.plain.specs.Showing.{correctionBits, maskedInput, maskedInputs, runWith, runOn, honestRun, rowBits, rowsOf, shownBits, firstBits, showing}
 use Rattle.mpc.specs.Operations.{prepareLegal, prepareOp, ran, runLegal, runOp, holdsShowing, showLegal, showOp}
 use Rattle.cover.specs.Cover.{some, those, up, isAbove, hasLeaf, hidden, unhidden, opened, cover}
 use Rattle.cover.specs.Masters.{leastFrom, height, coverBytes}

@@ -10,7 +10,7 @@ use Rattle.refusal.specs.Outcome.{Answer, refusalAt, refusal, success, Outcome,
 use Rattle.circuit.specs.Circuit.{evaluate}
 use Rattle.circuit.specs.File.{circuitOf}
 use Rattle.circuit.specs.Operations.{readOp}
-use Rattle.mpc.specs.Showing.{Showing}
+use Rattle.plain.specs.Showing.{Showing}
 use Rattle.mpc.specs.Operations.{prepareOp, runOp, showOp}
 use Rattle.choice.specs.Challenge.{streamOf, hiddenParties}
 use Rattle.seeds.specs.Operations.{maxMessage}

@@ -21,10 +21,10 @@ use Rattle.circuit.specs.File.{inputsOf, outputsOf, gatesOf, headOf, outputWire
 use Rattle.circuit.specs.Steps.{gateOf, gatesFrom, wired, Legal, walks}
 use Rattle.circuit.proofs.Chain.{gates-on, gates-end, ands-on, ands-none, andOne-le, put-other}
 use Rattle.circuit.proofs.Run.{wired-reads, output-low, goodChain-walks, gates-order}
-use Rattle.mpc.specs.Run.{Column, corrections, corrected, Channel, asSent, asShown, run}
-use Rattle.mpc.specs.Tapes.{inputMasks, outputMasks, productShares}
-use Rattle.mpc.specs.Showing as shown
-use Rattle.mpc.specs.Showing.{correctionBits, maskedInput, runWith, runOn, honestRun, rowBits, rowsOf, firstBits}
+use Rattle.plain.specs.Run.{Column, corrections, corrected, Channel, asSent, asShown, run}
+use Rattle.plain.specs.Tapes.{inputMasks, outputMasks, productShares}
+use Rattle.plain.specs.Showing as shown
+use Rattle.plain.specs.Showing.{correctionBits, maskedInput, runWith, runOn, honestRun, rowBits, rowsOf, firstBits}
 use Rattle.engine.specs.Steps.{valueAt, correctionAt, at, fill, unpacked, packed, packedRows, loadedTapes, maskByte, maskedInputs, walked, outputsBroadcast, outputValues}
 use Rattle.engine.proofs.Fill.{fill-at}
 use Rattle.mpc.proofs.Holding.{Holds}

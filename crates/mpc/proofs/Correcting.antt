@@ -16,7 +16,7 @@ use Rattle.circuit.specs.Steps.{gateOf, placed, andOne, gatesFrom, within, wire
 use Rattle.circuit.specs.declared.Gate.{Gate}
 use Rattle.circuit.specs.declared.Gate.the-variants.{Xor, And, Inv}
 use Rattle.circuit.proofs.Chain.{here, gates-on, gates-end, ands-on, ands-none}
-use Rattle.mpc.specs.Run.{Column, next, plus, broadcast, asShown, corrections}
+use Rattle.plain.specs.Run.{Column, next, plus, broadcast, asShown, corrections}
 use Rattle.engine.specs.Steps.{shareAt, valueAt, correctionAt, maskAt, broadcastAt, at, fill, gateStep, xorStep, invStep, andStep, correctStep, broadcastStep, takeStep, broadcastByte, maskedProduct, walked}
 use Rattle.engine.proofs.Fill.{fill-other}
 use Rattle.mpc.proofs.Holding.{Holds, wrote-other}

@@ -15,7 +15,7 @@ use Rattle.bits.proofs.Bitwise.{odd-xor}
 use Rattle.bits.proofs.Numbers.{eq-or-ne}
 use Rattle.bits.proofs.Xor.{xor-assoc, xor-false}
 use Rattle.circuit.specs.Circuit.{put}
-use Rattle.mpc.specs.Run.{Column, next}
+use Rattle.plain.specs.Run.{Column, next}
 use Rattle.engine.specs.Steps.{shareAt, valueAt, maskAt, broadcastAt, at, fill, xorBytes}
 use Rattle.engine.proofs.Fill.{fill-length, fill-other, fill-at}
 

@@ -9,6 +9,5 @@ pub mod Opened
 pub mod Tested
 pub mod Asks
 pub mod Worked
-pub mod Lengths
 pub mod Prepared
 pub mod Ran

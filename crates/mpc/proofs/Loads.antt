@@ -19,7 +19,7 @@ use Rattle.bits.proofs.Numbers.{eq-or-ne, lt-or-le, odd-bitVal}
 use Rattle.bits.proofs.Packing.{unused-all}
 use Rattle.bits.proofs.Xor.{xors-cong, xors-false}
 use Rattle.circuit.proofs.Chain.{zeros-at}
-use Rattle.mpc.specs.Run.{Column, corrected}
+use Rattle.plain.specs.Run.{Column, corrected}
 use Rattle.engine.specs.Steps.{shareAt, valueAt, maskAt, broadcastAt, at, fill, unpacked, loadedRow, loadedTapes, maskByte, maskedInputs}
 use Rattle.engine.proofs.Fill.{fill-length, fill-other, fill-at}
 use Rattle.mpc.proofs.Holding.{Holds}

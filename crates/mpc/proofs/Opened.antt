@@ -28,7 +28,7 @@ use Rattle.circuit.proofs.Answered.{gates-count, read-legal, read-success, refu
 use Rattle.circuit.proofs.Outcomes.{legal-passed, legal-sizes}
 use Rattle.circuit.proofs.Run.{wired-reads, goodChain-walks, gates-order}
 use Rattle.engine.specs.Steps.{wireCount, Room, Ready, Ended}
-use Rattle.mpc.specs.Tapes.{andsOf, rowBytes}
+use Rattle.plain.specs.Tapes.{andsOf, rowBytes}
 use Rattle.mpc.specs.Steps.{Known, Parties, Begun}
 
 -- the numbers that the code carries, in one

@@ -13,8 +13,8 @@ use Rattle.bits.specs.Bits.{tabulate, odd, fromBits, oct, pack}
 use Rattle.bits.proofs.Numbers.{lt-or-le, fromBits-cong}
 use Rattle.bits.proofs.Tabulate.{length-tabulate, getD-tabulate, tabulate-cong}
 use Rattle.circuit.specs.File.{outputWire}
-use Rattle.mpc.specs.Run.{Column, Transcript}
-use Rattle.mpc.specs.Showing.{rowBits, rowsOf, firstBits}
+use Rattle.plain.specs.Run.{Column, Transcript}
+use Rattle.plain.specs.Showing.{rowBits, rowsOf, firstBits}
 use Rattle.engine.specs.Steps.{broadcastAt, at, fill, packedByte, packed, packedRows, unmasked, outputsBroadcast, outputValues}
 use Rattle.engine.proofs.Fill.{fill-at}
 use Rattle.mpc.proofs.WalkBits.{blank, Gives}

@@ -20,7 +20,7 @@ use Rattle.circuit.specs.declared.Sizes.{Sizes}
 use Rattle.circuit.specs.declared.ReadAnswer.{ReadAnswer}
 use Rattle.circuit.specs.declared.ReadAnswer.the-variants as readAnswer
 use Rattle.circuit.proofs.Answered.{fell, held}
-use Rattle.mpc.specs.Tapes.{andsOf, unusedRows}
+use Rattle.plain.specs.Tapes.{andsOf, unusedRows}
 use Rattle.mpc.specs.Operations.{ran, runLegal, runOp}
 use Rattle.mpc.specs.Answers.{outcome}
 use Rattle.mpc.specs.Steps.{Known, WitnessFits, RunLent}

@@ -16,7 +16,7 @@ use Rattle.bits.specs.Xor.{_⊕_, xors}
 use Rattle.bits.proofs.Bitwise.{odd-xor, odd-and}
 use Rattle.bits.proofs.Numbers.{eq-or-ne, odd-bitVal}
 use Rattle.circuit.specs.Circuit.{put}
-use Rattle.mpc.specs.Run.{Column, next, plus, broadcast, Channel}
+use Rattle.plain.specs.Run.{Column, next, plus, broadcast, Channel}
 use Rattle.engine.specs.Steps.{shareAt, valueAt, correctionAt, maskAt, broadcastAt, at, fill, xorBytes, maskByte, xorStep, invStep, correctionByte, correctStep, broadcastByte, broadcastStep, maskedProduct, takeStep, andStep}
 use Rattle.engine.proofs.Fill.{fill-other}
 use Rattle.mpc.proofs.Holding.{put-at, odd-xorBytes, Holds, wire-step, sent-step}

@@ -11,7 +11,7 @@ use Rattle.bits.specs.Bits.{oct, unusedZero}
 use Rattle.bits.specs.Bytes.{rowOf}
 use Rattle.bits.proofs.Tests.{and-true-left, and-true-right}
 use Rattle.circuit.specs.File.{circuitOf}
-use Rattle.mpc.specs.Tapes.{andsOf, usedBits, unusedRows}
+use Rattle.plain.specs.Tapes.{andsOf, usedBits, unusedRows}
 use Rattle.mpc.specs.Steps.{Known}
 use Rattle.mpc.proofs.Opened.{sized, circuit-inputs, circuit-ands, circuit-row}
 

@@ -18,7 +18,7 @@ use Rattle.circuit.specs.Steps.{gateOf, placed, andOne, gatesFrom, within, wire
 use Rattle.circuit.specs.declared.Gate.{Gate}
 use Rattle.circuit.specs.declared.Gate.the-variants.{Xor, And, Inv}
 use Rattle.circuit.proofs.Chain.{here, gates-on, gates-end, ands-on, ands-none}
-use Rattle.mpc.specs.Run.{Column, next, plus, broadcast, Channel, corrections, corrected, Transcript, outputs, run}
+use Rattle.plain.specs.Run.{Column, next, plus, broadcast, Channel, corrections, corrected, Transcript, outputs, run}
 use Rattle.engine.specs.Steps.{shareAt, valueAt, broadcastAt, at, gateStep, xorStep, invStep, andStep, correctStep, walked, outputByte, outputStep, unmasked, outputsBroadcast}
 use Rattle.engine.proofs.Fill.{fill-length, fill-other, fill-at}
 use Rattle.mpc.proofs.Holding.{put-at, put-column, odd-xorBytes, Holds}

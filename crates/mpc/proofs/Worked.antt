@@ -9,8 +9,8 @@ use Rattle.bits.specs.Bits.{oct, pack, bitAt, unusedZero}
 use Rattle.circuit.specs.File.{headOf, circuitOf}
 use Rattle.circuit.specs.declared.Sizes.{Sizes}
 use Rattle.engine.specs.Steps.{wireCount, unpacked, packed, packedRows, loadedTapes, maskedInputs, walked, outputsBroadcast, outputValues}
-use Rattle.mpc.specs.Showing as shown
-use Rattle.mpc.specs.Showing.{correctionBits, runOn, honestRun, rowBits, rowsOf, firstBits, Showing, replayOf}
+use Rattle.plain.specs.Showing as shown
+use Rattle.plain.specs.Showing.{correctionBits, runOn, honestRun, rowBits, rowsOf, firstBits, Showing, replayOf}
 use Rattle.mpc.specs.Operations.{ran}
 use Rattle.mpc.specs.Steps.{Known, Begun, loaded, gatesRun, outputsRun, valuesRun, prepared, worked, opened, replayed, replayedValues}
 use Rattle.mpc.proofs.Agreement.{prepare-agrees, masked-agrees, run-masked-agrees, run-rows-agree, run-output-agrees, show-corrections-agree, show-row-agrees, show-rows-agree, replay-rows-agree, replay-output-agrees}

@@ -14,9 +14,9 @@ use Rattle.parties.specs.Parties.{isPartyCount}
 use Rattle.circuit.specs.Circuit.{Circuit}
 use Rattle.circuit.specs.File.{readCircuit}
 use Rattle.circuit.specs.Operations.{onLegal, holds}
-use Rattle.mpc.specs.Run.{Transcript}
-use Rattle.mpc.specs.Tapes.{andsOf, tapeRow, unusedRows}
-use Rattle.mpc.specs.Showing.{correctionBits, maskedInputs, runOn, rowsOf, Showing, showing, replayOf}
+use Rattle.plain.specs.Run.{Transcript}
+use Rattle.plain.specs.Tapes.{andsOf, tapeRow, unusedRows}
+use Rattle.plain.specs.Showing.{correctionBits, maskedInputs, runOn, rowsOf, Showing, showing, replayOf}
 
 -- n rows for k bits each
 abbrev pub holdsRows : ℕ → ℕ → List ℕ → Bool

@@ -11,7 +11,7 @@ use Rattle.circuit.specs.File.{headOf, gatesInOrder}
 use Rattle.circuit.specs.Steps.{Legal}
 use Rattle.circuit.specs.declared.Sizes.{Sizes}
 use Rattle.engine.specs.Steps.{wireCount, walked, outputsBroadcast, outputValues, unpacked, loadedTapes, maskedInputs}
-use Rattle.mpc.specs.Showing.{Showing}
+use Rattle.plain.specs.Showing.{Showing}
 
 -- a legal file with its I, O, G and A
 pub record Known (s : List ℕ) (z : Sizes) : Type 0 where

@@ -5,7 +5,7 @@ ghost use Prim.Native.Nat.{_+_};
 ghost use lib.ListN.{length};
 ghost use Rattle.bits.specs.Bits.{oct, pack};
 ghost use Rattle.circuit.specs.File.{circuitOf};
-ghost use Rattle.mpc.specs.Showing.{correctionBits};
+ghost use Rattle.plain.specs.Showing.{correctionBits};
 ghost use Rattle.mpc.specs.Operations.{prepareLegal, prepareOp};
 ghost use Rattle.mpc.specs.Answers.{outcome};
 ghost use Rattle.mpc.specs.Steps.{Known, Parties, Begun, TapesFit, prepared};

@@ -6,7 +6,7 @@ ghost use lib.Dec.{eqb};
 ghost use lib.ListN.{length};
 ghost use Rattle.bits.specs.Bits.{oct};
 ghost use Rattle.circuit.specs.File.{circuitOf};
-ghost use Rattle.mpc.specs.Tapes.{unusedRows};
+ghost use Rattle.plain.specs.Tapes.{unusedRows};
 ghost use Rattle.mpc.specs.Steps.{Known};
 use circuit::Sizes;
 

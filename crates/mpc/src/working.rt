@@ -5,7 +5,7 @@ ghost use lib.ListN.{length};
 ghost use Rattle.bits.specs.Bits.{oct};
 ghost use Rattle.circuit.specs.File.{circuitOf};
 ghost use Rattle.engine.specs.Steps.{wireCount, packed, maskedInputs};
-ghost use Rattle.mpc.specs.Showing.{maskedInputs as «masked-inputs»};
+ghost use Rattle.plain.specs.Showing.{maskedInputs as «masked-inputs»};
 ghost use Rattle.mpc.specs.Steps.{Known, Parties, Begun, TapesFit, WitnessFits, ShowingFits, loaded, gatesRun, outputsRun, valuesRun, worked, replayed, replayedValues};
 use circuit::Sizes;
 use engine::chain::broadcast_outputs;

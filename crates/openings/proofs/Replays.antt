@@ -16,7 +16,7 @@ use Rattle.parties.specs.Parties.{isPartyCount}
 use Rattle.circuit.specs.Circuit.{Circuit}
 use Rattle.circuit.specs.File.{legal, readCircuit}
 use Rattle.circuit.specs.Operations.{holds, evaluateLegal, evaluateOp}
-use Rattle.mpc.specs.Showing.{rowsOf, Showing, replayOf}
+use Rattle.plain.specs.Showing.{rowsOf, Showing, replayOf}
 use Rattle.mpc.specs.Operations.{holdsRows, broadcastBits, holdsShowing, unusedShowing, replayLegal, replayOp}
 use Rattle.openings.specs.Openings.{unmasked, WitnessOf, TwoOpeningsReplayed}
 use Rattle.openings.proofs.Theorem.{two-openings}

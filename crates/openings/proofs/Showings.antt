@@ -15,8 +15,8 @@ use Rattle.bits.proofs.Rows.{row-inside, row-fits}
 use Rattle.bits.proofs.Tabulate.{getD-tabulate, tabulate-cong}
 use Rattle.bits.proofs.Xor.{xor-self-right}
 use Rattle.circuit.specs.Circuit.{Circuit}
-use Rattle.mpc.specs.Tapes.{rowBytes, tapeRow, inputMasks, withRow}
-use Rattle.mpc.specs.Showing.{maskedInput, maskedInputs, hidden, showing}
+use Rattle.plain.specs.Tapes.{rowBytes, tapeRow, inputMasks, withRow}
+use Rattle.plain.specs.Showing.{maskedInput, maskedInputs, hidden, showing}
 use Rattle.hiding.specs.Hiding.{Witness}
 use Rattle.hiding.proofs.Rows.{row-again, row-other}
 use Rattle.openings.specs.Openings.{unmasked}

@@ -14,15 +14,15 @@ use Rattle.bits.proofs.Packing.{bitAt-pack, length-pack, pack-lt, unused-pack, 
 use Rattle.bits.proofs.Tabulate.{length-tabulate, getD-tabulate, getD-tabulate-end}
 use Rattle.bits.proofs.Xor.{xor-self-right, xors-false}
 use Rattle.circuit.specs.Circuit.{Circuit}
-use Rattle.mpc.specs.Run.{corrected, asSent, Transcript}
-use Rattle.mpc.specs.Tapes.{andsOf, inputMasks, outputMasks, productShares}
-use Rattle.mpc.specs.Showing.{correctionBits, maskedInput, runWith, runOn, honestRun, rowBits, rowsOf, replayOf}
+use Rattle.plain.specs.Run.{corrected, asSent, Transcript}
+use Rattle.plain.specs.Tapes.{andsOf, inputMasks, outputMasks, productShares}
+use Rattle.plain.specs.Showing.{correctionBits, maskedInput, runWith, runOn, honestRun, rowBits, rowsOf, replayOf}
 use Rattle.hiding.specs.Hiding.{Witness}
 use Rattle.hiding.proofs.Masked.{bit}
 use Rattle.hiding.proofs.Replay.{inputs-shown, masks-shown, products-shown}
 use Rattle.hiding.proofs.Rows.{inputs-end}
 use Rattle.hiding.proofs.RunLaws.{run-evaluates}
-use Rattle.mpc.proofs.Lengths.{length-row}
+use Rattle.plain.proofs.Lengths.{length-row}
 use Rattle.openings.specs.Openings.{Parts, Right, opening, replayed, unmasked, TwoOpenings}
 use Rattle.openings.proofs.Twice.{Held, OthersHold, run-twice, rows-bits}
 

@@ -13,8 +13,8 @@ use Rattle.bits.proofs.Packing.{length-pack}
 use Rattle.bits.proofs.Rows.{row-tabulate}
 use Rattle.circuit.specs.Circuit.{Gate, xor, and, inv, put}
 use Rattle.circuit.proofs.Chain.{put-other}
-use Rattle.mpc.specs.Run.{Column, next, plus, broadcast, Channel, asSent, asShown, Transcript, outputs, run}
-use Rattle.mpc.specs.Showing.{rowBits, rowsOf}
+use Rattle.plain.specs.Run.{Column, next, plus, broadcast, Channel, asSent, asShown, Transcript, outputs, run}
+use Rattle.plain.specs.Showing.{rowBits, rowsOf}
 use Rattle.hiding.proofs.Columns.{Others, all-agree}
 use Rattle.hiding.proofs.Fixed.{head-eq, tail-eq}
 use Rattle.hiding.proofs.Replay.{others-put, others-broadcast}

@@ -10,9 +10,9 @@ use Rattle.circuit.specs.Circuit.{put, ands, evalGates, evaluate}
 use Rattle.circuit.specs.Chain.{walkFrom}
 use Rattle.circuit.specs.File.{withinLimits, rightLength, goodRecord, goodRecords, linkOf, chainWalk, onWalk, chainFrom, gateAt, gatesInOrder, readsWritten, goodOutputs, goodWires, circuitOf, readCircuit}
 use Rattle.circuit.specs.Operations.{evaluateLegal, evaluateOp}
-use Rattle.mpc.specs.Run.{corrections, corrected, broadcast, outputs, run}
-use Rattle.mpc.specs.Tapes.{inputMasks, outputMasks, productShares, usedBits, unusedRows, withRow}
-use Rattle.mpc.specs.Showing.{correctionBits, runWith, rowBits, rowsOf, replayOf}
+use Rattle.plain.specs.Run.{corrections, corrected, broadcast, outputs, run}
+use Rattle.plain.specs.Tapes.{inputMasks, outputMasks, productShares, usedBits, unusedRows, withRow}
+use Rattle.plain.specs.Showing.{correctionBits, runWith, rowBits, rowsOf, replayOf}
 use Rattle.mpc.specs.Operations.{prepareLegal, prepareOp, holdsShowing, unusedShowing, replayLegal, replayOp}
 use Rattle.openings.specs.Openings.{opening, unmasked, WrongCorrections}
 

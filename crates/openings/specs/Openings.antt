@@ -15,9 +15,9 @@ use Rattle.refusal.specs.Outcome.{done}
 use Rattle.circuit.specs.Circuit.{Circuit, evaluate}
 use Rattle.circuit.specs.File.{legal, circuitOf, readCircuit}
 use Rattle.circuit.specs.Operations.{holds, evaluateOp}
-use Rattle.mpc.specs.Run.{Transcript}
-use Rattle.mpc.specs.Tapes.{andsOf, rowBytes, inputMasks}
-use Rattle.mpc.specs.Showing.{correctionBits, rowsOf, hidden, Showing, replayOf}
+use Rattle.plain.specs.Run.{Transcript}
+use Rattle.plain.specs.Tapes.{andsOf, rowBytes, inputMasks}
+use Rattle.plain.specs.Showing.{correctionBits, rowsOf, hidden, Showing, replayOf}
 use Rattle.mpc.specs.Operations.{broadcastBits, prepareOp, replayOp}
 use Rattle.hiding.specs.Hiding.{Witness}
 

@@ -6,8 +6,8 @@ use mathlib.Core.Logic.{_≢_}
 use Prim.Native.Nat.{ℕ, _*_, _<_}
 use lib.ListN.{length}
 use Rattle.circuit.specs.Circuit.{Circuit}
-use Rattle.mpc.specs.Tapes.{rowBytes, tapeRow, withRow}
-use Rattle.mpc.specs.Showing.{Showing, showing}
+use Rattle.plain.specs.Tapes.{rowBytes, tapeRow, withRow}
+use Rattle.plain.specs.Showing.{Showing, showing}
 use Rattle.hiding.specs.Hiding.{Witness}
 use Rattle.openings.specs.Openings.{unmasked}
 

@@ -14,9 +14,9 @@ use Rattle.bits.proofs.Tabulate.{length-tabulate}
 use Rattle.keccak.proofs.Lengths.{length-sha3-256}
 use Rattle.parties.specs.Parties.{heightOf}
 use Rattle.circuit.specs.Circuit.{Circuit}
-use Rattle.mpc.specs.Tapes.{andsOf}
-use Rattle.mpc.specs.Showing.{correctionBits, maskedInputs, rowBits}
-use Rattle.mpc.proofs.Lengths.{length-corrections, length-honest}
+use Rattle.plain.specs.Tapes.{andsOf}
+use Rattle.plain.specs.Showing.{correctionBits, maskedInputs, rowBits}
+use Rattle.plain.proofs.Lengths.{length-corrections, length-honest}
 use Rattle.tree.specs.Tree.{siblingsBelow}
 use Rattle.party.specs.Derive.{commitmentOf}
 use Rattle.tree.proofs.Lengths.{length-siblings}

@@ -14,7 +14,7 @@ use Rattle.bits.proofs.Numbers.{lt-or-le}
 use Rattle.parties.specs.Parties.{heightOf, isPartyCount}
 use Rattle.parties.proofs.Counts.{sizes}
 use Rattle.circuit.specs.Circuit.{Circuit}
-use Rattle.mpc.specs.Tapes.{andsOf}
+use Rattle.plain.specs.Tapes.{andsOf}
 use Rattle.cover.specs.Masters.{height, masterOf, coverBytes}
 use Rattle.cover.proofs.Covering.{cover-length}
 use Rattle.cover.proofs.Least.{least-height}

@@ -14,7 +14,7 @@ use Rattle.circuit.specs.Circuit.{Circuit}
 use Rattle.circuit.specs.File.{circuitOf}
 use Rattle.cover.specs.Masters.{coverBytes}
 use Rattle.mpc.specs.Steps.{Known}
-use Rattle.mpc.specs.Tapes.{andsOf}
+use Rattle.plain.specs.Tapes.{andsOf}
 use Rattle.mpc.proofs.Asks.{ands-few, broadcasts-few}
 use Rattle.mpc.proofs.Opened.{sized, circuit-inputs, circuit-outputs, circuit-ands}
 use Rattle.instance.specs.Instance.{Asked, opened, hiding}

@@ -9,7 +9,7 @@ use Rattle.bits.specs.Bits.{oct}
 use Rattle.bits.specs.Bytes.{leAt, leBytes}
 use Rattle.parties.specs.Parties.{heightOf, isPartyCount}
 use Rattle.circuit.specs.Circuit.{Circuit}
-use Rattle.mpc.specs.Tapes.{andsOf}
+use Rattle.plain.specs.Tapes.{andsOf}
 use Rattle.seeds.specs.Operations.{areCounts}
 use Rattle.cover.specs.Masters.{coverBytes, masterFrom}
 use Rattle.instance.specs.Instance.{Asked, isChosen}

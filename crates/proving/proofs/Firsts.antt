@@ -16,7 +16,7 @@ use Rattle.keccak.proofs.Absorbing.{Bytes}
 use Rattle.keccak.proofs.Steps.{squeezes-length}
 use Rattle.keccak.proofs.Lengths.{length-sha3-256}
 use Rattle.circuit.specs.Circuit.{Circuit}
-use Rattle.mpc.specs.Showing.{rowsOf}
+use Rattle.plain.specs.Showing.{rowsOf}
 use Rattle.hashing.specs.Inputs.{commitmentsInput, onlineInput, allCommitmentsInput, allOnlineInput}
 use Rattle.hashing.specs.Digest.{transcriptOf}
 use Rattle.hashing.specs.Steps.{taken, given}

@@ -13,7 +13,7 @@ use Rattle.parties.specs.Parties.{heightOf}
 use Rattle.parties.proofs.Counts.{height-small}
 use Rattle.circuit.specs.File.{circuitOf}
 use Rattle.mpc.specs.Steps.{Known}
-use Rattle.mpc.specs.Tapes.{andsOf}
+use Rattle.plain.specs.Tapes.{andsOf}
 use Rattle.mpc.proofs.Opened.{sized, circuit-inputs, circuit-outputs, circuit-ands, ands-low}
 use Rattle.mpc.proofs.Asks.{small}
 use Rattle.instance.specs.Steps.{Tree}

@@ -25,8 +25,8 @@ use Rattle.circuit.specs.declared.ReadAnswer.{ReadAnswer}
 use Rattle.circuit.specs.declared.ReadAnswer.the-variants as readAnswer
 use Rattle.circuit.proofs.Answered.{fell, held}
 use Rattle.engine.specs.Steps.{packed, packedRows}
-use Rattle.mpc.specs.Tapes.{andsOf, tapeRow, unusedRows}
-use Rattle.mpc.specs.Showing.{Showing, rowsOf, replayOf}
+use Rattle.plain.specs.Tapes.{andsOf, tapeRow, unusedRows}
+use Rattle.plain.specs.Showing.{Showing, rowsOf, replayOf}
 use Rattle.mpc.specs.Operations.{holdsRows, holdsShowing, broadcastBits, unusedShowing, replayLegal, replayOp}
 use Rattle.mpc.specs.Answers.{outcome}
 use Rattle.mpc.specs.Steps.{Known, Begun, ShowingFits, replayed, replayedValues}

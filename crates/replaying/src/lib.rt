@@ -9,7 +9,7 @@ ghost use Rattle.bits.specs.Bits.{oct, pack, unusedZero};
 ghost use Rattle.bits.specs.Bytes.{sameBytes};
 ghost use Rattle.circuit.specs.File.{maxInputs, maxOutputs, maxGates, circuitOf};
 ghost use Rattle.engine.specs.Steps.{Room, packed, packedRows};
-ghost use Rattle.mpc.specs.Showing.{rowsOf, replayOf};
+ghost use Rattle.plain.specs.Showing.{rowsOf, replayOf};
 ghost use Rattle.mpc.specs.Operations.{unusedShowing, replayLegal, replayOp};
 ghost use Rattle.mpc.specs.Answers.{outcome};
 ghost use Rattle.mpc.specs.Steps.{Known, Parties, Begun, ShowingFits};

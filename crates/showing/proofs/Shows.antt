@@ -28,9 +28,9 @@ use Rattle.circuit.specs.declared.ReadAnswer.the-variants as readAnswer
 use Rattle.circuit.proofs.Answered.{gates-count, fell, held}
 use Rattle.circuit.proofs.Run.{goodChain-walks, gates-order}
 use Rattle.engine.specs.Steps.{packed}
-use Rattle.mpc.specs.Tapes.{andsOf, unusedRows, withRow}
-use Rattle.mpc.specs.Showing as shown
-use Rattle.mpc.specs.Showing.{correctionBits, honestRun, rowBits, shownBits, firstBits, Showing, hidden, showing}
+use Rattle.plain.specs.Tapes.{andsOf, unusedRows, withRow}
+use Rattle.plain.specs.Showing as shown
+use Rattle.plain.specs.Showing.{correctionBits, honestRun, rowBits, shownBits, firstBits, Showing, hidden, showing}
 use Rattle.mpc.specs.Operations.{holdsRows, tapeBits, partsOf, holdsShowing, showLegal, showOp}
 use Rattle.mpc.specs.Answers.{outcome}
 use Rattle.mpc.specs.Steps.{Known, Begun, WitnessFits, TapesFit, ShowingFits, worked}

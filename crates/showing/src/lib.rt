@@ -9,7 +9,7 @@ ghost use Rattle.bits.specs.Bits.{oct};
 ghost use Rattle.circuit.specs.File.{maxInputs, maxOutputs, maxGates, headOf, circuitOf};
 ghost use Rattle.circuit.specs.Steps.{maxWires};
 ghost use Rattle.engine.specs.Steps.{packed};
-ghost use Rattle.mpc.specs.Showing.{shownBits, showing};
+ghost use Rattle.plain.specs.Showing.{shownBits, showing};
 ghost use Rattle.mpc.specs.Operations.{partsOf, showLegal, showOp};
 ghost use Rattle.mpc.specs.Answers.{outcome};
 ghost use Rattle.mpc.specs.Steps.{Known, Parties, Begun, WitnessFits, TapesFit, ShowingFits};

@@ -6,7 +6,7 @@ use native.Mathlib.Omega.{arith}
 use lib.ListN.{length, drop, replicate}
 use Rattle.bits.specs.Bits.{oct}
 use Rattle.bits.proofs.Copies.{prefix-length}
-use Rattle.mpc.specs.Showing.{Showing}
+use Rattle.plain.specs.Showing.{Showing}
 use Rattle.mpc.specs.Steps.{replayed}
 use Rattle.mpc.proofs.Opened.{ands-low}
 use Rattle.instance.proofs.Trees.{tree-parties, tree-low}

@@ -9,7 +9,7 @@ use lib.ListN.{length, take}
 use Rattle.bits.specs.Bits.{tabulate}
 use Rattle.bits.proofs.Rows.{row-fits, part-length, rows-none, rows-turn}
 use Rattle.circuit.specs.File.{circuitOf}
-use Rattle.mpc.specs.Tapes.{rowBytes, usedBits}
+use Rattle.plain.specs.Tapes.{rowBytes, usedBits}
 use Rattle.mpc.proofs.Opened.{ands-low}
 use Rattle.party.specs.Derive.{tapeRow}
 use Rattle.instance.specs.Instance.{seedOf}

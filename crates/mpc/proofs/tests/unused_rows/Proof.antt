@@ -4,7 +4,7 @@ use mathlib.Core.Path.{_≡_, ap, _∙_}
 use native.Mathlib.Omega.{arith}
 use Prim.Native.Nat.{_-_, _≤_}
 use Rattle.circuit.specs.File.{circuitOf}
-use Rattle.mpc.specs.Tapes.{unusedRows}
+use Rattle.plain.specs.Tapes.{unusedRows}
 use Rattle.mpc.proofs.Opened.{ands-low}
 use Rattle.mpc.proofs.Tested.{unused-none, unused-turn}
 use Rattle.mpc.proofs.tests.unused_rows.Statement.{statement}

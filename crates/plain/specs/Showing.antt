@@ -8,8 +8,8 @@ use lib.ListN.{length, getD, take, replicate}
 use Rattle.bits.specs.Bits.{tabulate, oct, pack, bitAt}
 use Rattle.bits.specs.Xor.{_⊕_, xors}
 use Rattle.circuit.specs.Circuit.{Circuit, ands}
-use Rattle.mpc.specs.Run.{Column, corrections, corrected, Channel, asSent, asShown, Transcript, run}
-use Rattle.mpc.specs.Tapes.{andsOf, rowBytes, inputMasks, outputMasks, productShares, withRow}
+use Rattle.plain.specs.Run.{Column, corrections, corrected, Channel, asSent, asShown, Transcript, run}
+use Rattle.plain.specs.Tapes.{andsOf, rowBytes, inputMasks, outputMasks, productShares, withRow}
 
 -- the correction bits of the AND gates in chain order
 unfoldable pub correctionBits : Circuit → ℕ → List ℕ → List Bool

@@ -11,9 +11,9 @@ use lib.Dec.{ltb}
 use lib.ListN.{length, getD}
 use Rattle.bits.proofs.Tabulate.{tabulate-cong, tabulate-getD}
 use Rattle.circuit.specs.Circuit.{Gate, xor, and, inv, Circuit, ands}
-use Rattle.mpc.specs.Run.{Column, next, corrections, Channel, outputs, run}
-use Rattle.mpc.specs.Tapes.{andsOf}
-use Rattle.mpc.specs.Showing.{runWith, runOn, honestRun, rowBits, firstBits}
+use Rattle.plain.specs.Run.{Column, next, corrections, Channel, outputs, run}
+use Rattle.plain.specs.Tapes.{andsOf}
+use Rattle.plain.specs.Showing.{runWith, runOn, honestRun, rowBits, firstBits}
 
 -- a correction for each AND gate
 pub length-corrections : (n : ℕ) (gs : List Gate) (o z s : ℕ → Column) → length (corrections n gs o z s) ≡ ands gs

@@ -8,7 +8,7 @@ use lib.ListN.{length, take, drop, replicate}
 use Rattle.bits.specs.Bits.{oct, bitAt, unusedZero}
 use Rattle.bits.specs.Bytes.{rowOf}
 use Rattle.circuit.specs.Circuit.{Circuit, ands}
-use Rattle.mpc.specs.Run.{Column}
+use Rattle.plain.specs.Run.{Column}
 
 -- A
 abbrev pub andsOf : Circuit → ℕ
