@@ -10,8 +10,10 @@ use lib.ListN.{length}
 use borrow.Author.Tests.{le-leb, eqb-true}
 use Rattle.bits.proofs.Tests.{and-true-left, and-true-right}
 use Rattle.circuit.specs.Circuit as paper
-use Rattle.circuit.specs.Steps.{walks}
-use Rattle.circuit.specs.File.{gatesOf, nextOf, chainFrom, gateAt, goodRecord, readsWritten}
+use Rattle.circuit.specs.Steps.{walks, gateAt, goodRecord}
+use Rattle.circuit.specs.Fields as form
+use Rattle.circuit.specs.FieldSteps as steps
+use Rattle.circuit.specs.File.{gatesOf, nextOf, chainFrom, readsWritten}
 use Rattle.bits.specs.Counting.{count}
 use Rattle.bristol.specs.Rules.{GateLine, xor, and, inv, writes, written, readable, writable, fitsBelow}
 use Rattle.bristol.specs.Conversion.{asGate, slotOf, firstSlot}
@@ -32,14 +34,14 @@ module _ (s : List ℕ) (I : ℕ) where
 
   -- the chain visits them all and ends
   pub linked-walks : (gs : List GateLine) → Linked gs → walks s (length gs) (firstSlot I gs) ≡ true
-  unfolding Linked walks firstSlot
+  unfolding Linked steps.walks firstSlot
   linked-walks [] l = refl
   linked-walks (g ∷ gs) l =
       rw (le-leb 1 (slotOf I g) (l .0 .low), le-leb (slotOf I g) (gatesOf s) (l .0 .high), l .0 .next) (linked-walks gs (l .1))
 
   -- the gates on it are those of the text, in the text's order
   pub linked-gates : (gs : List GateLine) → Linked gs → map (gateAt s) (chainFrom s (length gs) (firstSlot I gs)) ≡ map asGate gs
-  unfolding Linked chainFrom firstSlot
+  unfolding Linked form.chainFrom firstSlot
   linked-gates [] l = refl
   linked-gates (g ∷ gs) l = rw (l .0 .gate, l .0 .next) (ap (λ (r : List paper.Gate). asGate g ∷ r) (linked-gates gs (l .1)))
 
@@ -50,7 +52,7 @@ module _ (s : List ℕ) (I : ℕ) where
   good-more k x rest false e g f h = f (omega arith)
 
   pub linked-good : (gs : List GateLine) → Linked gs → (k : ℕ) → 1 ≤ count k (chainFrom s (length gs) (firstSlot I gs)) → goodRecord s k ≡ true
-  unfolding Linked chainFrom firstSlot count
+  unfolding Linked form.chainFrom firstSlot count
   linked-good [] l k h = absurd (omega arith)
   linked-good (g ∷ gs) l k h =
       good-more k (slotOf I g) (count k (chainFrom s (length gs) (nextOf s (slotOf I g)))) (eqb k (slotOf I g)) refl (l .0 .good)

@@ -11,7 +11,9 @@ use borrow.Author.Tests.{le-leb, lt-ltb, le-ltb, eq-eqb}
 use Rattle.bits.specs.Bits.{tabulate}
 use Rattle.bits.proofs.Tabulate.{tabulate-cong}
 use Rattle.circuit.specs.Circuit as paper
-use Rattle.circuit.specs.File.{inputsOf, outputsOf, gatesOf, headOf, outputWire, withinLimits, rightLength, goodRecord, goodRecords, chainWalk, goodChain, onWalk, chainFrom, gatesInOrder, goodOutputs, goodWires, circuitOf, legal, readCircuit}
+use Rattle.circuit.specs.Fields as form
+use Rattle.circuit.specs.File.{width, inputsOf, outputsOf, gatesOf, headOf, outputWire, withinLimits, rightLength, goodRecords, chainWalk, goodChain, onWalk, chainFrom, gatesInOrder, goodWires, circuitOf, legal, readCircuit}
+use Rattle.circuit.specs.Steps.{goodRecord, goodOutputs}
 use Rattle.bits.specs.Counting.{count}
 use Rattle.circuit.proofs.Visits.{chain-theorem}
 use Rattle.circuit.proofs.Walking.{well-ends, chain-walks}
@@ -26,16 +28,16 @@ use Rattle.bristol.proofs.Slots.{all-linked, head-small}
 -- a file that passes every test
 all-tests : (s : List ℕ) (c : paper.Circuit) → ltb (length s) 8 ≡ false → withinLimits s ≡ true → rightLength s ≡ true
     → goodRecords s (gatesOf s) ≡ true → goodChain s ≡ true → goodWires s ≡ true → circuitOf s ≡ c → readCircuit s ≡ legal c
-unfolding readCircuit goodChain onWalk
+unfolding form.readWith form.readFields form.goodChain onWalk
 all-tests s c e₁ e₂ e₃ e₄ e₅ e₆ e₇ = rw (e₁, e₂, e₃, e₄, well-ends (chainWalk s) e₅, e₆, e₇)
 
 limits-pass : (s : List ℕ) → 1 ≤ inputsOf s → inputsOf s ≤ 512 → 1 ≤ outputsOf s → outputsOf s ≤ 256 → gatesOf s ≤ 4096 → withinLimits s ≡ true
-unfolding withinLimits
+unfolding form.withinLimits
 limits-pass s a b c d e =
     rw (le-leb 1 (inputsOf s) a, le-leb (inputsOf s) 512 b, le-leb 1 (outputsOf s) c, le-leb (outputsOf s) 256 d, le-leb (gatesOf s) 4096 e)
 
 records-pass : (s : List ℕ) (n : ℕ) → ((x : ℕ) → 1 ≤ x → x ≤ n → goodRecord s x ≡ true) → goodRecords s n ≡ true
-unfolding goodRecords
+unfolding form.goodRecords
 records-pass s zero h = refl
 records-pass s (suc n) h =
     rw (records-pass s n (λ x a b. h x a (omega arith))) (h (suc n) (omega arith) (omega arith))
@@ -65,8 +67,8 @@ module _ (t : Text) (k : Accepted t) where
       (omega (arith, file-gates t k, k .few-gates))
 
   length-good : rightLength f ≡ true
-  unfolding rightLength
-  length-good = eq-eqb (length f) (8 + 2 * outputsOf f + 8 * gatesOf f) (omega (arith, file-length t k, file-outputs t k, file-gates t k))
+  unfolding form.rightLength
+  length-good = eq-eqb (length f) (width * (4 + outputsOf f + 4 * gatesOf f)) (omega (arith, file-length t k, file-outputs t k, file-gates t k))
 
   pub head : headOf f ≡ firstSlot (t .inputs) (t .gates)
   head = file-head t k (head-small t k)
@@ -84,11 +86,11 @@ module _ (t : Text) (k : Accepted t) where
       linked-good f (t .inputs) (t .gates) (all-linked t k) x visited)
 
   gates-same : gatesInOrder f ≡ map asGate (t .gates)
-  unfolding gatesInOrder
+  unfolding form.gatesInOrder
   gates-same = rw (file-gates t k, head) (linked-gates f (t .inputs) (t .gates) (all-linked t k))
 
   outputs-good : (n : ℕ) → n ≤ t .outputs → goodOutputs f n ≡ true
-  unfolding goodOutputs
+  unfolding form.goodOutputs
   outputs-good zero h = refl
   outputs-good (suc n) h =
       rw (outputs-good n (omega arith))
@@ -96,13 +98,13 @@ module _ (t : Text) (k : Accepted t) where
       (omega (arith, file-output t k n h, last-small t k n h, file-inputs t k, file-gates t k)))
 
   wires-good : goodWires f ≡ true
-  unfolding goodWires
+  unfolding form.goodWires
   wires-good =
       rw (gates-same, file-outputs t k, outputs-good (t .outputs) (omega arith), file-inputs t k)
       (rw (fits-reads (t .inputs) (length (t .gates)) (λ w. ltb w (t .inputs)) [] (t .gates) (λ w. readable-first (t .inputs) (length (t .gates)) w) (k .fits)))
 
   same-circuit : circuitOf f ≡ asCircuit t
-  unfolding circuitOf asCircuit outputWires
+  unfolding form.circuitOf asCircuit outputWires
   same-circuit =
       same-parts (file-inputs t k)
       (ap (λ (n : ℕ). tabulate n (outputWire f)) (file-outputs t k) ∙ tabulate-cong (t .outputs) (outputWire f) (lastWire t) (file-output t k))

@@ -10,6 +10,7 @@ use lib.ListN.{length, length-append}
 use borrow.Author.Tests.{eq-eqb}
 use Rattle.bits.specs.Bytes.{leAt, leBytes}
 use Rattle.bits.proofs.Little.{length-leBytes}
+use Rattle.circuit.specs.Fields as form
 use Rattle.circuit.specs.File.{inputsOf, outputsOf, gatesOf, headOf, outputWire}
 use Rattle.bristol.specs.Rules.{GateLine, xor, and, inv, Text, writes, written, lastWire}
 use Rattle.bristol.specs.Conversion.{firstSlot, fields, recordBytes, recordFor, headerPart, outputPart, recordPart, fileOf}
@@ -55,19 +56,19 @@ module _ (t : Text) (k : Accepted t) where
   header-length = refl
 
   pub file-inputs : inputsOf (fileOf t) ≡ t .inputs
-  unfolding fileOf headerPart fields leBytes leAt
+  unfolding fileOf headerPart fields leBytes leAt form.field
   file-inputs = two-bytes (t .inputs) (omega (arith, k .few-inputs))
 
   pub file-outputs : outputsOf (fileOf t) ≡ t .outputs
-  unfolding fileOf headerPart fields leBytes leAt
+  unfolding fileOf headerPart fields leBytes leAt form.field
   file-outputs = two-bytes (t .outputs) (omega (arith, k .few-outputs))
 
   pub file-gates : gatesOf (fileOf t) ≡ length (t .gates)
-  unfolding fileOf headerPart fields leBytes leAt
+  unfolding fileOf headerPart fields leBytes leAt form.field
   file-gates = two-bytes (length (t .gates)) (omega (arith, k .few-gates))
 
   pub file-head : firstSlot (t .inputs) (t .gates) < 65536 → headOf (fileOf t) ≡ firstSlot (t .inputs) (t .gates)
-  unfolding fileOf headerPart fields leBytes leAt
+  unfolding fileOf headerPart fields leBytes leAt form.field
   file-head h = two-bytes (firstSlot (t .inputs) (t .gates)) h
 
   pub output-length : length (outputPart t) ≡ t .outputs * 2
@@ -107,10 +108,10 @@ module _ (t : Text) (k : Accepted t) where
 
   -- output wire j
   pub file-output : (j : ℕ) → j < t .outputs → outputWire (fileOf t) j ≡ lastWire t j
-  unfolding fileOf
+  unfolding fileOf form.field
   file-output j h =
       let p : 2 * j ≡ j * 2 + 0 = omega arith in
-      leAt-right 2 (headerPart t) (outputPart t ++ recordPart t) (8 + 2 * j) (2 * j) (omega (arith, header-length))
+      leAt-right 2 (headerPart t) (outputPart t ++ recordPart t) (2 * (4 + j)) (2 * j) (omega (arith, header-length))
       ∙ leAt-left 2 (outputPart t) (recordPart t) (2 * j) (omega (arith, output-length))
       ∙ ap (leAt 2 (outputPart t)) p
       ∙ in-output j h

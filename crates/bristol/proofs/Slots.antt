@@ -6,13 +6,14 @@ use mathlib.Core.List.{List, [], _∷_, _++_, append-assoc}
 use Prim.Native.Nat.{ℕ, _+_, _-_, _*_, _≤_, _<_}
 use native.Mathlib.Omega.{arith}
 use lib.Dec.{eqb, leb, ltb}
-use lib.ListN.{length, getD}
+use lib.ListN.{length}
 use borrow.Author.Tests.{leb-true, ltb-true, eqb-true, not-true}
 use Rattle.bits.specs.Bytes.{leAt, leBytes}
-use Rattle.bits.proofs.Little.{leAt-one}
 use Rattle.bits.proofs.Tests.{and-true-left, and-true-right}
 use Rattle.circuit.specs.Circuit as paper
-use Rattle.circuit.specs.File.{inputsOf, gatesOf, recordAt, kindOf, zeroOf, wireA, wireB, nextOf, gateAt, goodRecord}
+use Rattle.circuit.specs.Fields as form
+use Rattle.circuit.specs.File.{inputsOf, gatesOf, fieldsOf, nextOf}
+use Rattle.circuit.specs.Steps.{recordAt, kindOf, wireA, wireB, gateAt, goodRecord}
 use Rattle.bristol.specs.Rules.{GateLine, xor, and, inv, Text, writes, written, readable, writable, fitsBelow}
 use Rattle.bristol.specs.Conversion.{asGate, slotOf, firstSlot, fields, recordBytes, recordFor, fileOf}
 use Rattle.bristol.proofs.Accepted.{Accepted, Fits}
@@ -23,7 +24,6 @@ use Rattle.bristol.proofs.Filed.{for-line, file-inputs, file-outputs, f
 -- what a slot holds
 record Holds (s : List ℕ) (x kind a b next : ℕ) : Type 0 where
   kind-is : kindOf s x ≡ kind
-  zero-is : zeroOf s x ≡ 0
   a-is : wireA s x ≡ a
   b-is : wireB s x ≡ b
   next-is : nextOf s x ≡ next
@@ -31,22 +31,22 @@ record Holds (s : List ℕ) (x kind a b next : ℕ) : Type 0 where
 pick : ℕ → ℕ → ℕ → ℕ → paper.Gate
 pick n a b c = cond (eqb n 1) (paper.xor a b c) (cond (eqb n 2) (paper.and a b c) (paper.inv a c))
 
-passes : ℕ → ℕ → ℕ → Bool
-passes n b z = (eqb n 1 || eqb n 2 || (eqb n 3 && eqb b 0)) && eqb z 0
+passes : ℕ → ℕ → Bool
+passes n b = eqb n 1 || eqb n 2 || (eqb n 3 && eqb b 0)
 
 holds-gate : (s : List ℕ) (x n a b next c : ℕ) → Holds s x n a b next → inputsOf s + x - 1 ≡ c → gateAt s x ≡ pick n a b c
-unfolding gateAt pick
+unfolding form.gateAt pick
 holds-gate s x n a b next c h e = same (h .kind-is) (h .a-is) (h .b-is) e
   where
     same : {n₁ n₂ a₁ a₂ b₁ b₂ c₁ c₂ : ℕ} → n₁ ≡ n₂ → a₁ ≡ a₂ → b₁ ≡ b₂ → c₁ ≡ c₂ → pick n₁ a₁ b₁ c₁ ≡ pick n₂ a₂ b₂ c₂
     same p q r s = cc
 
-holds-good : (s : List ℕ) (x n a b next : ℕ) → Holds s x n a b next → goodRecord s x ≡ passes n b 0
-unfolding goodRecord passes
-holds-good s x n a b next h = same (h .kind-is) (h .b-is) (h .zero-is)
+holds-good : (s : List ℕ) (x n a b next : ℕ) → Holds s x n a b next → goodRecord s x ≡ passes n b
+unfolding form.goodRecord passes
+holds-good s x n a b next h = same (h .kind-is) (h .b-is)
   where
-    same : {n₁ n₂ b₁ b₂ z₁ z₂ : ℕ} → n₁ ≡ n₂ → b₁ ≡ b₂ → z₁ ≡ z₂ → passes n₁ b₁ z₁ ≡ passes n₂ b₂ z₂
-    same p q r = cc
+    same : {n₁ n₂ b₁ b₂ : ℕ} → n₁ ≡ n₂ → b₁ ≡ b₂ → passes n₁ b₁ ≡ passes n₂ b₂
+    same p q = cc
 
 or-elim : {P : Type 0} (a b : Bool) → a || b ≡ true → (a ≡ true → P) → (b ≡ true → P) → P
 or-elim true b e f g = f refl
@@ -107,25 +107,24 @@ module _ (t : Text) (k : Accepted t) where
 
   -- a number in the record of a line
   module _ (before : List GateLine) (g : GateLine) (after : List GateLine) (e : t .gates ≡ before ++ (g ∷ after)) (n : Fresh before g) where
-    in-line : (m i : ℕ) → i + m ≤ 8 → leAt m f (recordAt f (slotOf I g) + i) ≡ leAt m (recordBytes g (firstSlot I after)) i
-    unfolding slotOf
-    in-line m i h =
-        let p : recordAt f (writes g - I + 1) + i ≡ 8 + 2 * t .outputs + 8 * (writes g - I) + i = omega (arith, file-outputs t k) in
+    in-line : (p i : ℕ) → p ≡ 8 + 2 * t .outputs + 8 * (writes g - I) + i → i + 2 ≤ 8 → leAt 2 f p ≡ leAt 2 (recordBytes g (firstSlot I after)) i
+    in-line p i e′ h =
         let j : writes g - I < G = omega (arith, n .low, n .high) in
         let w : I + (writes g - I) ≡ writes g = omega (arith, n .low) in
-        ap (leAt m f) p
-        ∙ in-record t k m (writes g - I) i j h
-        ∙ ap (λ (x : ℕ). leAt m (recordFor I x (t .gates)) i) w
-        ∙ ap (λ (l : List GateLine). leAt m (recordFor I (writes g) l) i) e
-        ∙ ap (λ (r : List ℕ). leAt m r i) (for-line I before g after (n .new))
+        ap (leAt 2 f) e′
+        ∙ in-record t k 2 (writes g - I) i j h
+        ∙ ap (λ (x : ℕ). leAt 2 (recordFor I x (t .gates)) i) w
+        ∙ ap (λ (l : List GateLine). leAt 2 (recordFor I (writes g) l) i) e
+        ∙ ap (λ (r : List ℕ). leAt 2 r i) (for-line I before g after (n .new))
 
-    first-byte : getD f (recordAt f (slotOf I g)) 0 ≡ leAt 1 (recordBytes g (firstSlot I after)) 0
-    first-byte =
-        let p : recordAt f (slotOf I g) ≡ recordAt f (slotOf I g) + 0 = omega arith in
-        sym (leAt-one f (recordAt f (slotOf I g))) ∙ ap (leAt 1 f) p ∙ in-line 1 0 (omega arith)
+    -- the kind, and a field after it
+    in-kind : kindOf f (slotOf I g) ≡ leAt 2 (recordBytes g (firstSlot I after)) 0
+    unfolding slotOf form.field
+    in-kind = in-line _ 0 (omega (arith, file-outputs t k)) (omega arith)
 
-    second-byte : getD f (recordAt f (slotOf I g) + 1) 0 ≡ leAt 1 (recordBytes g (firstSlot I after)) 1
-    second-byte = sym (leAt-one f (recordAt f (slotOf I g) + 1)) ∙ in-line 1 1 (omega arith)
+    in-field : (i : ℕ) → i < 4 → fieldsOf f (recordAt f (slotOf I g) + i) ≡ leAt 2 (recordBytes g (firstSlot I after)) (2 * i)
+    unfolding slotOf form.field
+    in-field i h = in-line _ (2 * i) (omega (arith, file-outputs t k)) (omega arith)
 
     own-wire : inputsOf f + slotOf I g - 1 ≡ writes g
     unfolding slotOf
@@ -143,16 +142,15 @@ module _ (t : Text) (k : Accepted t) where
     bytes = recordBytes g (firstSlot I after)
 
     -- the slot holds the line's gate, from what stands in the record's bytes
-    made : (kind a b : ℕ) → leAt 1 bytes 0 ≡ kind → leAt 1 bytes 1 ≡ 0 → leAt 2 bytes 2 ≡ a → leAt 2 bytes 4 ≡ b
-        → leAt 2 bytes 6 ≡ firstSlot I after → pick kind a b (writes g) ≡ asGate g → passes kind b 0 ≡ true → Stands f I g after
-    made kind a b is-kind is-zero is-a is-b is-next same good =
+    made : (kind a b : ℕ) → leAt 2 bytes 0 ≡ kind → leAt 2 bytes 2 ≡ a → leAt 2 bytes 4 ≡ b
+        → leAt 2 bytes 6 ≡ firstSlot I after → pick kind a b (writes g) ≡ asGate g → passes kind b ≡ true → Stands f I g after
+    made kind a b is-kind is-a is-b is-next same good =
         let held : Holds f (slotOf I g) kind a b (firstSlot I after) =
         record {
-          kind-is = first-byte ∙ is-kind;
-          zero-is = second-byte ∙ is-zero;
-          a-is = in-line 2 2 (omega arith) ∙ is-a;
-          b-is = in-line 2 4 (omega arith) ∙ is-b;
-          next-is = in-line 2 6 (omega arith) ∙ is-next;
+          kind-is = in-kind ∙ is-kind;
+          a-is = in-field 1 (omega arith) ∙ is-a;
+          b-is = in-field 2 (omega arith) ∙ is-b;
+          next-is = in-field 3 (omega arith) ∙ is-next;
         } in
         record {
           gate = holds-gate f (slotOf I g) kind a b (firstSlot I after) (writes g) held own-wire ∙ same;
@@ -170,18 +168,18 @@ module _ (t : Text) (k : Accepted t) where
   unfolding fitsBelow recordBytes fields leBytes leAt pick passes asGate writes
   stands before (xor a b c) after e h m d =
       let two = and-true-left (readable I G before a && readable I G before b) (writable I G before c) h in
-      made before (xor a b c) after e (fresh before (xor a b c) h) 1 a b refl refl
+      made before (xor a b c) after e (fresh before (xor a b c) h) 1 a b refl
       (two-bytes a (small-read before a m (and-true-left (readable I G before a) (readable I G before b) two)))
       (two-bytes b (small-read before b m (and-true-right (readable I G before a) (readable I G before b) two)))
       (two-bytes (firstSlot I after) (next-fits after d)) refl refl
   stands before (and a b c) after e h m d =
       let two = and-true-left (readable I G before a && readable I G before b) (writable I G before c) h in
-      made before (and a b c) after e (fresh before (and a b c) h) 2 a b refl refl
+      made before (and a b c) after e (fresh before (and a b c) h) 2 a b refl
       (two-bytes a (small-read before a m (and-true-left (readable I G before a) (readable I G before b) two)))
       (two-bytes b (small-read before b m (and-true-right (readable I G before a) (readable I G before b) two)))
       (two-bytes (firstSlot I after) (next-fits after d)) refl refl
   stands before (inv a c) after e h m d =
-      made before (inv a c) after e (fresh before (inv a c) h) 3 a 0 refl refl
+      made before (inv a c) after e (fresh before (inv a c) h) 3 a 0 refl
       (two-bytes a (small-read before a m (and-true-left (readable I G before a) (writable I G before c) h))) refl
       (two-bytes (firstSlot I after) (next-fits after d)) refl refl
 

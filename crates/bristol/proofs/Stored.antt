@@ -16,6 +16,7 @@ use Rattle.bits.specs.Counting.{count}
 use Rattle.bits.proofs.Numbers.{eq-or-ne}
 use Rattle.bits.proofs.Tabulate.{tabulate-cong}
 use Rattle.bits.proofs.Tests.{and-true-left, and-true-right}
+use Rattle.circuit.specs.Fields as form
 use Rattle.circuit.specs.File.{gatesOf, headOf, chainFrom}
 use Rattle.circuit.proofs.Visits.{chain-theorem}
 use Rattle.bristol_text.specs.Text.{Line}
@@ -111,7 +112,7 @@ module _ (I G : ℕ) where
 
 -- the chain visits the slots of the gate lines
 linked-chain : (s : List ℕ) (I : ℕ) (gs : List GateLine) → Linked s I gs → chainFrom s (length gs) (firstSlot I gs) ≡ map (slotOf I) gs
-unfolding Linked chainFrom firstSlot
+unfolding Linked form.chainFrom firstSlot
 linked-chain s I [] l = refl
 linked-chain s I (g ∷ gs) l = rw (l .0 .next) (ap (λ (r : List ℕ). slotOf I g ∷ r) (linked-chain s I gs (l .1)))
 

@@ -1,180 +1,32 @@
--- One step along the chain, as the code counts: n links are left, then n - 1.
+-- One step along the chain of a file in the form in use: the laws of Slots.antt, under the same names.
 -- Assumes nothing.
-use mathlib.Core.Path.{_≡_, refl, sym, ap, ap₂, _∙_, fun-ext}
-use mathlib.Core.Bool.{Bool, true, false, cond, _&&_, _||_}
+use mathlib.Core.Path.{_≡_}
+use mathlib.Core.Bool.{true}
 use mathlib.Core.List.{List, [], _∷_}
-use mathlib.Core.Logic.{⊎-elim, _≢_}
-use Prim.Native.Nat.{ℕ, zero, suc, _+_, _-_, _≤_, _<_}
-use native.Mathlib.Omega.{arith}
-use native.Mathlib.Numerals.{add-one}
-use borrow.Author.Tests.{eq-eqb, ne-eqb, leb-true, lt-leb, le-leb}
-use lib.Dec.{eqb, leb, ltb}
-use lib.ListN.{length, getD, set, replicate, length-replicate, getD-replicate, List·getD-eq-default}
-use lib.Seq.{getD-set-same, getD-set-other}
-use Rattle.bits.proofs.Tests.{and-true-left, and-true-right}
-use Rattle.bits.proofs.Numbers.{lt-or-le, eq-or-ne}
-use Rattle.circuit.specs.Circuit as paper
-use Rattle.circuit.specs.File.{inputsOf, gatesOf, nextOf, kindOf, wireA, wireB, chainFrom, gateAt, readsWritten, goodRecord, goodRecords, goodOutputs, outputWire}
-use Rattle.circuit.specs.Steps.{gateOf, recordOf, placed, Inside, Laid, andOne, readable, seen, gatesFrom, walks}
-use Rattle.circuit.specs.declared.Gate.{Gate}
-use Rattle.circuit.specs.declared.Gate.the-variants.{Xor, And, Inv}
+use Prim.Native.Nat.{ℕ, _+_, _-_, _≤_, _<_}
+use Rattle.circuit.specs.File.{width, fieldsOf, inputsOf, nextOf}
+use Rattle.circuit.specs.Steps.{gateOf, recordOf, placed, Inside, Laid, gatesFrom, walks}
 use Rattle.circuit.specs.declared.Record.{Record}
+use Rattle.circuit.proofs.Slots as slots
+pub use Rattle.circuit.proofs.Slots.{ands-on, ands-none, andOne-le, ands-turn, reads-on, put-same, put-other, zeros-at}
 
--- a slot from 1 to G has its record inside the file
 pub inside : (s : List ℕ) (i o g k : ℕ) → Laid s i o g → 1 ≤ k → k ≤ g → Inside s o k
-inside s i o g k l a b = record { outputs = l .outputs; first = a; room = omega arith }
+inside s = slots.inside width s
 
--- what a good chain says of the slot in hand, with n links left
-pub record Here (s : List ℕ) (n k : ℕ) : Type 0 where
-  pub first : 1 ≤ k
-  pub low : k ≤ gatesOf s
-  pub rest : walks s (n - 1) (nextOf s k) ≡ true
+abbrev pub Here : List ℕ → ℕ → ℕ → Type 0
+Here s = slots.Here (fieldsOf s)
 
 pub here : (s : List ℕ) (n k : ℕ) → 0 < n → walks s n k ≡ true → Here s n k
-unfolding walks
-here s zero k h e = absurd (omega arith)
-here s (suc n) k h e =
-    let q : suc n - 1 ≡ n = omega arith in
-    let t = and-true-left (leb 1 k && leb k (gatesOf s)) (walks s n (nextOf s k)) e in
-    record {
-      first = leb-true 1 k (and-true-left (leb 1 k) (leb k (gatesOf s)) t);
-      low = leb-true k (gatesOf s) (and-true-right (leb 1 k) (leb k (gatesOf s)) t);
-      rest = rw q (and-true-right (leb 1 k && leb k (gatesOf s)) (walks s n (nextOf s k)) e);
-    }
-
-placed-cond : (a b : Bool) (x y z : Gate) (c : ℕ) → placed (cond a x (cond b y z)) c ≡ cond a (placed x c) (cond b (placed y c) (placed z c))
-placed-cond true b x y z c = refl
-placed-cond false true x y z c = refl
-placed-cond false false x y z c = refl
-
--- the gate read, with the wire that its slot writes, is the slot's gate
-pub placed-at : (s : List ℕ) (k : ℕ) → placed (gateOf s k) (inputsOf s + k - 1) ≡ gateAt s k
-unfolding gateOf gateAt
-placed-at s k =
-    placed-cond (eqb (kindOf s k) 1) (eqb (kindOf s k) 2) (Xor (wireA s k) (wireB s k)) (And (wireA s k) (wireB s k)) (Inv (wireA s k)) (inputsOf s + k - 1)
-
--- so for a record read
-pub placed-record : (s : List ℕ) (k : ℕ) → placed (recordOf s k .gate) (inputsOf s + k - 1) ≡ gateAt s k
-unfolding recordOf
-placed-record s k = placed-at s k
+here s = slots.here (fieldsOf s)
 
 pub gates-on : (s : List ℕ) (n k : ℕ) → 0 < n → gatesFrom s n k ≡ placed (gateOf s k) (inputsOf s + k - 1) ∷ gatesFrom s (n - 1) (nextOf s k)
-unfolding gatesFrom chainFrom
-gates-on s zero k h = absurd (omega arith)
-gates-on s (suc n) k h =
-    let q : suc n - 1 ≡ n = omega arith in
-    rw (q, placed-at)
+gates-on s = slots.gates-on (fieldsOf s)
 
 pub gates-end : (s : List ℕ) (n k : ℕ) → n ≤ 0 → gatesFrom s n k ≡ []
-unfolding gatesFrom chainFrom
-gates-end s zero k h = refl
-gates-end s (suc n) k h = absurd (omega arith)
+gates-end s = slots.gates-end (fieldsOf s)
 
-pub ands-on : (g : Gate) (c : ℕ) (gs : List paper.Gate) → paper.ands (placed g c ∷ gs) ≡ andOne g + paper.ands gs
-unfolding paper.ands
-ands-on (Xor a b) c gs = omega arith
-ands-on (And a b) c gs = omega arith
-ands-on (Inv a) c gs = omega arith
-
-pub andOne-le : (g : Gate) → andOne g ≤ 1
-andOne-le (Xor a b) = omega arith
-andOne-le (And a b) = omega arith
-andOne-le (Inv a) = omega arith
-
-pub reads-on : (f : ℕ → Bool) (g : Gate) (c : ℕ) (gs : List paper.Gate)
-    → readsWritten f (placed g c ∷ gs) ≡ readable f g && readsWritten (paper.put f c true) gs
-unfolding readsWritten
-reads-on f (Xor a b) c gs = refl
-reads-on f (And a b) c gs = refl
-reads-on f (Inv a) c gs = refl
-
-or-true : (a : Bool) → a || true ≡ true
-or-true true = refl
-or-true false = refl
-
-or-false : (a : Bool) → a || false ≡ a
-or-false true = refl
-or-false false = refl
-
--- what is put at a place stands there, and the other places are kept
-pub put-same : (f : ℕ → Bool) (c : ℕ) (x : Bool) → paper.put f c x c ≡ x
-unfolding paper.put
-put-same f c x = ap (λ (b : Bool). cond b x (f c)) (eq-eqb c c refl)
-
-pub put-other : (f : ℕ → Bool) (c : ℕ) (x : Bool) (j : ℕ) → j ≢ c → paper.put f c x j ≡ f j
-unfolding paper.put
-put-other f c x j h = ap (λ (b : Bool). cond b x (f j)) (ne-eqb j c h)
-
--- with the flag of wire c set, c is written too
-pub seen-set : (i : ℕ) (flags : List ℕ) (c : ℕ) → c < length flags → seen i (set flags c 1) ≡ paper.put (seen i flags) c true
-unfolding seen
-seen-set i flags c h =
-    fun-ext (λ w.
-    ⊎-elim
-    (λ e.
-    rw e
-    (ap (λ (x : ℕ). ltb c i || eqb x 1) (getD-set-same flags c 1 0 h) ∙ or-true (ltb c i) ∙ sym (put-same (seen i flags) c true)))
-    (λ n. ap (λ (x : ℕ). ltb w i || eqb x 1) (getD-set-other flags c w 1 0 n) ∙ sym (put-other (seen i flags) c true w n))
-    (eq-or-ne w c))
-
-pub zeros-at : (n w : ℕ) → _≡_ {A = ℕ} (getD (replicate n 0) w 0) 0
-zeros-at n w = ⊎-elim (λ h. getD-replicate n w 0 0 h) (λ h. List·getD-eq-default (replicate n 0) 0 (rw length-replicate h)) (lt-or-le w n)
-
--- with no flag set, the inputs are written
-pub seen-none : (i n : ℕ) → seen i (replicate n 0) ≡ (λ w. ltb w i)
-unfolding seen
-seen-none i n = fun-ext (λ w. ap (λ (x : ℕ). ltb w i || eqb x 1) (zeros-at n w) ∙ or-false (ltb w i))
-
--- the parts of a record read
 pub next-read : (s : List ℕ) (k : ℕ) (q : Record) → q ≡ recordOf s k → q .next ≡ nextOf s k
-unfolding recordOf
-next-read s k q e = ap (λ (x : Record). x .next) e
+next-read s = slots.next-read (fieldsOf s)
 
 pub gate-read : (s : List ℕ) (k : ℕ) (q : Record) → q ≡ recordOf s k → q .gate ≡ gateOf s k
-unfolding recordOf
-gate-read s k q e = ap (λ (x : Record). x .gate) e
-
--- a turn of the count of AND gates
-pub ands-turn : (s : List ℕ) (n k count r t : ℕ) (q : Record) → q ≡ recordOf s k → 0 < n → r ≡ andOne (q .gate)
-    → count + paper.ands (gatesFrom s n k) ≡ t → count + r + paper.ands (gatesFrom s (n - 1) (q .next)) ≡ t
-ands-turn s n k count r t q e h a i =
-    let g : r ≡ andOne (gateOf s k) = a ∙ ap andOne (gate-read s k q e) in
-    let m : paper.ands (gatesFrom s (n - 1) (q .next)) ≡ paper.ands (gatesFrom s (n - 1) (nextOf s k))
-    = ap (λ (j : ℕ). paper.ands (gatesFrom s (n - 1) j)) (next-read s k q e) in
-    let o : paper.ands (gatesFrom s n k) ≡ andOne (gateOf s k) + paper.ands (gatesFrom s (n - 1) (nextOf s k))
-    = ap paper.ands (gates-on s n k h) ∙ ands-on (gateOf s k) (inputsOf s + k - 1) (gatesFrom s (n - 1) (nextOf s k)) in
-    omega arith
-
--- a turn of the test of the wires that are read
-module _ (s : List ℕ) (i n k : ℕ) (flags : List ℕ) (q : Record) (e : q ≡ recordOf s k) (h : 0 < n) where
-  reads-split : readsWritten (seen i flags) (gatesFrom s n k)
-      ≡ readable (seen i flags) (q .gate) && readsWritten (paper.put (seen i flags) (inputsOf s + k - 1) true) (gatesFrom s (n - 1) (q .next))
-  reads-split =
-      ap (readsWritten (seen i flags)) (gates-on s n k h)
-      ∙ reads-on (seen i flags) (gateOf s k) (inputsOf s + k - 1) (gatesFrom s (n - 1) (nextOf s k))
-      ∙ rw (gate-read s k q e, next-read s k q e)
-
-  pub reads-fail : readable (seen i flags) (q .gate) ≡ false → readsWritten (seen i flags) (gatesFrom s n k) ≡ false
-  reads-fail f = reads-split ∙ rw f
-
-  pub reads-turn : readable (seen i flags) (q .gate) ≡ true → i ≡ inputsOf s → 1 ≤ k → i + (k - 1) < length flags
-      → readsWritten (seen i (set flags (i + (k - 1)) 1)) (gatesFrom s (n - 1) (q .next)) ≡ readsWritten (seen i flags) (gatesFrom s n k)
-  reads-turn t u a b =
-      let w : i + (k - 1) ≡ inputsOf s + k - 1 = omega arith in
-      ap (λ (f : ℕ → Bool). readsWritten f (gatesFrom s (n - 1) (q .next)))
-      (seen-set i flags (i + (k - 1)) b ∙ ap (λ (j : ℕ). paper.put (seen i flags) j true) w)
-      ∙ sym (reads-split ∙ rw t)
-
--- turns of the tests of the records and of the output wires
-pub records-turn : (s : List ℕ) (k : ℕ) (x y z : Bool) → x ≡ goodRecords s k → y ≡ goodRecord s (k + 1) → z ≡ x && y → z ≡ goodRecords s (k + 1)
-unfolding goodRecords
-records-turn s k x y z p q r = rw add-one (r ∙ ap₂ _&&_ p (rw add-one at q))
-
-pub outputs-turn : (s : List ℕ) (j w : ℕ) (x z : Bool) → x ≡ goodOutputs s j → w ≡ inputsOf s + gatesOf s
-    → z ≡ x && ltb (outputWire s j) w → z ≡ goodOutputs s (j + 1)
-unfolding goodOutputs
-outputs-turn s j w x z p q r = rw add-one (r ∙ ap₂ (λ (a : Bool) (b : ℕ). a && ltb (outputWire s j) b) p q)
-
-pub ands-none : paper.ands [] ≡ 0
-unfolding paper.ands
-ands-none = refl
+gate-read s = slots.gate-read (fieldsOf s)

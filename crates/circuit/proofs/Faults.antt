@@ -4,14 +4,16 @@ use mathlib.Core.Path.{_≡_, refl}
 use mathlib.Core.Bool.{Bool, true, false, not, cond}
 use mathlib.Core.List.{List}
 use mathlib.Core.Logic.{_⊎_, inl, inr, ⊎-elim}
-use Prim.Native.Nat.{ℕ, _≤_, _<_}
+use Prim.Native.Nat.{ℕ, _*_, _≤_, _<_}
 use native.Mathlib.Omega.{arith}
 use borrow.Author.Tests.{ltb-false, not-false, le-ltb}
 use lib.Dec.{ltb}
 use lib.ListN.{length}
 use Rattle.circuit.specs.Chain.{Walk, ends, fault}
 use Rattle.circuit.specs.Circuit.{Circuit}
-use Rattle.circuit.specs.File.{gatesOf, linkOf, withinLimits, rightLength, goodRecords, chainWalk, goodWires, circuitOf, Reading, refused, legal, onWalk, readCircuit}
+use Rattle.circuit.specs.Fields as fields
+use Rattle.circuit.specs.File.{width, gatesOf, withinLimits, rightLength, goodRecords, chainWalk, goodWires, circuitOf, Reading, refused, legal, onWalk, readCircuit}
+use Rattle.circuit.specs.Steps.{linkOf}
 use Rattle.circuit.specs.Meaning.{Recorded, ReadFaultTheorem}
 use Rattle.circuit.proofs.Walking.{fault-number}
 
@@ -35,19 +37,19 @@ not-legal c k x e = absurd (let z : _≡_ {A = ℕ} 0 1 = cc in omega arith)
 
 -- a refusal is the fault of the walk, or one of the rest, where the walk ended well
 walk-or-rest : (w : Walk) (r : Reading) (k x : ℕ) → onWalk w r ≡ refused k x → (w ≡ fault k x) ⊎ (r ≡ refused k x)
-unfolding onWalk
+unfolding fields.onWalk
 walk-or-rest ends r k x e = inr e
 walk-or-rest (fault j y) r k x e = inl (let a : j ≡ k = cc in let b : y ≡ x = cc in cc)
 
 module _ (s : List ℕ) (k x : ℕ) where
   walk-means : 19 ≤ k → readCircuit s ≡ refused k x → Recorded s × (chainWalk s ≡ fault k x)
-  unfolding readCircuit
+  unfolding fields.readWith fields.readFields
   walk-means l e =
-      let a = rest (ltb (length s) 8) 1 _ k x (omega arith) e in
+      let a = rest (ltb (length s) (width * 4)) 1 _ k x (omega arith) e in
       let b = rest (not (withinLimits s)) 2 _ k x (omega arith) (a .1) in
       let c = rest (not (rightLength s)) 1 _ k x (omega arith) (b .1) in
       let d = rest (not (goodRecords s (gatesOf s))) 3 _ k x (omega arith) (c .1) in (
-        record { enough = ltb-false (length s) 8 (a .0); limited = not-false _ (b .0); sized = not-false _ (c .0); records = not-false _ (d .0) },
+        record { enough = ltb-false (length s) (width * 4) (a .0); limited = not-false _ (b .0); sized = not-false _ (c .0); records = not-false _ (d .0) },
         ⊎-elim
             (λ w. w)
             (λ r. not-legal (circuitOf s) k x (rest (not (goodWires s)) 5 _ k x (omega arith) r .1))
@@ -55,13 +57,13 @@ module _ (s : List ℕ) (k x : ℕ) where
       )
 
   walk-gives : Recorded s × (chainWalk s ≡ fault k x) → readCircuit s ≡ refused k x
-  unfolding readCircuit onWalk
-  walk-gives p = rw (le-ltb (length s) 8 (p .0 .enough), p .0 .limited, p .0 .sized, p .0 .records, p .1)
+  unfolding fields.readWith fields.readFields fields.onWalk
+  walk-gives p = rw (le-ltb (length s) (width * 4) (p .0 .enough), p .0 .limited, p .0 .sized, p .0 .records, p .1)
 
   slotless : k < 19 → readCircuit s ≡ refused k x → x ≡ 0
-  unfolding readCircuit chainWalk
+  unfolding fields.readWith fields.readFields fields.chainWalk
   slotless l =
-      slot-rest (ltb (length s) 8) 1 _ k x
+      slot-rest (ltb (length s) (width * 4)) 1 _ k x
       (slot-rest (not (withinLimits s)) 2 _ k x
       (slot-rest (not (rightLength s)) 1 _ k x
       (slot-rest (not (goodRecords s (gatesOf s))) 3 _ k x (λ e.

@@ -1,8 +1,11 @@
+pub mod Alike
 pub mod Answered
 pub mod Chain
 pub mod Faults
 pub mod Outcomes
+pub mod Readings
 pub mod Run
+pub mod Slots
 pub mod Visits
 pub mod Wires
 pub mod Small

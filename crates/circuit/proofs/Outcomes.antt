@@ -7,8 +7,10 @@ use Prim.Native.Nat.{ℕ, zero, suc, _+_, _-_, _*_}
 use native.Mathlib.Omega.{arith}
 use borrow.Author.Tests.{eq-eqb, ne-eqb, eqb-true, ltb-true, not-true, not-false}
 use lib.Dec.{ltb}
-use lib.ListN.{length, set, length-set, replicate, length-replicate}
-use Rattle.circuit.specs.Steps.{maxWires, gateOf, Legal, Ended, Ready, outBits, walked, loaded, gateByte, gatesFrom, limits, walks}
+use lib.ListN.{length, replicate, length-replicate}
+use Rattle.bits.specs.Steps.{putBit}
+use Rattle.bits.proofs.Packing.{length-putBit}
+use Rattle.circuit.specs.Steps.{maxWires, wireBytes, gateOf, Legal, Ended, Ready, outBits, walked, loaded, gateBit, gatesFrom, walks, goodOutputs}
 use Rattle.bits.specs.Bits.{bitAt, oct, pack, unusedZero}
 use Rattle.bits.proofs.Tabulate.{length-tabulate}
 use Rattle.bits.proofs.Tests.{and-true-left, and-true-right}
@@ -17,19 +19,23 @@ use Rattle.refusal.specs.Refusal.{numberOf}
 use Rattle.refusal.specs.declared.Refusal.{Refusal}
 use Rattle.refusal.specs.declared.Refusal.the-variants.{BufferLength, UnusedBits}
 use Rattle.circuit.specs.Circuit.{ands, evaluate}
-use Rattle.circuit.specs.File.{inputsOf, outputsOf, gatesOf, headOf, nextOf, outputWire, withinLimits, rightLength, goodWires, goodOutputs, readsWritten, gatesInOrder, circuitOf}
+use Rattle.circuit.specs.Fields as fields
+use Rattle.circuit.specs.FieldSteps as steps
+use Rattle.circuit.specs.File.{width, maxGates, inputsOf, outputsOf, gatesOf, headOf, nextOf, outputWire, withinLimits, rightLength, goodWires, readsWritten, gatesInOrder, circuitOf}
 use Rattle.circuit.specs.Operations.{readOp, evaluateLegal, evaluateOp, holds}
 use Rattle.circuit.specs.Answers.{readPaper, outcome}
 use Rattle.circuit.specs.declared.Sizes.{Sizes}
 use Rattle.circuit.specs.declared.ReadAnswer.{ReadAnswer}
 use Rattle.circuit.specs.declared.ReadAnswer.the-variants as readAnswer
 use Rattle.circuit.specs.declared.EvaluateAnswer.the-variants as evaluateAnswer
-use Rattle.circuit.proofs.Answered.{Passed, read-legal, read-success, success-passed, refusal-refused, limits-few}
+use Rattle.circuit.proofs.Answered.{Passed, read-legal, read-success, success-passed, refusal-refused}
+use Rattle.circuit.proofs.Readings.{limits-few}
+use Rattle.circuit.proofs.Slots.{width-known}
 use Rattle.circuit.proofs.Run.{length-loaded, walked-on, walked-end, wired-reads, evaluated, goodChain-walks, gates-order}
 
 -- the parts of the test of wires
 wires-parts : (s : List ℕ) → goodWires s ≡ true → (readsWritten (λ w. ltb w (inputsOf s)) (gatesInOrder s) ≡ true) × (goodOutputs s (outputsOf s) ≡ true)
-unfolding goodWires
+unfolding fields.goodWires
 wires-parts s e =
     let a = readsWritten (λ w. ltb w (inputsOf s)) (gatesInOrder s) in
     (and-true-left a (goodOutputs s (outputsOf s)) e, and-true-right a (goodOutputs s (outputsOf s)) e)
@@ -38,16 +44,18 @@ length-walked : (s : List ℕ) (n k : ℕ) (v : List ℕ) → length (walked s n
 length-walked s zero k v = ap length (walked-end s 0 k v (omega arith))
 length-walked s (suc n) k v =
     let p : suc n - 1 ≡ n = omega arith in
-    let y = set v (inputsOf s + k - 1) (gateByte (gateOf s k) v) in
+    let c = inputsOf s + k - 1 in
+    let x = gateBit (gateOf s k) (bitAt v) in
+    let y = putBit v c x in
     ap length (walked-on s (suc n) k v (omega arith)) ∙ ap (λ (j : ℕ). length (walked s j (nextOf s k) y)) p
-    ∙ length-walked s n (nextOf s k) y ∙ simp length-set
+    ∙ length-walked s n (nextOf s k) y ∙ length-putBit v c x
 
 -- a legal file: what its steps ask
 module _ (s : List ℕ) (i o g : ℕ) (f : Legal s i o g) where
-  pub room-loaded : (w v : List ℕ) → v ≡ loaded w i (replicate maxWires 0) → length v ≡ maxWires
-  room-loaded w v e = ap length e ∙ length-loaded w (replicate maxWires 0) i ∙ length-replicate {A = ℕ} maxWires 0
+  pub room-loaded : (w v : List ℕ) → v ≡ loaded w i (replicate wireBytes 0) → length v ≡ wireBytes
+  room-loaded w v e = ap length e ∙ length-loaded w (replicate wireBytes 0) i ∙ length-replicate {A = ℕ} wireBytes 0
 
-  pub ready : (h : ℕ) (w v : List ℕ) → h ≡ headOf s → v ≡ loaded w i (replicate maxWires 0) → Ready s i o g h v
+  pub ready : (h : ℕ) (w v : List ℕ) → h ≡ headOf s → v ≡ loaded w i (replicate wireBytes 0) → Ready s i o g h v
   ready h w v p e =
       let c : walks s g h ≡ true = ap₂ (walks s) (f .laid .gates) p ∙ goodChain-walks s (f .chain) in
       let r : readsWritten (λ x. ltb x (inputsOf s)) (gatesFrom s g h) ≡ true
@@ -58,7 +66,7 @@ module _ (s : List ℕ) (i o g : ℕ) (f : Legal s i o g) where
         room = room-loaded w v e;
       }
 
-  pub ended : (h : ℕ) (w v u : List ℕ) → v ≡ loaded w i (replicate maxWires 0) → u ≡ walked s g h v → Ended s i o g u
+  pub ended : (h : ℕ) (w v u : List ℕ) → v ≡ loaded w i (replicate wireBytes 0) → u ≡ walked s g h v → Ended s i o g u
   ended h w v u e q =
       record {
         laid = f .laid;
@@ -66,7 +74,7 @@ module _ (s : List ℕ) (i o g : ℕ) (f : Legal s i o g) where
         room = ap length q ∙ length-walked s g h v ∙ room-loaded w v e;
       }
 
-  pub outputs-right : (h : ℕ) (w v u : List ℕ) → h ≡ headOf s → unusedZero i w ≡ true → v ≡ loaded w i (replicate maxWires 0) → u ≡ walked s g h v
+  pub outputs-right : (h : ℕ) (w v u : List ℕ) → h ≡ headOf s → unusedZero i w ≡ true → v ≡ loaded w i (replicate wireBytes 0) → u ≡ walked s g h v
       → outBits s u o ≡ evaluate (circuitOf s) (bitAt w)
   outputs-right h w v u p z e q =
       ap (λ (x : List ℕ). outBits s x o) (q ∙ ap (walked s g h) e)
@@ -75,7 +83,7 @@ module _ (s : List ℕ) (i o g : ℕ) (f : Legal s i o g) where
   -- the operation in the numbers that the code carries
   lent-form : (w y : List ℕ) → evaluateLegal w y (circuitOf s)
       ≡ unless (holds i w && holds o y) 6 (y ∷ []) (unless (unusedZero i w) 7 (y ∷ []) (filled (pack (evaluate (circuitOf s) (bitAt w)) ∷ [])))
-  unfolding evaluateLegal circuitOf
+  unfolding evaluateLegal fields.circuitOf
   lent-form w y = rw (f .laid .inputs, f .laid .outputs, length-tabulate (outputsOf s) (outputWire s))
 
   pub refuse-witness : (w y : List ℕ) (r : ℕ) → r ≡ oct i → (length w ≡ r → ⊥)
@@ -106,12 +114,12 @@ evaluate-refused s w y k {x} r p e =
     rw (refusal-refused s (numberOf k) x q)
 
 -- what the right length says
-sized-whole : (s : List ℕ) → rightLength s ≡ true → length s ≡ 8 + 2 * outputsOf s + 8 * gatesOf s
-unfolding rightLength
-sized-whole s e = eqb-true (length s) (8 + 2 * outputsOf s + 8 * gatesOf s) e
+sized-whole : (s : List ℕ) → rightLength s ≡ true → length s ≡ width * (4 + outputsOf s + 4 * gatesOf s)
+unfolding fields.rightLength
+sized-whole s e = eqb-true (length s) (width * (4 + outputsOf s + 4 * gatesOf s)) e
 
-limited-limits : (s : List ℕ) → withinLimits s ≡ limits (inputsOf s) (outputsOf s) (gatesOf s)
-unfolding withinLimits limits
+limited-limits : (s : List ℕ) → withinLimits s ≡ steps.limits maxGates (inputsOf s) (outputsOf s) (gatesOf s)
+unfolding fields.withinLimits steps.limits
 limited-limits s = refl
 
 -- a file that reads as legal
@@ -132,10 +140,11 @@ module _ (s : List ℕ) (z : Sizes) (r : ReadAnswer) (p : r ≡ readAnswer.Legal
       let b : z .outputs ≡ outputsOf s = cc in
       let d : z .gates ≡ gatesOf s = cc in
       let t = legal-passed in
-      let m = limits-few (inputsOf s) (outputsOf s) (gatesOf s) (sym (limited-limits s) ∙ t .front .limited) in
+      let m = limits-few maxGates (inputsOf s) (outputsOf s) (gatesOf s) (sym (limited-limits s) ∙ t .front .limited) in
       let w = sized-whole s (t .front .sized) in
       record {
         laid = record {
+          known = width-known;
           inputs = a;
           outputs = b;
           gates = d;

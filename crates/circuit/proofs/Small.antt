@@ -7,10 +7,12 @@ use Prim.Native.Nat.{ℕ, _≤_, _<_, _^_}
 use native.Mathlib.Omega.{arith}
 use lib.ListN.{length, getD}
 use Rattle.bits.proofs.Numbers.{lt-or-le}
-use Rattle.circuit.specs.Steps.{limits}
+use Rattle.circuit.specs.FieldSteps.{limits}
 use Rattle.refusal.specs.Outcome.{Answer, refusalAt, success}
 use Rattle.circuit.specs.Circuit.{Gate, xor, and, inv, ands}
-use Rattle.circuit.specs.File.{maxGates, inputsOf, outputsOf, gatesOf, linkOf, chainWalk, gatesInOrder, refused, readCircuit}
+use Rattle.circuit.specs.Fields as fields
+use Rattle.circuit.specs.File.{maxGates, fieldsOf, inputsOf, outputsOf, gatesOf, gatesInOrder, refused, readCircuit}
+use Rattle.circuit.specs.Steps.{linkOf}
 use Rattle.circuit.specs.Operations.{readOp}
 use Rattle.circuit.specs.Answers.{readPaper}
 use Rattle.circuit.specs.declared.Sizes.{Sizes}
@@ -18,7 +20,8 @@ use Rattle.circuit.specs.declared.ReadAnswer.the-variants as readAnswer
 use Rattle.refusal.specs.declared.Refusal.{Refusal}
 use Rattle.circuit.proofs.Walking.{fault-low}
 use Rattle.circuit.proofs.Faults.{read-fault}
-use Rattle.circuit.proofs.Answered.{refusal-refused, gates-count, read-success, success-passed, header, limits-few}
+use Rattle.circuit.proofs.Answered.{refusal-refused, gates-count, read-success, success-passed}
+use Rattle.circuit.proofs.Readings.{header, limits-few}
 
 -- the AND gates are some of the gates
 ands-le : (gs : List Gate) → ands gs ≤ length gs
@@ -39,7 +42,7 @@ pub read-small : (s : List ℕ) (z : Sizes) → readPaper (readAnswer.Legal z) �
 read-small s z e =
     let p = success-passed s _ e in
     let f = e ∙ read-success s p in
-    let l = limits-few (inputsOf s) (outputsOf s) (gatesOf s) (header s _ _ _ (limits (inputsOf s) (outputsOf s) (gatesOf s)) refl refl refl refl ∙ p .front .limited) in
+    let l = limits-few maxGates (inputsOf s) (outputsOf s) (gatesOf s) (header maxGates (fieldsOf s) _ _ _ (limits maxGates (inputsOf s) (outputsOf s) (gatesOf s)) refl refl refl refl ∙ p .front .limited) in
     let i : z .inputs ≡ inputsOf s = ap (valueAt 0) f in
     let o : z .outputs ≡ outputsOf s = ap (valueAt 1) f in
     let g : z .gates ≡ gatesOf s = ap (valueAt 2) f in
@@ -50,12 +53,12 @@ read-small s z e =
 
 -- the slot of a refused reading is at most the largest G
 slot-few : (s : List ℕ) (k x : ℕ) → readCircuit s ≡ refused k x → x ≤ maxGates
-unfolding chainWalk
+unfolding fields.chainWalk
 slot-few s k x e =
     ⊎-elim
     (λ (l : k < 19). omega (arith, read-fault .slotless s k x l e))
     (λ (l : 19 ≤ k). let p = read-fault .chain s k x l .0 e in
-    let m = limits-few (inputsOf s) (outputsOf s) (gatesOf s) (header s _ _ _ (limits (inputsOf s) (outputsOf s) (gatesOf s)) refl refl refl refl ∙ p .0 .limited) in
+    let m = limits-few maxGates (inputsOf s) (outputsOf s) (gatesOf s) (header maxGates (fieldsOf s) _ _ _ (limits maxGates (inputsOf s) (outputsOf s) (gatesOf s)) refl refl refl refl ∙ p .0 .limited) in
     omega (arith, fault-low (gatesOf s) (linkOf s) k x (p .1), m .1 .1))
     (lt-or-le k 19)
 

@@ -13,27 +13,30 @@ use Rattle.bits.proofs.Numbers.{eq-or-ne}
 use Rattle.bits.proofs.Tests.{and-true-left, and-true-right}
 use Rattle.bits.specs.Counting.{count}
 use Rattle.bits.proofs.Counting.{Within, count-here, count-other, within-first, within-rest, each-once, once-length}
-use Rattle.circuit.specs.File.{gatesOf, headOf, nextOf, goodChain, chainFrom}
+use Rattle.circuit.specs.Fields as fields
+use Rattle.circuit.specs.FieldSteps as steps
+use Rattle.circuit.specs.File.{fieldsOf, gatesOf, headOf, nextOf, goodChain, chainFrom}
 use Rattle.circuit.specs.Steps.{walks}
 use Rattle.circuit.specs.Meaning.{Follows, VisitsAllOnce, ChainTheorem}
 use Rattle.circuit.proofs.Walking.{chain-walks}
+use Rattle.circuit.proofs.Slots.{length-chain}
 
 module _ (s : List ℕ) where
   -- a way of no links starts at the end
   walks-end : (k : ℕ) → walks s 0 k ≡ true → k ≡ 0
-  unfolding walks
+  unfolding steps.walks
   walks-end k t = eqb-true k 0 t
 
   -- a way of one link more starts at a slot
   walks-slot : (n k : ℕ) → walks s (suc n) k ≡ true → (1 ≤ k) × (k ≤ gatesOf s)
-  unfolding walks
+  unfolding steps.walks
   walks-slot n k t =
       let u : leb 1 k && leb k (gatesOf s) ≡ true = and-true-left _ (walks s n (nextOf s k)) t in
       (leb-true 1 k (and-true-left (leb 1 k) (leb k (gatesOf s)) u), leb-true k (gatesOf s) (and-true-right (leb 1 k) (leb k (gatesOf s)) u))
 
   -- and goes on from the slot's successor
   walks-next : (n k : ℕ) → walks s (suc n) k ≡ true → walks s n (nextOf s k) ≡ true
-  unfolding walks
+  unfolding steps.walks
   walks-next n k t = and-true-right (leb 1 k && leb k (gatesOf s)) (walks s n (nextOf s k)) t
 
   -- from a slot, a way that ends has one length
@@ -45,7 +48,7 @@ module _ (s : List ℕ) where
 
   -- so a way does not pass a slot from which the end is further away
   not-passed : (n x m k : ℕ) → walks s n x ≡ true → walks s m k ≡ true → n < m → count k (chainFrom s n x) ≡ 0
-  unfolding chainFrom count
+  unfolding fields.chainFrom count
   not-passed zero x m k t u l = refl
   not-passed (suc n) x m k t u l =
       count-other k x (chainFrom s n (nextOf s x)) (λ e. omega (arith, one-length (suc n) m k (rw (sym e) at t) u))
@@ -53,7 +56,7 @@ module _ (s : List ℕ) where
 
   -- and passes no slot twice
   at-most-once : (n x k : ℕ) → walks s n x ≡ true → count k (chainFrom s n x) ≤ 1
-  unfolding chainFrom count
+  unfolding fields.chainFrom count
   at-most-once zero x k t = omega arith
   at-most-once (suc n) x k t =
       let rest : List ℕ = chainFrom s n (nextOf s x) in
@@ -64,28 +67,22 @@ module _ (s : List ℕ) where
 
   -- it passes slots only
   pub slots-only : (n x : ℕ) → walks s n x ≡ true → Within (gatesOf s) (chainFrom s n x)
-  unfolding chainFrom count
+  unfolding fields.chainFrom count
   slots-only zero x t k o = refl
   slots-only (suc n) x t k o =
       let i : (1 ≤ x) × (x ≤ gatesOf s) = walks-slot n x t in
       let other : k ≢ x = λ e. ⊎-elim (λ z. omega arith) (λ l. omega arith) o in
       count-other k x (chainFrom s n (nextOf s x)) other ∙ slots-only n (nextOf s x) (walks-next n x t) k o
 
-  -- a way of n links passes n slots
-  pub length-chain : (n x : ℕ) → length (chainFrom s n x) ≡ n
-  unfolding chainFrom
-  length-chain zero x = refl
-  length-chain (suc n) x = ap suc (length-chain n (nextOf s x))
-
   -- which follow each other up to the end
   chain-follows : (n x : ℕ) → walks s n x ≡ true → Follows s x (chainFrom s n x)
-  unfolding chainFrom Follows
+  unfolding fields.chainFrom Follows
   chain-follows zero x t = walks-end x t
   chain-follows (suc n) x t = (refl, chain-follows n (nextOf s x) (walks-next n x t))
 
   -- slots that follow each other up to the end are a way of as many links
   follows-walks : (x : ℕ) (slots : List ℕ) → Within (gatesOf s) slots → Follows s x slots → walks s (length slots) x ≡ true
-  unfolding walks Follows
+  unfolding steps.walks Follows
   follows-walks x [] w f = eq-eqb x 0 f
   follows-walks x (y ∷ ys) w f =
       let i : (1 ≤ y) × (y ≤ gatesOf s) = within-first (gatesOf s) y ys w in
@@ -100,7 +97,7 @@ module _ (s : List ℕ) where
       let only : Within g (chainFrom s g h) = slots-only g h t in
       record {
         follows = chain-follows g h t;
-        once = each-once g (chainFrom s g h) only (λ k. at-most-once g h k t) (length-chain g h);
+        once = each-once g (chainFrom s g h) only (λ k. at-most-once g h k t) (length-chain (fieldsOf s) g h);
         only = only;
       }
 

@@ -11,8 +11,10 @@ use lib.Dec.{eqb, leb}
 use lib.ListN.{length}
 use Rattle.bits.proofs.Numbers.{lt-or-le, eq-or-ne}
 use Rattle.circuit.specs.Chain.{Walk, ends, fault, walkFrom, walk, endsWell}
-use Rattle.circuit.specs.File.{gatesOf, headOf, nextOf, linkOf, chainWalk, goodChain}
-use Rattle.circuit.specs.Steps.{walks}
+use Rattle.circuit.specs.Fields.{Fields, gatesOf, headOf, nextOf, linkOf, chainWalk, goodChain}
+use Rattle.circuit.specs.FieldSteps.{walks}
+use Rattle.circuit.specs.File as file
+use Rattle.circuit.specs.Steps as form
 use Rattle.circuit.specs.Meaning.{Passes, Meets, BeyondGates, EndsEarly, GoesOn, FirstFaultTheorem}
 
 -- the parts of a fault
@@ -205,7 +207,7 @@ unfolding endsWell
 well-ends ends t = refl
 well-ends (fault k x) t = absurd (let z : _≡_ {A = ℕ} 0 1 = cc in omega arith)
 
-module _ (s : List ℕ) where
+module _ (s : Fields) where
   -- the links of a file
   pub link-head : linkOf s 0 ≡ headOf s
   unfolding linkOf
@@ -238,6 +240,10 @@ module _ (s : List ℕ) where
       (lt-or-le (gatesOf s) (linkOf s x))
 
   -- the test of the chain in these terms
-  pub chain-walks : goodChain s ≡ walks s (gatesOf s) (headOf s)
+  pub walked-chain : goodChain s ≡ walks s (gatesOf s) (headOf s)
   unfolding goodChain chainWalk
-  chain-walks = walks-same (gatesOf s) 0 ∙ ap (walks s (gatesOf s)) link-head
+  walked-chain = walks-same (gatesOf s) 0 ∙ ap (walks s (gatesOf s)) link-head
+
+-- in the form in use
+pub chain-walks : (s : List ℕ) → file.goodChain s ≡ form.walks s (file.gatesOf s) (file.headOf s)
+chain-walks s = walked-chain (file.fieldsOf s)

@@ -18,7 +18,9 @@ use Rattle.bits.proofs.Tests.{and-true-left, and-true-right}
 use Rattle.bits.specs.Counting.{count}
 use Rattle.bits.proofs.Counting.{Within, count-here, count-same, count-other, count-rest, within-first, within-rest}
 use Rattle.circuit.specs.Circuit.{Gate, xor, and, inv, Circuit, put}
-use Rattle.circuit.specs.File.{inputsOf, outputsOf, gatesOf, headOf, outputWire, kindOf, wireA, wireB, goodChain, chainFrom, gateAt, gatesInOrder, readsWritten, goodOutputs, goodWires, circuitOf}
+use Rattle.circuit.specs.Fields as fields
+use Rattle.circuit.specs.File.{inputsOf, outputsOf, gatesOf, headOf, outputWire, goodChain, chainFrom, gatesInOrder, readsWritten, goodWires}
+use Rattle.circuit.specs.Steps.{kindOf, wireA, wireB, gateAt, goodOutputs}
 use Rattle.circuit.specs.Meaning.{reads, writes, ReadsEarlier, WiresTheorem}
 use Rattle.circuit.proofs.Visits.{chain-sound}
 use Rattle.circuit.proofs.Answered.{passed, gates-count, read-same}
@@ -45,7 +47,7 @@ out-kind false false a b c = refl
 
 -- "Slot k writes wire I + k − 1"
 slot-writes : (s : List ℕ) (k : ℕ) → out (gateAt s k) ≡ inputsOf s + k - 1
-unfolding gateAt
+unfolding fields.gateAt
 slot-writes s k = out-kind (eqb (kindOf s k) 1) (eqb (kindOf s k) 2) (wireA s k) (wireB s k) (inputsOf s + k - 1)
 
 -- the wires that the gates of slots write
@@ -80,7 +82,7 @@ module _ (I g : ℕ) where
 -- on a good chain, each wire from I to I + G − 1 is written once
 gates-once : (s : List ℕ) → goodChain s ≡ true → (w : ℕ) → inputsOf s ≤ w → w < inputsOf s + length (gatesInOrder s)
     → count w (writes (gatesInOrder s)) ≡ 1
-unfolding gatesInOrder
+unfolding fields.gatesInOrder
 gates-once s t w p l =
     let slots : List ℕ = chainFrom s (gatesOf s) (headOf s) in
     let k : ℕ = suc (w - inputsOf s) in
@@ -94,7 +96,7 @@ gates-once s t w p l =
 -- and no other wire
 gates-only : (s : List ℕ) → goodChain s ≡ true → (w : ℕ) → (w < inputsOf s) ⊎ (inputsOf s + length (gatesInOrder s) ≤ w)
     → count w (writes (gatesInOrder s)) ≡ 0
-unfolding gatesInOrder
+unfolding fields.gatesInOrder
 gates-only s t w o =
     let slots : List ℕ = chainFrom s (gatesOf s) (headOf s) in
     ap (count w) (slots-write s slots)
@@ -130,7 +132,7 @@ in-front a rest = omega (arith, count-same a rest)
 
 -- what the test says of a gate: the wires that it reads are written
 gate-reads : (f : ℕ → Bool) (g : Gate) (gs : List Gate) → readsWritten f (g ∷ gs) ≡ true → (w : ℕ) → 1 ≤ count w (reads g) → f w ≡ true
-unfolding readsWritten reads
+unfolding fields.readsWritten reads
 gate-reads f (xor a b c) gs t =
     let u : f a && f b ≡ true = and-true-left _ (readsWritten (put f c true) gs) t in
     in-two f a b (and-true-left (f a) (f b) u) (and-true-right (f a) (f b) u)
@@ -141,7 +143,7 @@ gate-reads f (inv a c) gs t = in-one f a (and-true-left (f a) (readsWritten (put
 
 -- and of the gates after it: they are tested with its wire written
 gate-rest : (f : ℕ → Bool) (g : Gate) (gs : List Gate) → readsWritten f (g ∷ gs) ≡ true → readsWritten (put f (out g) true) gs ≡ true
-unfolding readsWritten out
+unfolding fields.readsWritten out
 gate-rest f (xor a b c) gs t = and-true-right (f a && f b) (readsWritten (put f c true) gs) t
 gate-rest f (and a b c) gs t = and-true-right (f a && f b) (readsWritten (put f c true) gs) t
 gate-rest f (inv a c) gs t = and-true-right (f a) (readsWritten (put f c true) gs) t
@@ -149,7 +151,7 @@ gate-rest f (inv a c) gs t = and-true-right (f a) (readsWritten (put f c true) g
 -- the two together are the test
 gate-test : (f : ℕ → Bool) (g : Gate) (gs : List Gate) → ((w : ℕ) → 1 ≤ count w (reads g) → f w ≡ true)
     → readsWritten (put f (out g) true) gs ≡ true → readsWritten f (g ∷ gs) ≡ true
-unfolding readsWritten reads out
+unfolding fields.readsWritten reads out
 gate-test f (xor a b c) gs h t = rw (h a (in-front a (b ∷ [])), h b (omega (arith, in-front b [], count-rest b a (b ∷ [])))) t
 gate-test f (and a b c) gs h t = rw (h a (in-front a (b ∷ [])), h b (omega (arith, in-front b [], count-rest b a (b ∷ [])))) t
 gate-test f (inv a c) gs h t = rw (h a (in-front a [])) t
@@ -171,7 +173,7 @@ test-earlier f (x ∷ before) after g t w h =
 earlier-test : (f : ℕ → Bool) (gs : List Gate)
     → ((before after : List Gate) (g : Gate) → gs ≡ before ++ (g ∷ after) → (w : ℕ) → 1 ≤ count w (reads g) → (f w ≡ true) ⊎ (1 ≤ count w (writes before)))
     → readsWritten f gs ≡ true
-unfolding readsWritten writes count
+unfolding fields.readsWritten writes count
 earlier-test f [] h = refl
 earlier-test f (x ∷ gs) h =
     let f′ : ℕ → Bool = put f (out x) true in
@@ -188,7 +190,7 @@ earlier-test f (x ∷ gs) h =
 
 -- the test of the outputs: the first n output wires are below I + G
 outputs-below : (s : List ℕ) (n : ℕ) → goodOutputs s n ≡ true → (j : ℕ) → j < n → outputWire s j < inputsOf s + gatesOf s
-unfolding goodOutputs
+unfolding fields.goodOutputs
 outputs-below s zero t j l = absurd (omega arith)
 outputs-below s (suc n) t j l =
     let here : outputWire s n < inputsOf s + gatesOf s = ltb-true _ _ (and-true-right (goodOutputs s n) (ltb (outputWire s n) (inputsOf s + gatesOf s)) t) in
@@ -199,13 +201,13 @@ outputs-below s (suc n) t j l =
 
 -- and if they are, the test passes
 below-outputs : (s : List ℕ) (n : ℕ) → ((j : ℕ) → j < n → outputWire s j < inputsOf s + gatesOf s) → goodOutputs s n ≡ true
-unfolding goodOutputs
+unfolding fields.goodOutputs
 below-outputs s zero h = refl
 below-outputs s (suc n) h = rw (below-outputs s n (λ j l. h j (omega arith)), lt-ltb (outputWire s n) (inputsOf s + gatesOf s) (h n (omega arith)))
 
 -- a gate of a file whose wires pass the test reads inputs or what an earlier gate writes
 reads-earlier : (s : List ℕ) → goodWires s ≡ true → ReadsEarlier (inputsOf s) (gatesInOrder s)
-unfolding goodWires
+unfolding fields.goodWires
 reads-earlier s t before after g e w h =
     let f : ℕ → Bool = λ w. ltb w (inputsOf s) in
     let u : readsWritten f (gatesInOrder s) ≡ true = and-true-left (readsWritten f (gatesInOrder s)) (goodOutputs s (outputsOf s)) t in
@@ -214,7 +216,7 @@ reads-earlier s t before after g e w h =
 -- and its output wires are below I + G
 outputs-good : (s : List ℕ) → goodWires s ≡ true → (j : ℕ) → j < length (tabulate (outputsOf s) (outputWire s))
     → getD (tabulate (outputsOf s) (outputWire s)) j 0 < inputsOf s + length (gatesInOrder s)
-unfolding goodWires
+unfolding fields.goodWires
 outputs-good s t j l =
     let f : ℕ → Bool = λ w. ltb w (inputsOf s) in
     let b : j < outputsOf s = omega (arith, length-tabulate (outputsOf s) (outputWire s)) in
@@ -224,7 +226,7 @@ outputs-good s t j l =
 -- wires of which both hold pass the test
 wires-complete : (s : List ℕ) → ReadsEarlier (inputsOf s) (gatesInOrder s)
     → ((j : ℕ) → j < outputsOf s → outputWire s j < inputsOf s + gatesOf s) → goodWires s ≡ true
-unfolding goodWires
+unfolding fields.goodWires
 wires-complete s h o =
     let f : ℕ → Bool = λ w. ltb w (inputsOf s) in
     let u : readsWritten f (gatesInOrder s) ≡ true =
@@ -233,7 +235,7 @@ wires-complete s h o =
 
 -- Theorem, wires
 pub wires-theorem : WiresTheorem
-unfolding circuitOf
+unfolding fields.circuitOf
 wires-theorem =
     record {
       once = λ s c r. let p = passed s c r in

@@ -1,6 +1,8 @@
 pub mod Answers
 pub mod Chain
 pub mod Circuit
+pub mod Fields
+pub mod FieldSteps
 pub mod File
 pub mod Meaning
 pub mod Operations

@@ -3,13 +3,14 @@
 use mathlib.Core.Path.{_≡_}
 use mathlib.Core.Bool.{true}
 use mathlib.Core.List.{List, [], _∷_, _++_}
-use mathlib.Core.Logic.{_⊎_}
-use Prim.Native.Nat.{ℕ, _+_, _≤_, _<_}
+use mathlib.Core.Logic.{_⊎_, _≢_}
+use Prim.Native.Nat.{ℕ, _+_, _*_, _≤_, _<_}
 use lib.ListN.{length, getD}
 use Rattle.bits.specs.Counting.{count}
 use Rattle.circuit.specs.Circuit.{Gate, xor, and, inv, Circuit}
 use Rattle.circuit.specs.Chain.{fault, walk}
-use Rattle.circuit.specs.File.{inputsOf, outputsOf, gatesOf, headOf, outputWire, nextOf, withinLimits, rightLength, goodRecords, chainWalk, goodChain, chainFrom, gatesInOrder, goodWires, refused, legal, readCircuit}
+use Rattle.circuit.specs.Fields as fields
+use Rattle.circuit.specs.File.{width, inputsOf, outputsOf, gatesOf, headOf, outputWire, nextOf, withinLimits, rightLength, goodRecords, chainWalk, goodChain, chainFrom, gatesInOrder, goodWires, refused, legal, readCircuit}
 
 -- the slots of a list follow each other by their links: from k on, and after the last one the chain ends
 unfoldable pub Follows : List ℕ → ℕ → List ℕ → Type 0
@@ -63,7 +64,7 @@ pub record FirstFaultTheorem : Type 0 where
 
 -- a file that passes the tests before the chain: 1, 2, 1 and 3
 pub record Recorded (s : List ℕ) : Type 0 where
-  pub enough : 8 ≤ length s
+  pub enough : width * 4 ≤ length s
   pub limited : withinLimits s ≡ true
   pub sized : rightLength s ≡ true
   pub records : goodRecords s (gatesOf s) ≡ true
@@ -105,3 +106,22 @@ pub record WiresTheorem : Type 0 where
       → getD (c .outputs) j 0 < c .inputs + length (c .gates)
   pub complete : (s : List ℕ) → ReadsEarlier (inputsOf s) (gatesInOrder s)
       → ((j : ℕ) → j < outputsOf s → outputWire s j < inputsOf s + gatesOf s) → goodWires s ≡ true
+
+-- two files, of the right length each, whose fields have w and v bytes and are the same
+pub record SameFields (w v : ℕ) (s t : List ℕ) : Type 0 where
+  pub right : fields.rightLength w s ≡ true
+  pub right-too : fields.rightLength v t ≡ true
+  pub same : (k : ℕ) → k < fields.fieldCount (fields.field w s) → fields.field w s k ≡ fields.field v t k
+
+-- Theorem, fields: such files are read alike. Where the one, with at most m gates, is not refused with 2, the other, with at most m
+-- gates or more, gives the same circuit, or the same refusal (3, 19, 20, 21 or 5) with the same slot
+pub record FieldsTheorem : Type 0 where
+  pub alike : (w v m n : ℕ) (s t : List ℕ) → SameFields w v s t → m ≤ n → fields.readWith w m s ≢ refused 2 0
+      → fields.readWith v n t ≡ fields.readWith w m s
+
+-- Theorem, kind: of two bytes, a field is the number k of one byte exactly if its first byte is k and its second is zero: "kind u8 (..),
+-- zero u8", for the kind of slot x
+pub record KindTheorem : Type 0 where
+  pub bytes : (s : List ℕ) → ((i : ℕ) → getD s i 0 < 256) → (x k : ℕ) → k < 256
+      → let at : ℕ = 2 * fields.recordAt (fields.field 2 s) x in
+      Exactly (fields.kindOf (fields.field 2 s) x ≡ k) ((getD s at 0 ≡ k) × (getD s (at + 1) 0 ≡ 0))

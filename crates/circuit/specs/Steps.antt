@@ -1,13 +1,17 @@
--- What only the contracts of steps use: no definition of the paper stands here.
+-- What only the contracts of steps use, for files in the form in use: no definition of the paper stands here.
 -- Assumes nothing.
 use mathlib.Core.Path.{_≡_}
-use mathlib.Core.Bool.{Bool, true, false, cond, _&&_, _||_}
+use mathlib.Core.Bool.{Bool, true, false, not, _&&_, _||_}
 use mathlib.Core.List.{List, map}
-use Prim.Native.Nat.{ℕ, zero, suc, _+_, _-_, _*_, _<_, _≤_}
-use lib.ListN.{length, getD, set}
-use lib.Bits.{bitXor, bitAnd}
-use Rattle.bits.specs.Bits.{tabulate, odd, bitVal, bitAt, fromBits, oct, unusedZero}
-use Rattle.circuit.specs.File.{kindOf, wireA, wireB, inputsOf, outputWire, nextOf, goodChain, goodWires, goodOutputs, outputsOf, gatesOf, recordAt, headOf, maxInputs, maxOutputs, maxGates, withinLimits, rightLength, chainFrom, gateAt, readsWritten, goodRecords}
+use Prim.Native.Nat.{ℕ, zero, suc, _+_, _-_, _*_, _<_}
+use lib.ListN.{length, getD}
+use lib.Dec.{ltb}
+use Rattle.bits.specs.Bits.{tabulate, bitAt, fromBits, oct, unusedZero}
+use Rattle.bits.specs.Steps.{putBit}
+use Rattle.bits.specs.Xor.{_⊕_}
+use Rattle.circuit.specs.File.{width, maxInputs, maxGates, fieldsOf, inputsOf, outputWire, nextOf, goodChain, goodWires}
+use Rattle.circuit.specs.Fields as fields
+use Rattle.circuit.specs.FieldSteps as steps
 use Rattle.circuit.specs.declared.Gate.{Gate}
 use Rattle.circuit.specs.declared.Gate.the-variants.{Xor, And, Inv}
 use Rattle.circuit.specs.declared.Record.{Record}
@@ -15,45 +19,82 @@ use Rattle.refusal.specs.Refusal.{numberOf}
 use Rattle.circuit.specs.Chain as chain
 use Rattle.circuit.specs.declared.Walk.{Walk}
 use Rattle.circuit.specs.declared.Walk.the-variants.{Ends, Fault}
-use lib.Dec.{eqb, leb, ltb}
 use Rattle.circuit.specs.Circuit as paper
 
--- "I is 1..512, O 1..256, G 0..4,096": so a circuit has at most maxInputs + maxGates wires
+-- the most wires of a circuit: its inputs and its gates
 abbrev pub maxWires : ℕ
-maxWires = 4608
+maxWires = maxInputs + maxGates
 
--- the gate of slot k; a kind that is neither 1 nor 2 reads as INV
-unfoldable pub gateOf : List ℕ → ℕ → Gate
-gateOf s k =
-    cond (eqb (kindOf s k) 1) (Xor (wireA s k) (wireB s k)) (cond (eqb (kindOf s k) 2) (And (wireA s k) (wireB s k)) (Inv (wireA s k)))
+-- the bytes for a bit of each wire
+abbrev pub wireBytes : ℕ
+wireBytes = oct maxWires
 
--- "A gate record read is its kind with its wires, beside its successor."
-unfoldable pub recordOf : List ℕ → ℕ → Record
-recordOf s k = record { next = nextOf s k; gate = gateOf s k }
+-- parts of the file (Fields.antt, under the same names) in this form
+abbrev pub recordAt : List ℕ → ℕ → ℕ
+recordAt s = fields.recordAt (fieldsOf s)
 
--- the byte that a gate gives
-abbrev pub gateByte : Gate → List ℕ → ℕ
-gateByte (Xor a b) v = bitXor (getD v a 0) (getD v b 0)
-gateByte (And a b) v = bitAnd (getD v a 0) (getD v b 0)
-gateByte (Inv a) v = bitXor 1 (getD v a 0)
+abbrev pub kindOf : List ℕ → ℕ → ℕ
+kindOf s = fields.kindOf (fieldsOf s)
 
--- the bits of the wires
-unfoldable pub bitsOf : List ℕ → ℕ → Bool
-bitsOf v w = odd (getD v w 0)
+abbrev pub wireA : List ℕ → ℕ → ℕ
+wireA s = fields.wireA (fieldsOf s)
+
+abbrev pub wireB : List ℕ → ℕ → ℕ
+wireB s = fields.wireB (fieldsOf s)
+
+abbrev pub goodRecord : List ℕ → ℕ → Bool
+goodRecord s = fields.goodRecord (fieldsOf s)
+
+abbrev pub linkOf : List ℕ → ℕ → ℕ
+linkOf s = fields.linkOf (fieldsOf s)
+
+abbrev pub gateAt : List ℕ → ℕ → paper.Gate
+gateAt s = fields.gateAt (fieldsOf s)
+
+abbrev pub goodOutputs : List ℕ → ℕ → Bool
+goodOutputs s = fields.goodOutputs (fieldsOf s)
+
+-- the steps of reading (FieldSteps.antt, under the same names) in this form
+abbrev pub gateOf : List ℕ → ℕ → Gate
+gateOf s = steps.gateOf (fieldsOf s)
+
+abbrev pub recordOf : List ℕ → ℕ → Record
+recordOf s = steps.recordOf (fieldsOf s)
+
+abbrev pub walks : List ℕ → ℕ → ℕ → Bool
+walks s = steps.walks (fieldsOf s)
+
+abbrev pub gatesFrom : List ℕ → ℕ → ℕ → List paper.Gate
+gatesFrom s = steps.gatesFrom (fieldsOf s)
+
+abbrev pub Inside : List ℕ → ℕ → ℕ → Type 0
+Inside s = steps.Inside width s
+
+abbrev pub Laid : List ℕ → ℕ → ℕ → ℕ → Type 0
+Laid s = steps.Laid width s
+
+abbrev pub Chained : List ℕ → ℕ → ℕ → ℕ → ℕ → Type 0
+Chained s = steps.Chained width s
+
+-- the bit that a gate gives, where the wires have the bits f
+abbrev pub gateBit : Gate → (ℕ → Bool) → Bool
+gateBit (Xor a b) f = f a ⊕ f b
+gateBit (And a b) f = f a && f b
+gateBit (Inv a) f = not (f a)
 
 -- the first k wires with the first k bits of the witness
 unfoldable pub loaded : List ℕ → ℕ → List ℕ → List ℕ
 loaded w zero v = v
-loaded w (suc k) v = set (loaded w k v) k (bitVal (bitAt w k))
+loaded w (suc k) v = putBit (loaded w k v) k (bitAt w k)
 
--- the bytes after n gates from slot k on
+-- the wires' bits after n gates from slot k on
 unfoldable pub walked : List ℕ → ℕ → ℕ → List ℕ → List ℕ
 walked s zero k v = v
-walked s (suc n) k v = walked s n (nextOf s k) (set v (inputsOf s + k - 1) (gateByte (gateOf s k) v))
+walked s (suc n) k v = walked s n (nextOf s k) (putBit v (inputsOf s + k - 1) (gateBit (gateOf s k) (bitAt v)))
 
 -- the o output bits
 unfoldable pub outBits : List ℕ → List ℕ → ℕ → List Bool
-outBits s v o = map (bitsOf v) (tabulate o (outputWire s))
+outBits s v o = map (bitAt v) (tabulate o (outputWire s))
 
 -- byte j of the packed output bits
 unfoldable pub outByte : List ℕ → List ℕ → ℕ → ℕ → ℕ
@@ -82,27 +123,11 @@ placed (Xor a b) c = paper.xor a b c
 placed (And a b) c = paper.and a b c
 placed (Inv a) c = paper.inv a c
 
--- the record of slot k lies inside the file, which has o outputs
-pub record Inside (s : List ℕ) (o k : ℕ) : Type 0 where
-  pub outputs : o ≡ outputsOf s
-  pub first : 1 ≤ k
-  pub room : recordAt s k + 8 ≤ length s
-
--- i, o and g are the file's I, O and G, within limits, and the file is as long as they say
-pub record Laid (s : List ℕ) (i o g : ℕ) : Type 0 where
-  pub inputs : i ≡ inputsOf s
-  pub outputs : o ≡ outputsOf s
-  pub gates : g ≡ gatesOf s
-  pub few-inputs : i ≤ maxInputs
-  pub few-outputs : o ≤ maxOutputs
-  pub few-gates : g ≤ maxGates
-  pub whole : length s ≡ 8 + 2 * o + 8 * g
-
--- the values' array holds every output wire
+-- the values hold every output wire
 pub record Ended (s : List ℕ) (i o g : ℕ) (v : List ℕ) : Type 0 where
   pub laid : Laid s i o g
   pub outputs : goodOutputs s o ≡ true
-  pub room : length v ≡ maxWires
+  pub room : length v ≡ wireBytes
 
 -- a legal file, whose I, O and G are i, o and g
 pub record Legal (s : List ℕ) (i o g : ℕ) : Type 0 where
@@ -110,43 +135,16 @@ pub record Legal (s : List ℕ) (i o g : ℕ) : Type 0 where
   pub chain : goodChain s ≡ true
   pub wires : goodWires s ≡ true
 
--- from slot k, n links that each lead to a slot, and then the end
-unfoldable pub walks : List ℕ → ℕ → ℕ → Bool
-walks s zero k = eqb k 0
-walks s (suc n) k = leb 1 k && leb k (gatesOf s) && walks s n (nextOf s k)
-
--- the file is so laid, and its chain from h visits each slot
-pub record Chained (s : List ℕ) (i o g h : ℕ) : Type 0 where
-  pub laid : Laid s i o g
-  pub chain : walks s g h ≡ true
-
--- the values' array holds every wire that is read on a good chain
+-- the values hold every wire that is read on a good chain
 pub record Ready (s : List ℕ) (i o g h : ℕ) (v : List ℕ) : Type 0 where
   pub chained : Chained s i o g h
   pub reads : wired s maxWires g h
-  pub room : length v ≡ maxWires
-
--- the file's header and length are good, and h is its head
-pub record Framed (s : List ℕ) (i o g h : ℕ) : Type 0 where
-  pub laid : Laid s i o g
-  pub head : h ≡ headOf s
-  pub limited : withinLimits s ≡ true
-  pub sized : rightLength s ≡ true
-
--- and its records and its chain are good too
-pub record Linked (s : List ℕ) (i o g h : ℕ) : Type 0 where
-  pub framed : Framed s i o g h
-  pub records : goodRecords s g ≡ true
-  pub chain : goodChain s ≡ true
+  pub room : length v ≡ wireBytes
 
 -- what the walk along the chain comes to, in the paper's terms
 abbrev pub walkPaper : Walk → chain.Walk
 walkPaper Ends = chain.ends
 walkPaper (Fault k x) = chain.fault (numberOf k) x
-
--- the limits on I, O and G
-unfoldable pub limits : ℕ → ℕ → ℕ → Bool
-limits i o g = leb 1 i && leb i maxInputs && leb 1 o && leb o maxOutputs && leb g maxGates
 
 -- 1 for an AND gate
 abbrev pub andOne : Gate → ℕ
@@ -160,14 +158,6 @@ readable written (Xor a b) = written a && written b
 readable written (And a b) = written a && written b
 readable written (Inv a) = written a
 
--- wire w is an input or its flag is set
+-- wire w is an input or its bit is set
 unfoldable pub seen : ℕ → List ℕ → ℕ → Bool
-seen i flags w = ltb w i || eqb (getD flags w 0) 1
-
--- the gates on the way of n links from slot k
-unfoldable pub gatesFrom : List ℕ → ℕ → ℕ → List paper.Gate
-gatesFrom s n k = map (gateAt s) (chainFrom s n k)
-
--- those gates read only inputs or wires written before them
-unfoldable pub inputsFirst : List ℕ → ℕ → ℕ → Bool
-inputsFirst s n k = readsWritten (λ w. ltb w (inputsOf s)) (gatesFrom s n k)
+seen i flags w = ltb w i || bitAt flags w

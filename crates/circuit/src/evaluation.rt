@@ -5,51 +5,47 @@ ghost use lib.ListN.{length, getD};
 ghost use mathlib.Core.Bool.{false};
 ghost use Rattle.bits.specs.Bits.{bitVal, bitAt, oct, pack};
 ghost use Rattle.circuit.specs.Circuit.{evaluate};
-ghost use Rattle.circuit.specs.File.{maxInputs, circuitOf};
+ghost use Rattle.circuit.specs.File.{circuitOf};
 ghost use Rattle.circuit.specs.Operations.{evaluateOp, evaluateLegal};
 ghost use Rattle.circuit.specs.Answers.{outcome};
-ghost use Rattle.circuit.specs.Steps.{maxWires, gateByte, loaded, walked, outBits, outByte, within, Ready, Ended, Legal, Lent};
+ghost use Rattle.circuit.specs.Steps.{gateBit, loaded, walked, outBits, outByte, within, Ready, Ended, Legal, Lent};
 use crate::EvaluateAnswer;
 use crate::Gate;
-use crate::MAX_WIRES;
 use crate::ReadAnswer;
+use crate::WIRE_BYTES;
 use crate::reading::read;
+use crate::records::head;
+use crate::records::output_wire;
 use crate::records::record;
 use refusal::Refusal;
 
 // Gives the input wires their bits.
-fn load(witness: &[u8], inputs: usize, values: &mut [u8; MAX_WIRES])
-    requires { ⌜ (inputs ≤ maxInputs) × (inputs ≤ 8 * length (now witness)) ⌝ }
+fn load(witness: &[u8], inputs: usize, values: &mut [u8])
+    requires { ⌜ (inputs ≤ 8 * length (now values)) × (inputs ≤ 8 * length (now witness)) ⌝ }
     ensures { λ _. ⌜ now (values .exit) ≡ loaded (now (witness .entry)) inputs (now (values .entry)) ⌝ }
 {
     let mut k = 0;
     while k < inputs {
-        values[k] = bits::bit(witness, k);
+        let b = bits::bit(witness, k);
+        bits::put_bit(values, k, b);
         k += 1;
     }
 }
 
-// The value that a gate gives.
-fn gate_byte(values: &[u8; MAX_WIRES], gate: Gate) -> u8
-    requires { ⌜ within maxWires gate ⌝ }
-    ensures { λ r. ⌜ r ≡ gateByte gate (now (values .entry)) ⌝ }
+// The bit that a gate gives.
+fn gate_bit(values: &[u8], gate: Gate) -> u8
+    requires { ⌜ within (8 * length (now values)) gate ⌝ }
+    ensures { λ r. ⌜ r ≡ bitVal (gateBit gate (bitAt (now (values .entry)))) ⌝ }
 {
     match gate {
-        Gate::Xor(a, b) => values[a] ^ values[b],
-        Gate::And(a, b) => values[a] & values[b],
-        Gate::Inv(a) => 1 ^ values[a],
+        Gate::Xor(a, b) => bits::bit(values, a) ^ bits::bit(values, b),
+        Gate::And(a, b) => bits::bit(values, a) & bits::bit(values, b),
+        Gate::Inv(a) => 1 ^ bits::bit(values, a),
     }
 }
 
 // Runs the gates in chain order.
-fn walk(
-    s: &[u8],
-    inputs: usize,
-    outputs: usize,
-    gates: usize,
-    head: usize,
-    values: &mut [u8; MAX_WIRES],
-)
+fn walk(s: &[u8], inputs: usize, outputs: usize, gates: usize, head: usize, values: &mut [u8])
     requires { ⌜ Ready (now s) inputs outputs gates head (now values) ⌝ }
     ensures { λ _. ⌜ now (values .exit) ≡ walked (now (s .entry)) gates head (now (values .entry)) ⌝ }
 {
@@ -58,41 +54,27 @@ fn walk(
     while 0 < left {
         let r = record(s, outputs, slot);
         let gate = r.gate;
-        let x = gate_byte(values, gate);
-        values[inputs + (slot - 1)] = x;
+        let x = gate_bit(values, gate);
+        bits::put_bit(values, inputs + (slot - 1), x);
         slot = r.next;
         left -= 1;
     }
 }
 
 // Output bit j; 0 beyond the last.
-fn output_bit(
-    s: &[u8],
-    inputs: usize,
-    outputs: usize,
-    gates: usize,
-    values: &[u8; MAX_WIRES],
-    j: usize,
-) -> u8
+fn output_bit(s: &[u8], inputs: usize, outputs: usize, gates: usize, values: &[u8], j: usize) -> u8
     requires { ⌜ Ended (now s) inputs outputs gates (now values) ⌝ }
     ensures { λ r. ⌜ r ≡ bitVal (getD (outBits (now (s .entry)) (now (values .entry)) outputs) j false) ⌝ }
 {
     if j < outputs {
-        let wire = bits::read_u16(s, 8 + 2 * j) as usize;
-        return values[wire] % 2;
+        let wire = output_wire(s, j);
+        return bits::bit(values, wire);
     }
     0
 }
 
 // Byte j of the packed output bits.
-fn output_byte(
-    s: &[u8],
-    inputs: usize,
-    outputs: usize,
-    gates: usize,
-    values: &[u8; MAX_WIRES],
-    j: usize,
-) -> u8
+fn output_byte(s: &[u8], inputs: usize, outputs: usize, gates: usize, values: &[u8], j: usize) -> u8
     requires { ⌜ (j < 32) × Ended (now s) inputs outputs gates (now values) ⌝ }
     ensures { λ r. ⌜ r ≡ outByte (now (s .entry)) (now (values .entry)) outputs j ⌝ }
 {
@@ -109,14 +91,7 @@ fn output_byte(
 }
 
 // Packs the output bits into y.
-fn store(
-    s: &[u8],
-    inputs: usize,
-    outputs: usize,
-    gates: usize,
-    values: &[u8; MAX_WIRES],
-    y: &mut [u8],
-)
+fn store(s: &[u8], inputs: usize, outputs: usize, gates: usize, values: &[u8], y: &mut [u8])
     requires { ⌜ (length (now y) ≡ oct outputs) × Ended (now s) inputs outputs gates (now values) ⌝ }
     ensures { λ _. ⌜ now (y .exit) ≡ pack (outBits (now (s .entry)) (now (values .entry)) outputs) ⌝ }
 {
@@ -139,10 +114,10 @@ fn evaluate_legal(
     requires { ⌜ Legal (now s) inputs outputs gates × Lent inputs outputs (now witness) (now y) ⌝ }
     ensures { λ _. ⌜ now (y .exit) ≡ pack (evaluate (circuitOf (now (s .entry))) (bitAt (now (witness .entry)))) ⌝ }
 {
-    let head = bits::read_u16(s, 6) as usize;
-    let mut values = [0u8; MAX_WIRES];
+    let first = head(s);
+    let mut values = [0u8; WIRE_BYTES];
     load(witness, inputs, &mut values);
-    walk(s, inputs, outputs, gates, head, &mut values);
+    walk(s, inputs, outputs, gates, first, &mut values);
     store(s, inputs, outputs, gates, &values, y);
 }
 

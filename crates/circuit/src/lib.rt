@@ -6,6 +6,9 @@ mod tests;
 
 use refusal::Refusal;
 
+// The bytes of a field of the file.
+pub const WIDTH: usize = 2;
+
 // The limits on I, O and G, and on the wires: MAX_INPUTS + MAX_GATES.
 pub const MAX_INPUTS: usize = 512;
 
@@ -14,6 +17,9 @@ pub const MAX_OUTPUTS: usize = 256;
 pub const MAX_GATES: usize = 4096;
 
 pub const MAX_WIRES: usize = 4608;
+
+// The bytes for a bit of each wire.
+pub const WIRE_BYTES: usize = 576;
 
 // A gate and the wires it reads.
 pub enum Gate {

@@ -1,11 +1,17 @@
 // Reading a circuit.
 ghost use mathlib.Core.Path.{_≡_};
+ghost use Prim.Native.Nat.{_≤_};
 ghost use Rattle.circuit.specs.Answers.{readPaper};
-ghost use Rattle.circuit.specs.Operations.{readOp};
-ghost use Rattle.circuit.specs.Steps.{Framed, Linked};
+ghost use Rattle.circuit.specs.Fields.{field, readFields, readWith};
+ghost use Rattle.circuit.specs.FieldSteps.{Known, Framed, Linked};
+ghost use Rattle.circuit.specs.File.{maxGates};
+ghost use Rattle.circuit.specs.Operations.{readAnswer, readOp};
+use crate::MAX_GATES;
 use crate::ReadAnswer;
 use crate::Sizes;
+use crate::WIDTH;
 use crate::Walk;
+use crate::records::field;
 use crate::tests::and_count;
 use crate::tests::good_outputs;
 use crate::tests::good_reads;
@@ -18,52 +24,74 @@ use refusal::Refusal;
 pub fn read(s: &[u8]) -> ReadAnswer
     ensures { λ r. ⌜ readPaper r ≡ readOp (now (s .entry)) ⌝ }
 {
-    if s.len() < 8 {
+    read_with(s, WIDTH, MAX_GATES)
+}
+
+// Reads a circuit in the form with fields of `bytes` bytes and at most `most` gates.
+pub fn read_with(s: &[u8], bytes: usize, most: usize) -> ReadAnswer
+    requires { ⌜ Known bytes × (most ≤ maxGates) ⌝ }
+    ensures { λ r. ⌜ readPaper r ≡ readAnswer (readWith bytes most (now (s .entry))) ⌝ }
+{
+    if s.len() < bytes * 4 {
         return ReadAnswer::Refused(Refusal::Length, 0);
     }
-    let inputs = bits::read_u16(s, 0) as usize;
-    let outputs = bits::read_u16(s, 2) as usize;
-    let gates = bits::read_u16(s, 4) as usize;
-    let head = bits::read_u16(s, 6) as usize;
-    let limited = within_limits(inputs, outputs, gates);
-    let sized = s.len() == 8 + 2 * outputs + 8 * gates;
+    let inputs = field(s, bytes, 0) as usize;
+    let outputs = field(s, bytes, 1) as usize;
+    let gates = field(s, bytes, 2) as usize;
+    let head = field(s, bytes, 3) as usize;
+    let limited = within_limits(most, inputs, outputs, gates);
+    let sized = s.len() == bytes * (4 + outputs + 4 * gates);
     if !limited {
         return ReadAnswer::Refused(Refusal::Limits, 0);
     }
     if sized {
-        read_body(s, inputs, outputs, gates, head)
+        read_body(s, bytes, inputs, outputs, gates, head)
     } else {
         ReadAnswer::Refused(Refusal::Length, 0)
     }
 }
 
 // Reads a circuit whose header and length are good.
-fn read_body(s: &[u8], inputs: usize, outputs: usize, gates: usize, head: usize) -> ReadAnswer
-    requires { ⌜ Framed (now s) inputs outputs gates head ⌝ }
-    ensures { λ r. ⌜ readPaper r ≡ readOp (now (s .entry)) ⌝ }
+fn read_body(
+    s: &[u8],
+    bytes: usize,
+    inputs: usize,
+    outputs: usize,
+    gates: usize,
+    head: usize,
+) -> ReadAnswer
+    requires { ⌜ Framed bytes (now s) inputs outputs gates head ⌝ }
+    ensures { λ r. ⌜ readPaper r ≡ readAnswer (readFields (field bytes (now (s .entry)))) ⌝ }
 {
-    if !good_records(s, inputs, outputs, gates) {
+    if !good_records(s, bytes, inputs, outputs, gates) {
         return ReadAnswer::Refused(Refusal::Record, 0);
     }
-    let walk = walk_chain(s, inputs, outputs, gates, head);
+    let walk = walk_chain(s, bytes, inputs, outputs, gates, head);
     match walk {
-        Walk::Ends => read_wires(s, inputs, outputs, gates, head),
+        Walk::Ends => read_wires(s, bytes, inputs, outputs, gates, head),
         Walk::Fault(k, slot) => ReadAnswer::Refused(k, slot),
     }
 }
 
 // Reads a circuit whose chain is good too.
-fn read_wires(s: &[u8], inputs: usize, outputs: usize, gates: usize, head: usize) -> ReadAnswer
-    requires { ⌜ Linked (now s) inputs outputs gates head ⌝ }
-    ensures { λ r. ⌜ readPaper r ≡ readOp (now (s .entry)) ⌝ }
+fn read_wires(
+    s: &[u8],
+    bytes: usize,
+    inputs: usize,
+    outputs: usize,
+    gates: usize,
+    head: usize,
+) -> ReadAnswer
+    requires { ⌜ Linked bytes (now s) inputs outputs gates head ⌝ }
+    ensures { λ r. ⌜ readPaper r ≡ readAnswer (readFields (field bytes (now (s .entry)))) ⌝ }
 {
-    if !good_reads(s, inputs, outputs, gates, head) {
+    if !good_reads(s, bytes, inputs, outputs, gates, head) {
         return ReadAnswer::Refused(Refusal::Wire, 0);
     }
-    if !good_outputs(s, inputs, outputs, gates) {
+    if !good_outputs(s, bytes, inputs, outputs, gates) {
         return ReadAnswer::Refused(Refusal::Wire, 0);
     }
-    let ands = and_count(s, inputs, outputs, gates, head);
+    let ands = and_count(s, bytes, inputs, outputs, gates, head);
     ReadAnswer::Legal(Sizes {
         inputs,
         outputs,

@@ -1,19 +1,21 @@
-// The tests of reading a circuit, each on its own, and the count of its AND gates.
+// The tests of reading a circuit, each on its own, and the count of its AND gates: for files with fields of `bytes` bytes.
 ghost use mathlib.Core.Path.{_≡_};
 ghost use mathlib.Core.Bool.{_&&_, _||_};
 ghost use lib.ListN.{length};
 ghost use Rattle.circuit.specs.Chain.{walkFrom};
 ghost use Rattle.circuit.specs.Circuit.{ands};
-ghost use Rattle.circuit.specs.File.{goodRecord, goodRecords, goodOutputs, chainWalk};
-ghost use Rattle.circuit.specs.Steps.{maxWires, Inside, Laid, Chained, Framed, walkPaper, limits, readable, seen, gatesFrom, inputsFirst};
+ghost use Rattle.circuit.specs.Fields.{field, goodRecord, goodRecords, goodOutputs, chainWalk};
+ghost use Rattle.circuit.specs.FieldSteps.{Inside, Laid, Chained, Framed, limits, gatesFrom, inputsFirst};
+ghost use Rattle.circuit.specs.Steps.{wireBytes, walkPaper, readable, seen};
 use crate::Gate;
-use crate::MAX_GATES;
 use crate::MAX_INPUTS;
 use crate::MAX_OUTPUTS;
 use crate::MAX_WIRES;
+use crate::WIRE_BYTES;
 use crate::Walk;
 use crate::records::and_one;
-use crate::records::record;
+use crate::records::field;
+use crate::records::record_with;
 use refusal::Refusal;
 
 // Both of two tests.
@@ -23,26 +25,25 @@ fn both(a: bool, b: bool) -> bool
     if a { b } else { false }
 }
 
-// Refusal 2: I, O and G within limits.
-pub(crate) fn within_limits(inputs: usize, outputs: usize, gates: usize) -> bool
-    ensures { λ r. ⌜ r ≡ limits inputs outputs gates ⌝ }
+// Refusal 2: I, O and G within limits, at most `most` for G.
+pub(crate) fn within_limits(most: usize, inputs: usize, outputs: usize, gates: usize) -> bool
+    ensures { λ r. ⌜ r ≡ limits most inputs outputs gates ⌝ }
 {
     let i = both(1 <= inputs, inputs <= MAX_INPUTS);
     let o = both(both(i, 1 <= outputs), outputs <= MAX_OUTPUTS);
-    both(o, gates <= MAX_GATES)
+    both(o, gates <= most)
 }
 
-// Refusal 3, one slot: a known kind, INV with b zero, and a zero second byte.
-fn good_record(s: &[u8], outputs: usize, slot: usize) -> bool
-    requires { ⌜ Inside (now s) outputs slot ⌝ }
-    ensures { λ r. ⌜ r ≡ goodRecord (now (s .entry)) slot ⌝ }
+// Refusal 3, one slot: a known kind, and INV with b zero.
+fn good_record(s: &[u8], bytes: usize, outputs: usize, slot: usize) -> bool
+    requires { ⌜ Inside bytes (now s) outputs slot ⌝ }
+    ensures { λ r. ⌜ r ≡ goodRecord (field bytes (now (s .entry))) slot ⌝ }
 {
-    let at = 8 + 2 * outputs + 8 * (slot - 1);
-    let kind = s[at];
-    let zero = s[at + 1];
-    let b = bits::read_u16(s, at + 4);
+    let at = 4 + outputs + 4 * (slot - 1);
+    let kind = field(s, bytes, at);
+    let b = field(s, bytes, at + 2);
     let inv = both(kind == 3, b == 0);
-    both(either(either(kind == 1, kind == 2), inv), zero == 0)
+    either(either(kind == 1, kind == 2), inv)
 }
 
 // One of two tests.
@@ -53,23 +54,36 @@ fn either(a: bool, b: bool) -> bool
 }
 
 // Refusal 3: every slot.
-pub(crate) fn good_records(s: &[u8], inputs: usize, outputs: usize, gates: usize) -> bool
-    requires { ⌜ Laid (now s) inputs outputs gates ⌝ }
-    ensures { λ r. ⌜ r ≡ goodRecords (now (s .entry)) gates ⌝ }
+pub(crate) fn good_records(
+    s: &[u8],
+    bytes: usize,
+    inputs: usize,
+    outputs: usize,
+    gates: usize,
+) -> bool
+    requires { ⌜ Laid bytes (now s) inputs outputs gates ⌝ }
+    ensures { λ r. ⌜ r ≡ goodRecords (field bytes (now (s .entry))) gates ⌝ }
 {
     let mut good = true;
     let mut k = 0;
     while k < gates {
-        good = both(good, good_record(s, outputs, k + 1));
+        good = both(good, good_record(s, bytes, outputs, k + 1));
         k += 1;
     }
     good
 }
 
 // Refusals 19, 20 and 21: the walk from the head along the links, up to its end or to the first fault.
-pub(crate) fn walk_chain(s: &[u8], inputs: usize, outputs: usize, gates: usize, head: usize) -> Walk
-    requires { ⌜ Framed (now s) inputs outputs gates head ⌝ }
-    ensures { λ r. ⌜ walkPaper r ≡ chainWalk (now (s .entry)) ⌝ }
+pub(crate) fn walk_chain(
+    s: &[u8],
+    bytes: usize,
+    inputs: usize,
+    outputs: usize,
+    gates: usize,
+    head: usize,
+) -> Walk
+    requires { ⌜ Framed bytes (now s) inputs outputs gates head ⌝ }
+    ensures { λ r. ⌜ walkPaper r ≡ chainWalk (field bytes (now (s .entry))) ⌝ }
 {
     let mut left = gates;
     let mut holder = 0;
@@ -81,7 +95,7 @@ pub(crate) fn walk_chain(s: &[u8], inputs: usize, outputs: usize, gates: usize, 
         if link == 0 {
             return Walk::Fault(Refusal::EndsEarly, holder);
         }
-        let r = record(s, outputs, link);
+        let r = record_with(s, bytes, outputs, link);
         holder = link;
         link = r.next;
         left -= 1;
@@ -103,38 +117,44 @@ fn last_link(gates: usize, at: usize, last: usize) -> Walk
 }
 
 // Refusal 5, the outputs: each wire below I + G.
-pub(crate) fn good_outputs(s: &[u8], inputs: usize, outputs: usize, gates: usize) -> bool
-    requires { ⌜ Laid (now s) inputs outputs gates ⌝ }
-    ensures { λ r. ⌜ r ≡ goodOutputs (now (s .entry)) outputs ⌝ }
+pub(crate) fn good_outputs(
+    s: &[u8],
+    bytes: usize,
+    inputs: usize,
+    outputs: usize,
+    gates: usize,
+) -> bool
+    requires { ⌜ Laid bytes (now s) inputs outputs gates ⌝ }
+    ensures { λ r. ⌜ r ≡ goodOutputs (field bytes (now (s .entry))) outputs ⌝ }
 {
     let wires = inputs + gates;
     let mut good = true;
     let mut j = 0;
     while j < outputs {
-        let wire = bits::read_u16(s, 8 + 2 * j) as usize;
+        let wire = field(s, bytes, 4 + j) as usize;
         good = both(good, wire < wires);
         j += 1;
     }
     good
 }
 
-// Whether a wire is an input, or its flag is set.
-fn is_written(flags: &[u8; MAX_WIRES], inputs: usize, wire: usize) -> bool
-    requires { ⌜ length (now flags) ≡ maxWires ⌝ }
+// Whether a wire is an input, or its bit is set.
+fn is_written(flags: &[u8], inputs: usize, wire: usize) -> bool
+    requires { ⌜ length (now flags) ≡ wireBytes ⌝ }
     ensures { λ r. ⌜ r ≡ seen inputs (now (flags .entry)) wire ⌝ }
 {
     if wire < inputs {
         return true;
     }
     if wire < MAX_WIRES {
-        return flags[wire] == 1;
+        return bits::bit(flags, wire) == 1;
     }
     false
 }
 
 // Whether a gate reads only written wires.
-fn reads_written(flags: &[u8; MAX_WIRES], inputs: usize, gate: Gate) -> bool
-    requires { ⌜ length (now flags) ≡ maxWires ⌝ }
+fn reads_written(flags: &[u8], inputs: usize, gate: Gate) -> bool
+    requires { ⌜ length (now flags) ≡ wireBytes ⌝ }
     ensures { λ r. ⌜ r ≡ readable (seen inputs (now (flags .entry))) gate ⌝ }
 {
     match gate {
@@ -145,20 +165,27 @@ fn reads_written(flags: &[u8; MAX_WIRES], inputs: usize, gate: Gate) -> bool
 }
 
 // Refusal 5, the gates: each reads only inputs or wires written earlier on the chain.
-pub(crate) fn good_reads(s: &[u8], inputs: usize, outputs: usize, gates: usize, head: usize) -> bool
-    requires { ⌜ Chained (now s) inputs outputs gates head ⌝ }
-    ensures { λ r. ⌜ r ≡ inputsFirst (now (s .entry)) gates head ⌝ }
+pub(crate) fn good_reads(
+    s: &[u8],
+    bytes: usize,
+    inputs: usize,
+    outputs: usize,
+    gates: usize,
+    head: usize,
+) -> bool
+    requires { ⌜ Chained bytes (now s) inputs outputs gates head ⌝ }
+    ensures { λ r. ⌜ r ≡ inputsFirst (field bytes (now (s .entry))) gates head ⌝ }
 {
-    let mut flags = [0u8; MAX_WIRES];
+    let mut flags = [0u8; WIRE_BYTES];
     let mut left = gates;
     let mut slot = head;
     while 0 < left {
-        let r = record(s, outputs, slot);
+        let r = record_with(s, bytes, outputs, slot);
         let gate = r.gate;
         if !reads_written(&flags, inputs, gate) {
             return false;
         }
-        flags[inputs + (slot - 1)] = 1;
+        bits::put_bit(&mut flags, inputs + (slot - 1), 1);
         slot = r.next;
         left -= 1;
     }
@@ -166,15 +193,22 @@ pub(crate) fn good_reads(s: &[u8], inputs: usize, outputs: usize, gates: usize, 
 }
 
 // A, the number of AND gates.
-pub(crate) fn and_count(s: &[u8], inputs: usize, outputs: usize, gates: usize, head: usize) -> usize
-    requires { ⌜ Chained (now s) inputs outputs gates head ⌝ }
-    ensures { λ r. ⌜ r ≡ ands (gatesFrom (now (s .entry)) gates head) ⌝ }
+pub(crate) fn and_count(
+    s: &[u8],
+    bytes: usize,
+    inputs: usize,
+    outputs: usize,
+    gates: usize,
+    head: usize,
+) -> usize
+    requires { ⌜ Chained bytes (now s) inputs outputs gates head ⌝ }
+    ensures { λ r. ⌜ r ≡ ands (gatesFrom (field bytes (now (s .entry))) gates head) ⌝ }
 {
     let mut count = 0;
     let mut left = gates;
     let mut slot = head;
     while 0 < left {
-        let r = record(s, outputs, slot);
+        let r = record_with(s, bytes, outputs, slot);
         let gate = r.gate;
         count += and_one(gate);
         slot = r.next;

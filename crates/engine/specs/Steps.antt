@@ -7,8 +7,8 @@ use Prim.Native.Nat.{ℕ, zero, suc, _+_, _-_, _*_, _≤_, _<_}
 use lib.Dec.{eqb, ltb}
 use lib.ListN.{length, set, getD}
 use lib.Bits.{bitXor, bitAnd}
-use Rattle.circuit.specs.File.{inputsOf, outputWire, nextOf, goodOutputs}
-use Rattle.circuit.specs.Steps.{maxWires, gateOf, andOne, Laid, Chained, wired}
+use Rattle.circuit.specs.File.{inputsOf, outputWire, nextOf}
+use Rattle.circuit.specs.Steps.{maxWires, gateOf, andOne, Laid, Chained, wired, goodOutputs}
 use Rattle.circuit.specs.declared.Gate.{Gate}
 use Rattle.circuit.specs.declared.Gate.the-variants.{Xor, And, Inv}
 use mathlib.Core.Path.{_≡_}

@@ -8,6 +8,7 @@ use crate::gates::gate;
 use crate::gates::output;
 use circuit::Gate;
 use circuit::Sizes;
+use circuit::records::output_wire;
 use circuit::records::record;
 
 // 1 for an AND gate, 0 for another.
@@ -87,7 +88,7 @@ pub fn broadcast_outputs(
     let wires = z.inputs + z.gates;
     let mut j = 0;
     while j < outputs {
-        let w = bits::read_u16(s, 8 + 2 * j) as usize;
+        let w = output_wire(s, j);
         let x = output(memory, wires, n, p, w, ands + j);
         values[16 * j] = x;
         j += 1;

@@ -11,7 +11,8 @@ use Rattle.refusal.specs.Outcome.{success}
 use Rattle.parties.specs.Parties.{heightOf, isPartyCount}
 use Rattle.circuit.specs.Circuit.{ands}
 use Rattle.circuit.specs.Chain.{walkFrom}
-use Rattle.circuit.specs.File.{legal, withinLimits, rightLength, goodRecord, goodRecords, linkOf, chainWalk, onWalk, chainFrom, gateAt, gatesInOrder, readsWritten, goodOutputs, goodWires, circuitOf, readCircuit}
+use Rattle.circuit.specs.Fields as fields
+use Rattle.circuit.specs.File.{legal, onWalk, readsWritten, circuitOf, readCircuit}
 use Rattle.choice.specs.Challenge.{streamOf, instances, hiddenParties, Ascending, more, Sound}
 use Rattle.seeds.specs.Operations.{areCounts}
 use Rattle.choice.proofs.Challenges.{challenge-sound}
@@ -25,15 +26,15 @@ use Rattle.marked.proofs.Table.{marked-cases}
 
 -- K is legal; its numbers, and the room for its proof
 read-K : readCircuit circuitK ≡ legal (circuitOf circuitK)
-unfolding readCircuit withinLimits rightLength goodRecord goodRecords walkFrom linkOf chainWalk onWalk chainFrom gateAt readsWritten goodOutputs goodWires leAt gatesInOrder
+unfolding fields.readWith fields.readFields fields.withinLimits fields.rightLength fields.goodRecord fields.goodRecords walkFrom fields.linkOf fields.chainWalk onWalk fields.chainFrom fields.gateAt readsWritten fields.goodOutputs fields.goodWires leAt fields.field fields.gatesInOrder
 read-K = refl
 
 inputs-K : circuitOf circuitK .inputs ≡ 2
-unfolding circuitOf leAt
+unfolding fields.circuitOf leAt fields.field
 inputs-K = refl
 
 room-K : proofRoom (circuitOf circuitK) 4 1 2 ≡ 233
-unfolding proofRoom circuitOf leAt gatesInOrder chainFrom gateAt ands heightOf
+unfolding proofRoom fields.circuitOf leAt fields.field fields.gatesInOrder fields.chainFrom fields.gateAt ands heightOf
 room-K = refl
 
 -- the two rows of the table

@@ -15,7 +15,8 @@ use Rattle.bits.proofs.Equal.{same-eq}
 use Rattle.bits.proofs.Tests.{and-true-left, and-true-right}
 use Rattle.refusal.specs.Outcome.{Answer, refusalAt, success, Outcome}
 use Rattle.circuit.specs.Circuit.{put, ands}
-use Rattle.circuit.specs.File.{withinLimits, rightLength, goodRecord, goodRecords, linkOf, chainWalk, onWalk, chainFrom, gateAt, gatesInOrder, readsWritten, goodOutputs, goodWires, circuitOf, readCircuit}
+use Rattle.circuit.specs.Fields as fields
+use Rattle.circuit.specs.File.{onWalk, readsWritten}
 use Rattle.circuit.specs.Chain.{walkFrom}
 use Rattle.circuit.specs.Operations.{readAnswer, readOp}
 use Rattle.parties.specs.Parties.{heightOf, isPartyCount}
@@ -106,7 +107,7 @@ every-row (d ∷ cs) t c m =
 
 -- the marked cases pass
 table-passes : every cases ≡ true
-unfolding every holds sameAnswer sameBuffers sameOutcome sameBytes flatten odd testBit fromBits bitAt pack none unusedZero rowOf xors heightOf isPartyCount corrections corrected broadcast outputs run inputMasks outputMasks productShares usedBits unusedRows withRow correctionBits maskedInput maskedInputs runWith runOn honestRun rowBits rowsOf shownBits firstBits showing prepareLegal prepareOp ran runLegal runOp holdsShowing showLegal showOp leAt put ands withinLimits rightLength goodRecord goodRecords walkFrom linkOf chainWalk onWalk chainFrom gateAt gatesInOrder readsWritten goodOutputs goodWires circuitOf readCircuit readAnswer readOp correctionBytes stretchBytes asked some those up isAbove hasLeaf hidden unhidden opened cover leastFrom height coverBytes isChosen stretchStart
+unfolding every holds sameAnswer sameBuffers sameOutcome sameBytes flatten odd testBit fromBits bitAt pack none unusedZero rowOf xors heightOf isPartyCount corrections corrected broadcast outputs run inputMasks outputMasks productShares usedBits unusedRows withRow correctionBits maskedInput maskedInputs runWith runOn honestRun rowBits rowsOf shownBits firstBits showing prepareLegal prepareOp ran runLegal runOp holdsShowing showLegal showOp leAt fields.field put ands fields.withinLimits fields.rightLength fields.goodRecord fields.goodRecords walkFrom fields.linkOf fields.chainWalk onWalk fields.chainFrom fields.gateAt fields.gatesInOrder readsWritten fields.goodOutputs fields.goodWires fields.circuitOf fields.readWith fields.readFields readAnswer readOp correctionBytes stretchBytes asked some those up isAbove hasLeaf hidden unhidden opened cover leastFrom height coverBytes isChosen stretchStart
 table-passes = refl
 
 -- every marked case is right

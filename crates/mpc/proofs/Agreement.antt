@@ -17,8 +17,9 @@ use Rattle.bits.proofs.Numbers.{odd-bitVal}
 use Rattle.bits.proofs.Tabulate.{length-tabulate, getD-tabulate}
 use Rattle.bits.proofs.Tests.{and-true-left, and-true-right}
 use Rattle.circuit.specs.Circuit.{Circuit, ands}
-use Rattle.circuit.specs.File.{inputsOf, outputsOf, gatesOf, headOf, outputWire, nextOf, readsWritten, goodOutputs, goodWires, gatesInOrder, circuitOf}
-use Rattle.circuit.specs.Steps.{gateOf, gatesFrom, wired, Legal, walks}
+use Rattle.circuit.specs.Fields as fields
+use Rattle.circuit.specs.File.{inputsOf, outputsOf, gatesOf, headOf, outputWire, nextOf, readsWritten, gatesInOrder, circuitOf}
+use Rattle.circuit.specs.Steps.{gateOf, gatesFrom, wired, Legal, walks, goodOutputs}
 use Rattle.circuit.proofs.Chain.{gates-on, gates-end, ands-on, ands-none, andOne-le, put-other}
 use Rattle.circuit.proofs.Run.{wired-reads, output-low, goodChain-walks, gates-order}
 use Rattle.plain.specs.Run.{Column, corrections, corrected, Channel, asSent, asShown, run}
@@ -95,17 +96,17 @@ module _ (f : List ℕ) (I O G A h n Z : ℕ) (ok : Legal f I O G) (head : h ≡
 
   -- the gates are the circuit's
   circuit-gates : gatesFrom f G h ≡ c .gates
-  unfolding circuitOf
+  unfolding fields.circuitOf
   circuit-gates = gates-all
 
   -- so are the inputs
   circuit-inputs : I ≡ c .inputs
-  unfolding circuitOf
+  unfolding fields.circuitOf
   circuit-inputs = ok .laid .inputs
 
   -- so are the output wires
   circuit-outputs : tabulate O (outputWire f) ≡ c .outputs
-  unfolding circuitOf
+  unfolding fields.circuitOf
   circuit-outputs = ap (λ (k : ℕ). tabulate k (outputWire f)) (ok .laid .outputs)
 
   -- the AND gates are gates
@@ -122,7 +123,7 @@ module _ (f : List ℕ) (I O G A h n Z : ℕ) (ok : Legal f I O G) (head : h ≡
 
   -- the gates read wires below W
   wires-read : wired f W G h
-  unfolding goodWires
+  unfolding fields.goodWires
   wires-read =
       wired-reads f W G h (λ w. ltb w (inputsOf f)) (λ w e. omega (arith, ltb-true w (inputsOf f) e, fit)) fit chain
       (ap (readsWritten (λ w. ltb w (inputsOf f))) gates-all
@@ -130,7 +131,7 @@ module _ (f : List ℕ) (I O G A h n Z : ℕ) (ok : Legal f I O G) (head : h ≡
 
   -- the output wires are below W
   wires-out : (j : ℕ) → j < O → outputWire f j < W
-  unfolding goodWires
+  unfolding fields.goodWires
   wires-out j l =
       let e = and-true-right (readsWritten (λ w. ltb w (inputsOf f)) (gatesInOrder f)) (goodOutputs f (outputsOf f)) (ok .wires) in
       omega (arith, output-low f (outputsOf f) j e (omega (arith, ok .laid .outputs)), fit)
@@ -145,17 +146,17 @@ module _ (f : List ℕ) (I O G A h n Z : ℕ) (ok : Legal f I O G) (head : h ≡
 
   -- what the tapes give, by I and A: input masks
   tape-inputs : (λ (w i : ℕ). ltb w I && bitAt (rowOf tapes (oct (I + 2 * A)) i) w) ≡ inputMasks c tapes
-  unfolding inputMasks circuitOf
+  unfolding inputMasks fields.circuitOf
   tape-inputs = ap₂ {C = ℕ → Column} (λ (x y : ℕ) w i. ltb w x && bitAt (rowOf tapes (oct (x + 2 * y)) i) w) (ok .laid .inputs) count
 
   -- output masks
   tape-masks : (λ (t i : ℕ). bitAt (rowOf tapes (oct (I + 2 * A)) i) (I + t)) ≡ outputMasks c tapes
-  unfolding outputMasks circuitOf
+  unfolding outputMasks fields.circuitOf
   tape-masks = ap₂ {C = ℕ → Column} (λ (x y : ℕ) t i. bitAt (rowOf tapes (oct (x + 2 * y)) i) (x + t)) (ok .laid .inputs) count
 
   -- product shares
   tape-parts : (λ (t i : ℕ). bitAt (rowOf tapes (oct (I + 2 * A)) i) (I + A + t)) ≡ productShares c tapes
-  unfolding productShares circuitOf
+  unfolding productShares fields.circuitOf
   tape-parts = ap₂ {C = ℕ → Column} (λ (x y : ℕ) t i. bitAt (rowOf tapes (oct (x + 2 * y)) i) (x + y + t)) (ok .laid .inputs) count
 
   -- the loaded memory holds the tapes

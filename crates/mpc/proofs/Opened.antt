@@ -8,7 +8,7 @@ use native.Mathlib.Omega.{arith}
 use borrow.Author.Tests.{ltb-true}
 use lib.Dec.{ltb}
 use lib.ListN.{length, replicate, length-replicate}
-use Rattle.circuit.specs.Steps.{walks, gatesFrom}
+use Rattle.circuit.specs.Steps.{walks, gatesFrom, goodOutputs}
 use Rattle.bits.specs.Bits.{oct}
 use Rattle.bits.proofs.Tabulate.{length-tabulate}
 use Rattle.bits.proofs.Tests.{and-true-left, and-true-right}
@@ -18,7 +18,8 @@ use Rattle.refusal.specs.Outcome.{refusalAt, success}
 use Rattle.parties.specs.Parties.{heightOf}
 use Rattle.parties.proofs.Counts.{sizes}
 use Rattle.circuit.specs.Circuit.{Gate, xor, and, inv, ands}
-use Rattle.circuit.specs.File.{inputsOf, outputsOf, gatesOf, headOf, outputWire, readsWritten, goodOutputs, goodWires, gatesInOrder, circuitOf, refused, legal, readCircuit}
+use Rattle.circuit.specs.Fields as fields
+use Rattle.circuit.specs.File.{inputsOf, outputsOf, gatesOf, headOf, outputWire, readsWritten, gatesInOrder, circuitOf, refused, legal, readCircuit}
 use Rattle.circuit.specs.Operations.{readOp}
 use Rattle.circuit.specs.Answers.{readPaper}
 use Rattle.circuit.specs.declared.Sizes.{Sizes}
@@ -76,19 +77,19 @@ ands-le (inv a c ∷ gs) = omega (arith, ands-le gs)
 -- a legal file's circuit, by I, O, G and A
 module _ (s : List ℕ) (i o g a : ℕ) (k : Known s (sized i o g a)) where
   pub circuit-inputs : circuitOf s .inputs ≡ i
-  unfolding circuitOf
+  unfolding fields.circuitOf
   circuit-inputs = sym (k .legal .laid .inputs)
 
   pub circuit-outputs : length (circuitOf s .outputs) ≡ o
-  unfolding circuitOf
+  unfolding fields.circuitOf
   circuit-outputs = length-tabulate (outputsOf s) (outputWire s) ∙ sym (k .legal .laid .outputs)
 
   pub circuit-gates : length (circuitOf s .gates) ≡ g
-  unfolding circuitOf
+  unfolding fields.circuitOf
   circuit-gates = gates-count s ∙ sym (k .legal .laid .gates)
 
   pub circuit-ands : andsOf (circuitOf s) ≡ a
-  unfolding circuitOf
+  unfolding fields.circuitOf
   circuit-ands = sym (k .ands)
 
   -- the bytes of its tape rows
@@ -101,7 +102,7 @@ module _ (s : List ℕ) (i o g a : ℕ) (k : Known s (sized i o g a)) where
 
   -- the parts of the test of wires
   wires-parts : (readsWritten (λ w. ltb w (inputsOf s)) (gatesInOrder s) ≡ true) × (goodOutputs s (outputsOf s) ≡ true)
-  unfolding goodWires
+  unfolding fields.goodWires
   wires-parts =
       let r = readsWritten (λ w. ltb w (inputsOf s)) (gatesInOrder s) in
       (and-true-left r (goodOutputs s (outputsOf s)) (k .legal .wires), and-true-right r (goodOutputs s (outputsOf s)) (k .legal .wires))

@@ -30,7 +30,7 @@ pub fn run_gates(s: &[u8], z: Sizes, n: usize, p: usize, correcting: bool, memor
     requires { ⌜ Known (now s) z × (Parties n × (64 * wireCount z + 4096 ≤ length (now memory))) ⌝ }
     ensures { λ _. ⌜ now (memory .exit) ≡ gatesRun (now (s .entry)) z n p correcting (now (memory .entry)) ⌝ }
 {
-    let head = bits::read_u16(s, 6) as usize;
+    let head = circuit::records::head(s);
     walk(s, z, head, n, p, correcting, memory);
 }
 

@@ -14,6 +14,7 @@ use lib.ListN.{length, take, replicate}
 use Rattle.bits.specs.Bits.{oct}
 use Rattle.bits.proofs.Copies.{prefix-length}
 use Rattle.bits.proofs.Tests.{and-true-left, and-true-right}
+use Rattle.circuit.specs.Fields as fields
 use Rattle.circuit.specs.File.{inputsOf, outputsOf, gatesOf, withinLimits, circuitOf, legal, readCircuit}
 use Rattle.circuit.proofs.Answered.{passed}
 use Rattle.seeds.specs.Operations.{maxOutputBytes}
@@ -75,7 +76,7 @@ module _ (s : List ℕ) (i o g a : ℕ) (k : Known s (sized i o g a)) where
 
 -- a circuit that was read has an output
 some-output : (s : List ℕ) → withinLimits s ≡ true → 1 ≤ outputsOf s
-unfolding withinLimits
+unfolding fields.withinLimits
 some-output s e =
     let i = leb 1 (inputsOf s) && leb (inputsOf s) 512 in
     let o = leb 1 (outputsOf s) in

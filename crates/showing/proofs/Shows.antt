@@ -9,7 +9,7 @@ use native.Mathlib.Numerals.{add-one}
 use borrow.Author.Tests.{lt-ltb, le-ltb, ltb-true, leb-true, eqb-true, eq-eqb, ne-eqb}
 use lib.Dec.{eqb, leb, ltb}
 use lib.ListN.{length, take, drop, replicate, getD, set, length-replicate}
-use Rattle.circuit.specs.Steps.{gatesFrom, Chained, walks}
+use Rattle.circuit.specs.Steps.{gatesFrom, Chained, walks, gateAt}
 use lib.Seq.{take-suc, take-suc-set, take-all}
 use Rattle.bits.specs.Bits.{tabulate, oct, pack, unusedZero}
 use Rattle.bits.proofs.Tabulate.{length-tabulate}
@@ -19,7 +19,9 @@ use Rattle.refusal.specs.declared.Refusal.the-variants.{BufferLength, UnusedBit
 use Rattle.parties.specs.Parties.{heightOf}
 use Rattle.parties.proofs.Counts.{count-yes, count-no}
 use Rattle.circuit.specs.Circuit.{ands, Circuit, Gate, xor, and, inv}
-use Rattle.circuit.specs.File.{outputsOf, gatesOf, headOf, outputWire, nextOf, chainFrom, gateAt, gatesInOrder, circuitOf, Reading}
+use Rattle.circuit.specs.Fields as fields
+use Rattle.circuit.specs.FieldSteps as steps
+use Rattle.circuit.specs.File.{outputsOf, gatesOf, headOf, outputWire, nextOf, gatesInOrder, circuitOf, Reading}
 use Rattle.circuit.specs.Operations.{readOp, onLegal, holds}
 use Rattle.circuit.specs.Answers.{readPaper}
 use Rattle.circuit.specs.declared.Sizes.{Sizes}
@@ -40,7 +42,7 @@ use Rattle.mpc.proofs.Opened.{sized, opened-refused, opened-legal, circuit-inpu
 
 -- the first k gates of the chain
 take-gates : (s : List ℕ) (k g h : ℕ) → k ≤ g → take k (gatesFrom s g h) ≡ gatesFrom s k h
-unfolding gatesFrom chainFrom
+unfolding steps.gatesFrom fields.chainFrom
 take-gates s zero g h l = refl
 take-gates s (suc k) zero h l = absurd (omega arith)
 take-gates s (suc k) (suc g) h l = ap (λ (gs : List Gate). gateAt s h ∷ gs) (take-gates s k g (nextOf s h) (omega arith))
@@ -62,7 +64,7 @@ chained s i o g a k h p = record { laid = k .legal .laid; chain = ap₂ (walks s
 module _ (s : List ℕ) (i o g a : ℕ) (f : Known s (sized i o g a)) (k : ℕ) where
   -- below G, the AND gates passed
   pub shown-below : (h r : ℕ) → h ≡ headOf s → k < g → r ≡ ands (gatesFrom s k h) → r ≡ shownBits (circuitOf s) k
-  unfolding shownBits circuitOf
+  unfolding shownBits fields.circuitOf
   shown-below h r p l e =
       let q : take k (gatesInOrder s) ≡ gatesFrom s k h
       = ap (take k) (sym (gates-order s)) ∙ take-gates s k (gatesOf s) (headOf s) (omega (arith, f .legal .laid .gates)) ∙ ap (gatesFrom s k) (sym p) in
@@ -71,14 +73,14 @@ module _ (s : List ℕ) (i o g a : ℕ) (f : Known s (sized i o g a)) (k : ℕ) 
 
   -- else all of them, and the outputs
   pub shown-all : g ≤ k → a + o ≡ shownBits (circuitOf s) k
-  unfolding shownBits circuitOf
+  unfolding shownBits fields.circuitOf
   shown-all l =
       let t : ltb k (length (gatesInOrder s)) ≡ false = le-ltb k (length (gatesInOrder s)) (omega (arith, gates-count s, f .legal .laid .gates)) in
       rw (t, length-tabulate (outputsOf s) (outputWire s)) (ap₂ _+_ (f .ands) (f .legal .laid .outputs))
 
   -- at most all
   pub shown-few : shownBits (circuitOf s) k ≤ a + o
-  unfolding shownBits circuitOf
+  unfolding shownBits fields.circuitOf
   shown-few = pick (ltb k (length (gatesInOrder s)))
     where
       pick : (b : Bool) → cond b (ands (take k (gatesInOrder s))) (ands (gatesInOrder s) + length (tabulate (outputsOf s) (outputWire s))) ≤ a + o

@@ -83,7 +83,7 @@ fn show_in(
     requires { ⌜ Known (now s) z × (Begun z n (now memory) × ((p < n) × ((cut ≤ z .gates) × (WitnessFits z (now witness) × (TapesFit z n (now tapes) × ShowingFits z n (now blanked) (now corrections) (now masked) (now row)))))) ⌝ }
     ensures { λ _. ⌜ now (blanked .exit) ∷ now (corrections .exit) ∷ now (masked .exit) ∷ now (row .exit) ∷ [] ≡ partsOf (showing (circuitOf (now (s .entry))) n p cut (now (witness .entry)) (now (tapes .entry))) ⌝ }
 {
-    let head = bits::read_u16(s, 6) as usize;
+    let head = circuit::records::head(s);
     let wires = z.inputs + z.gates;
     let len = bits::oct(z.inputs + 2 * z.ands);
     run_honest(s, z, n, witness, tapes, masked, memory);

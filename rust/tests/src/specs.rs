@@ -35,6 +35,8 @@ struct File {
     names: BTreeMap<String, (String, String, String)>,
     /// For each module that is brought in whole.
     modules: BTreeMap<String, (String, String)>,
+    /// The names that are brought in and passed on.
+    passed: BTreeSet<String>,
     bodies: BTreeMap<String, Body>,
 }
 
@@ -56,7 +58,12 @@ impl Specs {
 
     /// The definition that has this name, or that has a part of this name.
     pub fn find(&self, krate: &str, file: &str, name: &str) -> Option<Item> {
-        let bodies = &self.0.get(&(krate.into(), file.into()))?.bodies;
+        let found = self.0.get(&(krate.into(), file.into()))?;
+        if found.passed.contains(name) {
+            let (krate, file, name) = &found.names[name];
+            return self.find(krate, file, name);
+        }
+        let bodies = &found.bodies;
         let has_part = |body: &Body| body.parts.iter().any(|part| part == name);
         let mut all = bodies.iter();
         let found = match bodies.contains_key(name) {
@@ -184,6 +191,11 @@ fn file(text: &str) -> File {
     for line in text.lines().map(outdented) {
         if let Some(import) = line.strip_prefix("use ") {
             bring_in(&mut file, import);
+        } else if let Some(import) = passed_on(line) {
+            let mut own = File::default();
+            bring_in(&mut own, import);
+            file.passed.extend(own.names.keys().cloned());
+            file.names.append(&mut own.names);
         } else if line.starts_with("--") {
             comment.push(line.into());
             name.clear();
@@ -206,6 +218,12 @@ fn file(text: &str) -> File {
 fn outdented(line: &str) -> &str {
     let starts = |rest: &&str| rest.starts_with("unfoldable ") || rest.starts_with("abbrev ");
     line.strip_prefix("  ").filter(starts).unwrap_or(line)
+}
+
+/// What a line brings in and passes on.
+fn passed_on(line: &str) -> Option<&str> {
+    let line = line.strip_prefix("unfoldable ").unwrap_or(line);
+    line.strip_prefix("pub use ")
 }
 
 /// The name that a line starts to define.

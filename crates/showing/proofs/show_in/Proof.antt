@@ -9,11 +9,8 @@ use Rattle.showing.proofs.Shows.{shown-few, row-made, corrections-made,
 use Rattle.showing.proofs.show_in.Statement.{statement}
 use Rattle.showing.proofs.show_in.Tie as tie
 
-read-u16-requires : tie.Need-read-u16-requires
-read-u16-requires c κs = omega (arith, c .before .before .before .before .before .before .before .before .pre .0 .legal .laid .whole)
-
-cast-head : tie.Need-cast-head
-cast-head c = omega arith
+head-requires : tie.Need-head-requires
+head-requires c κs = omega (arith, c .before .before .before .before .before .before .before .before .pre .0 .legal .laid .whole)
 
 add-wires : tie.Need-add-wires
 add-wires c = omega (arith, c .before .before .before .before .before .before .before .before .before .before .pre .0 .legal .laid .few-inputs, c .before .before .before .before .before .before .before .before .before .before .pre .0 .legal .laid .few-gates)
@@ -35,7 +32,7 @@ run-honest-requires c κs =
 shown-bits-requires : tie.Need-shown-bits-requires
 shown-bits-requires c κs =
     let p = c .before .before .before .before .before .before .before .before .before .before .before .before .before .before .before .before .before .before .before .before .pre in
-    (p .0, (c .before .before .before .before .before .before .before .before .before .before .before .read-u16 .ensures, p .1 .1 .1 .0))
+    (p .0, (c .before .before .before .before .before .before .before .before .before .before .before .head .ensures, p .1 .1 .1 .0))
 
 mul-pack : tie.Need-mul-pack
 mul-pack c = omega (arith, c .before .before .before .before .before .before .before .before .before .before .before .before .before .before .before .before .before .before .before .before .before .before .pre .0 .legal .laid .few-inputs, c .before .before .before .before .before .before .before .before .before .before .before .before .before .before .before .before .before .before .before .before .before .before .pre .0 .legal .laid .few-gates)
@@ -99,8 +96,7 @@ pub show-in-spec : {M : Type 1} → statement M
 show-in-spec =
     tie.close
     (tie.spec
-    read-u16-requires
-    cast-head
+    head-requires
     add-wires
     mul-oct
     add-oct

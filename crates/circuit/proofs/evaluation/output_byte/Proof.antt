@@ -33,7 +33,7 @@ add-output-bit : tie.Need-add-output-bit Inv-loop μ-loop
 add-output-bit c = omega arith
 
 output-bit-requires : tie.Need-output-bit-requires Inv-loop μ-loop
-output-bit-requires c κs = c .before .before .before .pre .1
+output-bit-requires c κs = c .before .before .before .before .pre .1
 
 cast-b : tie.Need-cast-b Inv-loop μ-loop
 cast-b c = omega arith
@@ -72,7 +72,7 @@ unfolding outByte
 returns c =
     let l = c .before .loop in
     let e : l .t ≡ 8 = omega arith in
-    let x = c .before .before .before .args in
+    let x = c .before .before .before .before .args in
     let f : ℕ → Bool = λ k. getD (outBits (x .s .now) (x .values .now) (x .outputs)) (8 * x .j + k) false in
     let q : l .sum ≡ fromBits 8 f = rw e at (l .inv .1 .1) in
     mod-eq-of-lt (omega (arith, fromBits-lt 8 f)) ∙ q

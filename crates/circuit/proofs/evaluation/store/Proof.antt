@@ -20,7 +20,7 @@ loop-holds : tie.Need-loop-holds Inv-loop μ-loop
 loop-holds c = (omega arith, (refl, λ i l. absurd (omega arith)))
 
 output-byte-requires : tie.Need-output-byte-requires Inv-loop μ-loop
-output-byte-requires c κs = (omega arith, c .before .before .before .before .pre .1)
+output-byte-requires c κs = (omega arith, c .before .before .before .before .before .pre .1)
 
 slice-write-y : tie.Need-slice-write-y Inv-loop μ-loop
 slice-write-y c = omega arith
@@ -34,7 +34,7 @@ loop-less c = simp length-set (omega arith)
 loop-again : tie.Need-loop-again Inv-loop μ-loop
 loop-again c =
     let l = c .before .before .loop in
-    let x = c .before .before .before .before .before .args in (
+    let x = c .before .before .before .before .before .before .args in (
       simp length-set (omega arith),
       (simp length-set (l .inv .1 .0), store-turn (outByte (x .s .now) (x .values .now) (x .outputs)) (l .y) (l .j) _ (c .before .loop-test .taken) (l .inv .1 .1) (c .output-byte .ensures)),
     )
@@ -45,7 +45,7 @@ same-length c = c .before .loop .inv .1 .0
 returns : tie.Need-returns Inv-loop μ-loop
 returns c =
     let l = c .before .loop in
-    packed _ _ _ _ (l .inv .1 .0 ∙ c .before .before .before .before .pre .0) (λ i h. l .inv .1 .1 i (omega arith))
+    packed _ _ _ _ (l .inv .1 .0 ∙ c .before .before .before .before .before .pre .0) (λ i h. l .inv .1 .1 i (omega arith))
 
 pub store-spec : {M : Type 1} → statement M
 store-spec =

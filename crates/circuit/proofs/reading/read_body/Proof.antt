@@ -1,7 +1,7 @@
 -- `circuit::reading::read_body` meets its contract.
 -- Assumes nothing.
 use borrow.Author.Needs.{needs}
-use Rattle.circuit.proofs.Answered.{fell, held, walked-well, refuse-records, refuse-chain}
+use Rattle.circuit.proofs.Readings.{fell, held, walked-well, refuse-records, refuse-chain}
 use Rattle.circuit.proofs.reading.read_body.Statement.{statement}
 use Rattle.circuit.proofs.reading.read_body.Tie as tie
 
@@ -11,7 +11,7 @@ good-records-requires c κs = search needs
 returns : tie.Need-returns
 returns c =
     let f = c .before .before .before .pre in
-    refuse-records _ _ _ _ _ f (fell _ _ (c .before .good-records .ensures) (c .if1 .taken))
+    refuse-records _ _ _ _ _ _ f (fell _ _ (c .before .good-records .ensures) (c .if1 .taken))
 
 walk-chain-requires : tie.Need-walk-chain-requires
 walk-chain-requires c κs = search needs
@@ -35,7 +35,7 @@ returns-2 c = search needs
 
 returns-3 : tie.Need-returns-3
 returns-3 c =
-    refuse-chain _ _ _ _ _ (c .before .before .before .before .before .before .before .pre) _ _ _
+    refuse-chain _ _ _ _ _ _ (c .before .before .before .before .before .before .before .pre) _ _ _
     (held _ _ (c .before .before .before .before .before .good-records .ensures) (c .before .before .before .before .if1 .left))
     (c .before .«walk» .given .1)
     (c .before .before .before .walk-chain .ensures)

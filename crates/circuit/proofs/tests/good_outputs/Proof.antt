@@ -1,19 +1,19 @@
 -- `circuit::tests::good_outputs` meets its contract. The loop's invariant: what is gathered is the test of the first j output wires.
 -- Assumes nothing.
 use mathlib.Core.Path.{_≡_, refl, _∙_}
-use Prim.Native.Nat.{_+_, _-_, _≤_}
+use Prim.Native.Nat.{_+_, _-_, _*_, _≤_}
 use native.Mathlib.Omega.{arith}
 use borrow.Author.Needs.{needs}
-use Rattle.circuit.specs.File.{goodOutputs, inputsOf, gatesOf}
-use Rattle.circuit.proofs.Chain.{outputs-turn}
+use Rattle.circuit.specs.Fields.{field, goodOutputs, inputsOf, gatesOf}
+use Rattle.circuit.proofs.Slots.{fits, outputs-turn}
 use Rattle.circuit.proofs.tests.good_outputs.Statement.{statement}
 use Rattle.circuit.proofs.tests.good_outputs.Tie as tie
 
 abbrev Inv-loop : tie.InvT-loop
-Inv-loop s inputs outputs gates wires good₀ j₀ good j = (j ≤ outputs) × (good ≡ goodOutputs s j)
+Inv-loop s bytes inputs outputs gates wires good₀ j₀ good j = (j ≤ outputs) × (good ≡ goodOutputs (field bytes s) j)
 
 abbrev μ-loop : tie.MeasureT-loop
-μ-loop s inputs outputs gates wires good₀ j₀ good j = outputs - j
+μ-loop s bytes inputs outputs gates wires good₀ j₀ good j = outputs - j
 
 add-wires : tie.Need-add-wires Inv-loop μ-loop
 add-wires c = omega arith
@@ -22,14 +22,14 @@ loop-holds : tie.Need-loop-holds Inv-loop μ-loop
 unfolding goodOutputs
 loop-holds c = (omega arith, refl)
 
-mul-read-u16 : tie.Need-mul-read-u16 Inv-loop μ-loop
-mul-read-u16 c = omega arith
+add-field : tie.Need-add-field Inv-loop μ-loop
+add-field c = omega arith
 
-add-read-u16 : tie.Need-add-read-u16 Inv-loop μ-loop
-add-read-u16 c = omega arith
-
-read-u16-requires : tie.Need-read-u16-requires Inv-loop μ-loop
-read-u16-requires c κs = omega arith
+field-requires : tie.Need-field-requires Inv-loop μ-loop
+field-requires c κs =
+    let x = c .before .before .before in
+    let n = 4 + x .args .outputs + 4 * x .args .gates in
+    (x .pre .known, fits (x .args .bytes) n (4 + c .before .loop .j) _ (omega arith) (omega (arith, x .pre .whole)))
 
 cast-wire : tie.Need-cast-wire Inv-loop μ-loop
 cast-wire c = omega arith
@@ -47,8 +47,8 @@ loop-again : tie.Need-loop-again Inv-loop μ-loop
 loop-again c =
     let l = c .before .before .before .loop in
     let x = c .before .before .before .before .before in
-    let e : x .args .inputs + x .args .gates ≡ inputsOf (x .args .s .now) + gatesOf (x .args .s .now) = omega arith in
-    (omega arith, outputs-turn _ _ _ _ _ (l .inv .1) e (c .both .ensures ∙ rw (c .before .read-u16 .ensures)))
+    let e : x .args .inputs + x .args .gates ≡ inputsOf (field (x .args .bytes) (x .args .s .now)) + gatesOf (field (x .args .bytes) (x .args .s .now)) = omega arith in
+    (omega arith, outputs-turn _ _ _ _ _ (l .inv .1) e (c .both .ensures ∙ rw (c .before .field .ensures)))
 
 returns : tie.Need-returns Inv-loop μ-loop
 returns c =
@@ -63,9 +63,8 @@ good-outputs-spec =
     μ-loop
     add-wires
     loop-holds
-    mul-read-u16
-    add-read-u16
-    read-u16-requires
+    add-field
+    field-requires
     cast-wire
     both-requires
     add-j

@@ -1,46 +1,57 @@
 -- `circuit::tests::good_reads` meets its contract. The loop's invariant: the gates that are left, with the wires flagged so far, pass as all of them do.
 -- Assumes nothing.
 use mathlib.Core.Bool.{Bool, true}
+use mathlib.Core.List.{List}
 use mathlib.Core.Path.{_≡_, sym, ap, _∙_}
-use Prim.Native.Nat.{ℕ, _≤_}
+use Prim.Native.Nat.{ℕ, _+_, _-_, _≤_}
 use native.Mathlib.Omega.{arith}
 use borrow.Author.Tests.{not-true, not-false}
-use lib.ListN.{length-replicate, length, length-set}
-use Rattle.circuit.specs.File.{readsWritten}
-use Rattle.circuit.specs.Steps.{maxWires, walks, gatesFrom, seen, inputsFirst}
-use Rattle.circuit.proofs.Chain.{next-read, reads-turn, reads-fail, inside, here, Here, gates-end, seen-none}
+use lib.ListN.{length-replicate, length}
+use Rattle.bits.specs.Bits.{odd}
+use Rattle.bits.specs.Steps.{putBit}
+use Rattle.bits.proofs.Numbers.{odd-bitVal}
+use Rattle.circuit.specs.Fields.{field, readsWritten}
+use Rattle.circuit.specs.FieldSteps.{walks, gatesFrom, inputsFirst}
+use Rattle.circuit.specs.Steps.{wireBytes, seen}
+use Rattle.circuit.proofs.Slots.{next-read, reads-turn, reads-fail, inside, here, Here, gates-end, seen-none}
 use Rattle.circuit.proofs.tests.good_reads.Statement.{statement}
 use Rattle.circuit.proofs.tests.good_reads.Tie as tie
 
 abbrev Inv-loop : tie.InvT-loop
-Inv-loop s inputs outputs gates head flags₀ left₀ slot₀ flags left slot =
-    (left ≤ gates) × ((length flags ≡ maxWires) × ((walks s left slot ≡ true) × (readsWritten (seen inputs flags) (gatesFrom s left slot) ≡ inputsFirst s gates head)))
+Inv-loop s bytes inputs outputs gates head flags₀ left₀ slot₀ flags left slot =
+    (left ≤ gates) × ((length flags ≡ wireBytes) × ((walks (field bytes s) left slot ≡ true) × (readsWritten (seen inputs flags) (gatesFrom (field bytes s) left slot) ≡ inputsFirst (field bytes s) gates head)))
 
 abbrev μ-loop : tie.MeasureT-loop
-μ-loop s inputs outputs gates head flags₀ left₀ slot₀ flags left slot = left
+μ-loop s bytes inputs outputs gates head flags₀ left₀ slot₀ flags left slot = left
+
+odd-one : odd 1 ≡ true
+odd-one = odd-bitVal true
 
 loop-holds : tie.Need-loop-holds Inv-loop μ-loop
 unfolding inputsFirst
 loop-holds c = (
   omega arith,
   (
-    length-replicate {A = ℕ} maxWires 0,
-    (c .before .pre .chain, rw (← c .before .pre .laid .inputs) (ap (λ (f : ℕ → Bool). readsWritten f (gatesFrom (c .before .args .s .now) (c .before .args .gates) (c .before .args .head))) (seen-none _ maxWires))),
+    length-replicate {A = ℕ} wireBytes 0,
+    (c .before .pre .chain, rw (← c .before .pre .laid .inputs) (ap (λ (f : ℕ → Bool). readsWritten f (gatesFrom (field (c .before .args .bytes) (c .before .args .s .now)) (c .before .args .gates) (c .before .args .head))) (seen-none _ wireBytes))),
   ),
 )
 
 -- what the chain says of the slot in hand
 abbrev Ok : (c : tie.In-loop Inv-loop μ-loop) → Type 0
-Ok c = Here (c .before .before .before .args .s .now) (c .before .loop .left) (c .before .loop .slot)
+Ok c = Here (field (c .before .before .before .args .bytes) (c .before .before .before .args .s .now)) (c .before .loop .left) (c .before .loop .slot)
 
 ok : (c : tie.In-loop Inv-loop μ-loop) → Ok c
 ok c = here _ _ _ (c .loop-test .taken) (c .before .loop .inv .1 .1 .0)
 
-record-requires : tie.Need-record-requires Inv-loop μ-loop
-record-requires c κs =
+record-with-requires : tie.Need-record-with-requires Inv-loop μ-loop
+record-with-requires c κs =
     let k = ok c in
     let l = c .before .before .before .pre .laid in
-    inside _ _ _ _ _ l (k .first) (omega arith)
+    inside _ _ _ _ _ _ l (k .first) (omega arith)
+
+slice-aggregate-reads-written : tie.Need-slice-aggregate-reads-written Inv-loop μ-loop
+slice-aggregate-reads-written c = sym (c .before .before .before .loop .inv .1 .0)
 
 reads-written-requires : tie.Need-reads-written-requires Inv-loop μ-loop
 reads-written-requires c κs = c .before .before .before .loop .inv .1 .0
@@ -48,18 +59,21 @@ reads-written-requires c κs = c .before .before .before .loop .inv .1 .0
 returns : tie.Need-returns Inv-loop μ-loop
 returns c =
     let l = c .before .before .before .before .before .loop in
-    let q = c .before .before .before .«record» .ensures in
+    let q = c .before .before .before .record-with .ensures in
     let t = sym (c .before .reads-written .ensures) ∙ not-true _ (c .if1 .taken) in
     sym (reads-fail _ _ _ _ _ _ q (c .before .before .before .before .loop-test .taken) t) ∙ l .inv .1 .1 .1
 
-sub-flags : tie.Need-sub-flags Inv-loop μ-loop
-sub-flags c = ok (c .before .before .before .before) .first
+slice-aggregate-put-bit : tie.Need-slice-aggregate-put-bit Inv-loop μ-loop
+slice-aggregate-put-bit c = sym (c .before .before .before .before .before .before .loop .inv .1 .0)
 
-add-flags : tie.Need-add-flags Inv-loop μ-loop
-add-flags c = omega (arith, ok (c .before .before .before .before))
+sub-put-bit : tie.Need-sub-put-bit Inv-loop μ-loop
+sub-put-bit c = ok (c .before .before .before .before .before) .first
 
-array-write-flags : tie.Need-array-write-flags Inv-loop μ-loop
-array-write-flags c = omega (arith, ok (c .before .before .before .before))
+add-put-bit : tie.Need-add-put-bit Inv-loop μ-loop
+add-put-bit c = omega (arith, ok (c .before .before .before .before .before))
+
+put-bit-requires : tie.Need-put-bit-requires Inv-loop μ-loop
+put-bit-requires c κs = omega (arith, ok (c .before .before .before .before .before))
 
 sub-left : tie.Need-sub-left Inv-loop μ-loop
 sub-left c = omega arith
@@ -69,17 +83,19 @@ loop-less c = omega arith
 
 loop-again : tie.Need-loop-again Inv-loop μ-loop
 loop-again c =
-    let l = c .before .before .before .before .before .loop in
-    let x = c .before .before .before .before .before .before .before in
-    let k = ok (c .before .before .before .before) in
-    let q = c .before .before .before .«record» .ensures in
-    let t = sym (c .before .reads-written .ensures) ∙ not-false _ (c .if1 .left) in (
+    let l = c .before .before .before .before .before .before .before .before .loop in
+    let x = c .before .before .before .before .before .before .before .before .before .before in
+    let k = ok (c .before .before .before .before .before .before .before) in
+    let q = c .before .before .before .before .before .before .record-with .ensures in
+    let t = sym (c .before .before .before .before .reads-written .ensures) ∙ not-false _ (c .before .before .before .if1 .left) in (
       omega arith,
       (
-        simp length-set (l .inv .1 .0),
+        c .before .put-bit .kept .0 ∙ l .inv .1 .0,
         (
           rw (next-read _ _ _ q) (k .rest),
-          reads-turn _ _ _ _ _ _ q (c .before .before .before .before .loop-test .taken) t (x .pre .laid .inputs) (k .first) (omega arith) ∙ l .inv .1 .1 .1,
+          ap (λ (f : List ℕ). readsWritten (seen (x .args .inputs) f) (gatesFrom (field (x .args .bytes) (x .args .s .now)) (l .left - 1) (c .before .before .before .before .before .before .record-with .result .next))) (c .before .put-bit .ensures ∙ ap (putBit (l .flags) (x .args .inputs + (l .slot - 1))) odd-one)
+              ∙ reads-turn _ _ _ _ _ _ q (c .before .before .before .before .before .before .before .loop-test .taken) t (x .pre .laid .inputs) (k .first) (omega arith)
+              ∙ l .inv .1 .1 .1,
         ),
       ),
     )
@@ -97,12 +113,14 @@ good-reads-spec =
     Inv-loop
     μ-loop
     loop-holds
-    record-requires
+    record-with-requires
+    slice-aggregate-reads-written
     reads-written-requires
     returns
-    sub-flags
-    add-flags
-    array-write-flags
+    slice-aggregate-put-bit
+    sub-put-bit
+    add-put-bit
+    put-bit-requires
     sub-left
     loop-less
     loop-again

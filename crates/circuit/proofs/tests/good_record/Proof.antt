@@ -1,39 +1,32 @@
 -- `circuit::tests::good_record` meets its contract.
 -- Assumes nothing.
+use native.Mathlib.Omega.{arith}
 use borrow.Author.Needs.{needs}
-use Rattle.circuit.specs.File.{goodRecord}
+use Rattle.circuit.specs.Fields.{goodRecord}
+use Rattle.circuit.proofs.Slots.{fits, at-few}
 use Rattle.circuit.proofs.tests.good_record.Statement.{statement}
 use Rattle.circuit.proofs.tests.good_record.Tie as tie
 
-mul-at : tie.Need-mul-at
-mul-at c = search needs
-
 add-at : tie.Need-add-at
-add-at c = search needs
+add-at c = omega (arith, at-few _ _ _ _ (c .before .pre))
 
 sub-at : tie.Need-sub-at
-sub-at c = search needs
+sub-at c = c .before .pre .first
 
-mul-at-2 : tie.Need-mul-at-2
-mul-at-2 c = search needs
+mul-at : tie.Need-mul-at
+mul-at c = omega (arith, at-few _ _ _ _ (c .before .pre))
 
 add-at-2 : tie.Need-add-at-2
-add-at-2 c = search needs
+add-at-2 c = omega (arith, at-few _ _ _ _ (c .before .pre))
 
-shared-slice-read-kind : tie.Need-shared-slice-read-kind
-shared-slice-read-kind c = search needs
+field-requires : tie.Need-field-requires
+field-requires c κs = let p = c .before .pre in (p .known, fits _ _ _ _ (omega arith) (p .room))
 
-add-zero : tie.Need-add-zero
-add-zero c = search needs
+add-field : tie.Need-add-field
+add-field c = omega (arith, at-few _ _ _ _ (c .before .before .pre))
 
-shared-slice-read-zero : tie.Need-shared-slice-read-zero
-shared-slice-read-zero c = search needs
-
-add-read-u16 : tie.Need-add-read-u16
-add-read-u16 c = search needs
-
-read-u16-requires : tie.Need-read-u16-requires
-read-u16-requires c κs = search needs
+field-requires-2 : tie.Need-field-requires-2
+field-requires-2 c κs = let p = c .before .before .pre in (p .known, fits _ _ _ _ (omega arith) (p .room))
 
 both-requires : tie.Need-both-requires
 both-requires c κs = search needs
@@ -44,9 +37,6 @@ either-requires c κs = search needs
 either-requires-2 : tie.Need-either-requires-2
 either-requires-2 c κs = search needs
 
-both-requires-2 : tie.Need-both-requires-2
-both-requires-2 c κs = search needs
-
 returns : tie.Need-returns
 unfolding goodRecord
 returns c = cc
@@ -55,18 +45,14 @@ pub good-record-spec : {M : Type 1} → statement M
 good-record-spec =
     tie.close
     (tie.spec
-    mul-at
     add-at
     sub-at
-    mul-at-2
+    mul-at
     add-at-2
-    shared-slice-read-kind
-    add-zero
-    shared-slice-read-zero
-    add-read-u16
-    read-u16-requires
+    field-requires
+    add-field
+    field-requires-2
     both-requires
     either-requires
     either-requires-2
-    both-requires-2
     returns)

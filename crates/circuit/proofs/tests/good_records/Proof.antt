@@ -4,16 +4,16 @@ use mathlib.Core.Path.{_≡_, refl}
 use Prim.Native.Nat.{_-_, _≤_}
 use native.Mathlib.Omega.{arith}
 use borrow.Author.Needs.{needs}
-use Rattle.circuit.specs.File.{goodRecords}
-use Rattle.circuit.proofs.Chain.{inside, records-turn}
+use Rattle.circuit.specs.Fields.{field, goodRecords}
+use Rattle.circuit.proofs.Slots.{inside, records-turn}
 use Rattle.circuit.proofs.tests.good_records.Statement.{statement}
 use Rattle.circuit.proofs.tests.good_records.Tie as tie
 
 abbrev Inv-loop : tie.InvT-loop
-Inv-loop s inputs outputs gates good₀ k₀ good k = (k ≤ gates) × (good ≡ goodRecords s k)
+Inv-loop s bytes inputs outputs gates good₀ k₀ good k = (k ≤ gates) × (good ≡ goodRecords (field bytes s) k)
 
 abbrev μ-loop : tie.MeasureT-loop
-μ-loop s inputs outputs gates good₀ k₀ good k = gates - k
+μ-loop s bytes inputs outputs gates good₀ k₀ good k = gates - k
 
 loop-holds : tie.Need-loop-holds Inv-loop μ-loop
 unfolding goodRecords
@@ -23,7 +23,7 @@ add-good-record : tie.Need-add-good-record Inv-loop μ-loop
 add-good-record c = omega arith
 
 good-record-requires : tie.Need-good-record-requires Inv-loop μ-loop
-good-record-requires c κs = inside _ _ _ _ _ (c .before .before .before .pre) (omega arith) (omega arith)
+good-record-requires c κs = inside _ _ _ _ _ _ (c .before .before .before .pre) (omega arith) (omega arith)
 
 both-requires : tie.Need-both-requires Inv-loop μ-loop
 both-requires c κs = search needs

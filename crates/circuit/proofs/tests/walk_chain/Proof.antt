@@ -6,41 +6,41 @@ use Prim.Native.Nat.{ℕ, _-_, _≤_}
 use native.Mathlib.Omega.{arith}
 use borrow.Author.Needs.{needs}
 use Rattle.circuit.specs.Chain.{walkFrom}
-use Rattle.circuit.specs.File.{gatesOf, linkOf, chainWalk}
-use Rattle.circuit.proofs.Chain.{inside, next-read}
+use Rattle.circuit.specs.Fields.{field, gatesOf, linkOf, chainWalk}
+use Rattle.circuit.proofs.Slots.{inside, next-read}
 use Rattle.circuit.proofs.Walking.{at-beyond, at-early, at-next, at-last, link-head, link-slot}
 use Rattle.circuit.proofs.tests.walk_chain.Statement.{statement}
 use Rattle.circuit.proofs.tests.walk_chain.Tie as tie
 
 abbrev Inv-loop : tie.InvT-loop
-Inv-loop s inputs outputs gates head left₀ holder₀ link₀ left holder link =
-    (left ≤ gates) × ((link ≡ linkOf s holder) × (walkFrom (gatesOf s) (linkOf s) left holder ≡ chainWalk s))
+Inv-loop s bytes inputs outputs gates head left₀ holder₀ link₀ left holder link =
+    (left ≤ gates) × ((link ≡ linkOf (field bytes s) holder) × (walkFrom (gatesOf (field bytes s)) (linkOf (field bytes s)) left holder ≡ chainWalk (field bytes s)))
 
 abbrev μ-loop : tie.MeasureT-loop
-μ-loop s inputs outputs gates head left₀ holder₀ link₀ left holder link = left
+μ-loop s bytes inputs outputs gates head left₀ holder₀ link₀ left holder link = left
 
 loop-holds : tie.Need-loop-holds Inv-loop μ-loop
 unfolding chainWalk
 loop-holds c =
-    let s = c .before .args .s .now in
+    let s = field (c .before .args .bytes) (c .before .args .s .now) in
     let f = c .before .pre in
     (omega arith, (f .head ∙ sym (link-head s), ap (λ (n : ℕ). walkFrom (gatesOf s) (linkOf s) n 0) (f .laid .gates)))
 
 returns : tie.Need-returns Inv-loop μ-loop
 returns c =
     let l = c .before .before .loop in
-    let s = c .before .before .before .before .args .s .now in
+    let s = field (c .before .before .before .before .args .bytes) (c .before .before .before .before .args .s .now) in
     let g = c .before .before .before .before .pre .laid .gates in
     sym (at-beyond (gatesOf s) (linkOf s) (l .left) (l .holder) (omega (arith, l .inv .1 .0, g, c .if1 .taken))) ∙ l .inv .1 .1
 
 returns-2 : tie.Need-returns-2 Inv-loop μ-loop
 returns-2 c =
     let l = c .before .before .before .loop in
-    let s = c .before .before .before .before .before .args .s .now in
+    let s = field (c .before .before .before .before .before .args .bytes) (c .before .before .before .before .before .args .s .now) in
     sym (at-early (gatesOf s) (linkOf s) (l .left) (l .holder) (c .before .before .loop-test .taken) (omega (arith, l .inv .1 .0, c .if2 .taken))) ∙ l .inv .1 .1
 
-record-requires : tie.Need-record-requires Inv-loop μ-loop
-record-requires c κs = inside _ _ _ _ _ (c .before .before .before .before .before .pre .laid) (omega arith) (omega arith)
+record-with-requires : tie.Need-record-with-requires Inv-loop μ-loop
+record-with-requires c κs = inside _ _ _ _ _ _ (c .before .before .before .before .before .pre .laid) (omega arith) (omega arith)
 
 sub-left : tie.Need-sub-left Inv-loop μ-loop
 sub-left c = omega arith
@@ -52,9 +52,9 @@ loop-again : tie.Need-loop-again Inv-loop μ-loop
 loop-again c =
     let l = c .before .before .before .before .loop in
     let x = c .before .before .before .before .before .before in
-    let s = x .args .s .now in
+    let s = field (x .args .bytes) (x .args .s .now) in
     let g = x .pre .laid .gates in
-    let n = next-read s (l .link) _ (c .«record» .ensures) in
+    let n = next-read s (l .link) _ (c .record-with .ensures) in
     let e = l .inv .1 .0 in (
       omega arith,
       (
@@ -72,7 +72,7 @@ returns-3 : tie.Need-returns-3 Inv-loop μ-loop
 returns-3 c =
     let l = c .before .before .loop in
     let x = c .before .before .before .before in
-    let s = x .args .s .now in
+    let s = field (x .args .bytes) (x .args .s .now) in
     let g = x .pre .laid .gates in
     c .last-link .ensures
     ∙ ap₂ (λ (n k : ℕ). walkFrom n (λ _. k) 0 (l .holder)) g (l .inv .1 .0)
@@ -88,7 +88,7 @@ walk-chain-spec =
     loop-holds
     returns
     returns-2
-    record-requires
+    record-with-requires
     sub-left
     loop-less
     loop-again

@@ -1,7 +1,7 @@
 -- `circuit::tests::within_limits` meets its contract.
 -- Assumes nothing.
 use borrow.Author.Needs.{needs}
-use Rattle.circuit.specs.Steps.{limits}
+use Rattle.circuit.specs.FieldSteps.{limits}
 use Rattle.circuit.proofs.tests.within_limits.Statement.{statement}
 use Rattle.circuit.proofs.tests.within_limits.Tie as tie
 

@@ -2,7 +2,7 @@
 -- Assumes nothing.
 use native.Mathlib.Omega.{arith}
 use mathlib.Core.Path.{_≡_, refl, _∙_}
-use Prim.Native.Nat.{_+_, _-_, _≤_}
+use Prim.Native.Nat.{_-_, _≤_}
 use lib.ListN.{length, length-set}
 use Rattle.engine.proofs.chain.broadcast_outputs.Statement.{statement}
 use Rattle.engine.proofs.chain.broadcast_outputs.Tie as tie
@@ -40,17 +40,8 @@ loop-holds c =
       ),
     )
 
-mul-read-u16 : tie.Need-mul-read-u16 Inv-loop μ-loop
-mul-read-u16 c = omega arith
-
-add-read-u16 : tie.Need-add-read-u16 Inv-loop μ-loop
-add-read-u16 c = omega arith
-
-read-u16-requires : tie.Need-read-u16-requires Inv-loop μ-loop
-read-u16-requires c κs = omega arith
-
-cast-w : tie.Need-cast-w Inv-loop μ-loop
-cast-w c = omega arith
+output-wire-requires : tie.Need-output-wire-requires Inv-loop μ-loop
+output-wire-requires c κs = omega arith
 
 add-output : tie.Need-add-output Inv-loop μ-loop
 add-output c = omega arith
@@ -60,7 +51,7 @@ output-requires c κs =
     let z = c .before .before .before .before .before .before .before .before in
     let l = c .before .before .before .loop in
     let o = output-low (z .args .s .now) (z .args .z .outputs) (l .j) (z .pre .outputs) (c .before .before .loop-test .taken) in
-    (room-kept _ _ _ _ (l .inv .1 .0) (z .pre .memory), (omega (arith, o, c .before .read-u16 .ensures), omega arith))
+    (room-kept _ _ _ _ (l .inv .1 .0) (z .pre .memory), (omega (arith, o, c .before .output-wire .ensures), omega arith))
 
 mul-values : tie.Need-mul-values Inv-loop μ-loop
 mul-values c = omega arith
@@ -78,7 +69,7 @@ loop-again : tie.Need-loop-again Inv-loop μ-loop
 loop-again c =
     let l = c .before .before .before .before .before .before .loop in
     let x = c .before .before .before .before .before .before .before .before .before .before .before .args in
-    let r = c .before .before .before .before .read-u16 .ensures in
+    let r = c .before .before .before .before .output-wire .ensures in
     let o = c .before .before .output in
     let W = wireCount (x .z) in (
       omega arith,
@@ -118,10 +109,7 @@ broadcast-outputs-spec =
     μ-loop
     add-wires
     loop-holds
-    mul-read-u16
-    add-read-u16
-    read-u16-requires
-    cast-w
+    output-wire-requires
     add-output
     output-requires
     mul-values
