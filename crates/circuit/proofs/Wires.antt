@@ -80,7 +80,7 @@ module _ (I g : ℕ) where
       count-other w (I + y - 1) (map (λ y. I + y - 1) ys) other ∙ wire-none ys (within-rest g y ys h) w o
 
 -- on a good chain, each wire from I to I + G − 1 is written once
-gates-once : (s : List ℕ) → goodChain s ≡ true → (w : ℕ) → inputsOf s ≤ w → w < inputsOf s + length (gatesInOrder s)
+pub gates-once : (s : List ℕ) → goodChain s ≡ true → (w : ℕ) → inputsOf s ≤ w → w < inputsOf s + length (gatesInOrder s)
     → count w (writes (gatesInOrder s)) ≡ 1
 unfolding fields.gatesInOrder
 gates-once s t w p l =

@@ -1,0 +1,5 @@
+pub mod Adding
+pub mod Turns
+pub mod Sums
+pub mod Corrects
+pub mod Making

@@ -1,0 +1,4 @@
+pub mod Agree
+pub mod Theorem
+pub mod Masked
+pub mod Prepared

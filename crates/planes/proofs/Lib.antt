@@ -1,0 +1,4 @@
+pub mod Turning
+pub mod Views
+pub mod Stored
+pub mod Within
