@@ -1,5 +1,6 @@
 pub mod Trees
 pub mod Seeded
+pub mod Tapes
 pub mod Committed
 pub mod Online
 pub mod Sent

@@ -41,7 +41,7 @@ pub fn reopen(
     requires { ⌜ Lent (now s) z (inst .parties) (inst .height) (now tapes) (now memory) × (length (now master) ≡ 16) ⌝ }
     ensures { λ r. ⌜ r ≡ masterCommitments (circuitOf (now (s .entry))) (inst .parties) (inst .number) (now (master .entry)) ⌝ }
     ensures { λ _. ⌜ now (tapes .exit) ≡ masterTapes (circuitOf (now (s .entry))) (inst .parties) (inst .number) (now (master .entry)) ⌝ }
-    ensures { λ _. ⌜ now (memory .exit) ≡ prepared (now (s .entry)) z (inst .parties) (masterTapes (circuitOf (now (s .entry))) (inst .parties) (inst .number) (now (master .entry))) (replicate (length (now (memory .entry))) 0) ⌝ }
+    ensures { λ _. ⌜ now (memory .exit) ≡ prepared (now (s .entry)) z (inst .parties) (masterTapes (circuitOf (now (s .entry))) (inst .parties) (inst .number) (now (master .entry))) (now (memory .entry)) ⌝ }
 {
     let n = inst.parties;
     let k = n as usize;
@@ -51,7 +51,6 @@ pub fn reopen(
     let mut corrections = [0u8; 512];
     master_seeds(inst, master, &mut seeds[..size]);
     tape_rows(s, z, inst, &seeds[..size], tapes);
-    clear(memory);
     prepare_in(s, z, k, tapes, &mut corrections[..a], memory);
     commit(inst, n, &master[..0], &seeds[..size], &corrections[..a])
 }

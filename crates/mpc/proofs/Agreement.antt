@@ -226,10 +226,6 @@ module _ (f : List ℕ) (I O G A h n Z : ℕ) (ok : Legal f I O G) (head : h ≡
       masked-pack W n n A (A + O) mem (λ v. blank) (outputMasks c tapes) z (λ t. false) (inputMasks c tapes) (λ w. false) I w (omega arith) holds
       ∙ ap (λ (k : ℕ). pack (tabulate k (λ j. bitAt w j ⊕ xors n (inputMasks c tapes j)))) circuit-inputs
 
-  -- prepare: the corrections
-  pub prepare-agrees : packed (walked W n n true f G h 0 base) (16 * W + 1) A (oct A) ≡ pack (correctionBits c n tapes)
-  prepare-agrees = corrections-agree base (λ w. false) holds-base
-
   -- show: the masked inputs
   pub masked-agrees : (w : List ℕ) → packed (maskedInputs W n I w base) (16 * W) I (oct I) ≡ shown.maskedInputs c n w tapes
   masked-agrees w = inputs-agree base (productShares c tapes) w holds-base

@@ -12,8 +12,8 @@ use Rattle.engine.specs.Steps.{wireCount, unpacked, packed, packedRows, loadedT
 use Rattle.plain.specs.Showing as shown
 use Rattle.plain.specs.Showing.{correctionBits, runOn, honestRun, rowBits, rowsOf, firstBits, Showing, replayOf}
 use Rattle.mpc.specs.Operations.{ran}
-use Rattle.mpc.specs.Steps.{Known, Begun, loaded, gatesRun, outputsRun, valuesRun, prepared, worked, opened, replayed, replayedValues}
-use Rattle.mpc.proofs.Agreement.{prepare-agrees, masked-agrees, run-masked-agrees, run-rows-agree, run-output-agrees, show-corrections-agree, show-row-agrees, show-rows-agree, replay-rows-agree, replay-output-agrees}
+use Rattle.mpc.specs.Steps.{Known, Begun, loaded, gatesRun, outputsRun, valuesRun, worked, opened, replayed, replayedValues}
+use Rattle.mpc.proofs.Agreement.{masked-agrees, run-masked-agrees, run-rows-agree, run-output-agrees, show-corrections-agree, show-row-agrees, show-rows-agree, replay-rows-agree, replay-output-agrees}
 use Rattle.mpc.proofs.Opened.{sized}
 
 -- the tapes are brought in
@@ -57,12 +57,6 @@ pub works : (s : List ℕ) (z : Sizes) (n : ℕ) (w tapes m m1 x : List ℕ) →
 unfolding worked
 works s z n w tapes m m1 x e f = f ∙ ap (λ (j : List ℕ). outputsRun s z n n true (maskedInputs (wireCount z) n (z .inputs) w j)) e
 
--- the corrections are made
-pub prepares : (s : List ℕ) (z : Sizes) (n : ℕ) (tapes m m1 x : List ℕ) → m1 ≡ loaded z n tapes m → x ≡ gatesRun s z n n true m1
-    → x ≡ prepared s z n tapes m
-unfolding prepared
-prepares s z n tapes m m1 x e f = f ∙ ap (gatesRun s z n n true) e
-
 -- with a showing brought in: its tapes, corrections, row p and masked inputs
 module _ (s : List ℕ) (z : Sizes) (n p : ℕ) (v : Showing) (m m1 m2 m3 m4 : List ℕ) (e1 : m1 ≡ loaded z n (v .tapes) m)
     (e2 : m2 ≡ unpacked (v .corrections) 0 (z .ands) (48 * wireCount z + (n - 1)) m1)
@@ -84,18 +78,6 @@ module _ (s : List ℕ) (z : Sizes) (n p : ℕ) (v : Showing) (m m1 m2 m3 m4 : L
 
 -- what is packed out of a memory m that was clear
 module _ (s : List ℕ) (i o g a n : ℕ) (tapes m : List ℕ) (k : Known s (sized i o g a)) (b : Begun (sized i o g a) n m) where
-  -- the corrections, when they are prepared
-  pub prepared-corrections : packed (prepared s (sized i o g a) n tapes m) (16 * (i + g) + 1) a (oct a) ≡ pack (correctionBits (circuitOf s) n tapes)
-  unfolding prepared gatesRun loaded
-  prepared-corrections =
-      ap (λ (x : List ℕ). packed (walked (i + g) n n true s g (headOf s) 0 (loadedTapes (i + g) i a (oct (i + 2 * a)) tapes n x)) (16 * (i + g) + 1) a (oct a)) (b .clear)
-      ∙ prepare-agrees s i o g a (headOf s) n (length m) (k .legal) refl (k .ands) (b .parties .some) (b .parties .few) (b .room) tapes
-
-  -- as they are packed
-  pub prepare-made : (m1 out x : List ℕ) → m1 ≡ prepared s (sized i o g a) n tapes m → length out ≡ oct a
-      → x ≡ packed m1 (16 * (i + g) + 1) a (length out) → x ≡ pack (correctionBits (circuitOf s) n tapes)
-  prepare-made m1 out x e t q = q ∙ ap₂ (λ (y : List ℕ) (j : ℕ). packed y (16 * (i + g) + 1) a j) e t ∙ prepared-corrections
-
   -- the masked inputs
   pub worked-masked : (w m1 x : List ℕ) → m1 ≡ loaded (sized i o g a) n tapes m → x ≡ packed (maskedInputs (i + g) n i w m1) (16 * (i + g)) i (oct i)
       → x ≡ shown.maskedInputs (circuitOf s) n w tapes

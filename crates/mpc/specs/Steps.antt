@@ -7,10 +7,12 @@ use Prim.Native.Nat.{ℕ, _+_, _-_, _*_, _≤_}
 use lib.ListN.{length, replicate}
 use Rattle.bits.specs.Bits.{oct, unusedZero}
 use Rattle.circuit.specs.Circuit.{ands}
-use Rattle.circuit.specs.File.{headOf, gatesInOrder}
+use Rattle.circuit.specs.File.{headOf, gatesInOrder, circuitOf}
 use Rattle.circuit.specs.Steps.{Legal}
 use Rattle.circuit.specs.declared.Sizes.{Sizes}
+use Rattle.masks.specs.Steps as masks
 use Rattle.engine.specs.Steps.{wireCount, walked, outputsBroadcast, outputValues, unpacked, loadedTapes, maskedInputs}
+use Rattle.plain.specs.Tapes.{unusedRows}
 use Rattle.plain.specs.Showing.{Showing}
 
 -- a legal file with its I, O, G and A
@@ -32,6 +34,14 @@ pub record Begun (z : Sizes) (n : ℕ) (m : List ℕ) : Type 0 where
 -- the tapes of n parties
 abbrev pub TapesFit : Sizes → ℕ → List ℕ → Type 0
 TapesFit z n tapes = length tapes ≡ n * oct (z .inputs + 2 * z .ands)
+
+-- what the making of the corrections is lent: the tapes of n parties, and a place for the corrections
+pub record PrepareLent (s : List ℕ) (z : Sizes) (n : ℕ) (tapes corrections : List ℕ) : Type 0 where
+  pub known : Known s z
+  pub parties : Parties n
+  pub tapes-fit : TapesFit z n tapes
+  pub unused : unusedRows (circuitOf s) n tapes n ≡ true
+  pub corrections-fit : length corrections ≡ oct (z .ands)
 
 -- a witness of I bits
 pub record WitnessFits (z : Sizes) (w : List ℕ) : Type 0 where
@@ -69,9 +79,9 @@ outputsRun s z n p correcting m = outputsBroadcast (wireCount z) n p (z .ands) s
 unfoldable pub valuesRun : List ℕ → Sizes → ℕ → ℕ → Bool → List ℕ → List ℕ → List ℕ
 valuesRun s z n p correcting m y = outputValues (wireCount z) n p (z .ands) s (z .outputs) (gatesRun s z n p correcting m) y
 
--- the memory after the corrections are made
-unfoldable pub prepared : List ℕ → Sizes → ℕ → List ℕ → List ℕ → List ℕ
-prepared s z n tapes m = gatesRun s z n n true (loaded z n tapes m)
+-- the memory after the corrections are made by the masks
+abbrev pub prepared : List ℕ → Sizes → ℕ → List ℕ → List ℕ → List ℕ
+prepared s z n tapes m = masks.worked s z n tapes m
 
 -- the memory after the run on a witness, its corrections made
 unfoldable pub worked : List ℕ → Sizes → ℕ → List ℕ → List ℕ → List ℕ → List ℕ

@@ -1,25 +1,24 @@
 // Preparing the corrections of the AND gates from the tapes.
 ghost use mathlib.Core.Path.{_≡_};
 ghost use mathlib.Core.List.{[], _∷_};
-ghost use Prim.Native.Nat.{_+_};
+ghost use Prim.Native.Nat.{_+_, _≤_};
 ghost use lib.ListN.{length};
-ghost use Rattle.bits.specs.Bits.{oct, pack};
+ghost use Rattle.bits.specs.Bits.{pack};
 ghost use Rattle.circuit.specs.File.{circuitOf};
+ghost use Rattle.masks.specs.Steps.{wireCount, rowLength};
 ghost use Rattle.plain.specs.Showing.{correctionBits};
 ghost use Rattle.mpc.specs.Operations.{prepareLegal, prepareOp};
 ghost use Rattle.mpc.specs.Answers.{outcome};
-ghost use Rattle.mpc.specs.Steps.{Known, Parties, Begun, TapesFit, prepared};
+ghost use Rattle.mpc.specs.Steps.{Known, PrepareLent, prepared};
 use crate::Answer;
 use crate::tests::both;
 use crate::tests::holds;
 use crate::tests::holds_rows;
 use crate::tests::unused_rows;
-use crate::working::load;
-use crate::working::run_gates;
 use circuit::ReadAnswer;
 use circuit::Sizes;
 use circuit::reading::read;
-use engine::memory::pack;
+use masks::chain::make_corrections;
 use refusal::Refusal;
 
 // Makes the corrections in a work memory.
@@ -31,21 +30,19 @@ pub fn prepare_in(
     corrections: &mut [u8],
     memory: &mut [u8],
 )
-    requires { ⌜ Known (now s) z × (Begun z n (now memory) × (TapesFit z n (now tapes) × (length (now corrections) ≡ oct (z .ands)))) ⌝ }
+    requires { ⌜ PrepareLent (now s) z n (now tapes) (now corrections) × (wireCount z + rowLength z ≤ length (now memory)) ⌝ }
     ensures { λ _. ⌜ now (corrections .exit) ≡ pack (correctionBits (circuitOf (now (s .entry))) n (now (tapes .entry))) ⌝ }
     ensures { λ _. ⌜ now (memory .exit) ≡ prepared (now (s .entry)) z n (now (tapes .entry)) (now (memory .entry)) ⌝ }
 {
-    load(s, z, n, tapes, memory);
-    run_gates(s, z, n, n, true, memory);
-    pack(memory, 16 * (z.inputs + z.gates) + 1, z.ands, corrections);
+    make_corrections(s, z, n, tapes, corrections, memory);
 }
 
 // The same with a work memory of its own.
 fn prepare_with(s: &[u8], z: Sizes, n: usize, tapes: &[u8], corrections: &mut [u8])
-    requires { ⌜ Known (now s) z × (Parties n × (TapesFit z n (now tapes) × (length (now corrections) ≡ oct (z .ands)))) ⌝ }
+    requires { ⌜ PrepareLent (now s) z n (now tapes) (now corrections) ⌝ }
     ensures { λ _. ⌜ now (corrections .exit) ≡ pack (correctionBits (circuitOf (now (s .entry))) n (now (tapes .entry))) ⌝ }
 {
-    let mut memory = [0u8; 299008];
+    let mut memory = [0u8; 5696];
     prepare_in(s, z, n, tapes, corrections, &mut memory);
 }
 

@@ -2,6 +2,7 @@
 -- Assumes nothing.
 use mathlib.Core.Path.{refl}
 use native.Mathlib.Omega.{arith}
+use Rattle.circuit.proofs.Answered.{held}
 use Rattle.mpc.proofs.Opened.{counted, ands-low}
 use Rattle.mpc.proofs.Tested.{both-lengths}
 use Rattle.mpc.proofs.Prepared.{prepare-parties, prepare-length, prepare-unused, prepare-done}
@@ -50,7 +51,14 @@ returns-3 c =
 
 prepare-with-requires : tie.Need-prepare-with-requires
 prepare-with-requires c κs =
-    ((c .before .before .before .before .before .before .before .before .before .before .before .before .before .before .before .pre), (counted _ _ (c .before .before .before .before .before .before .before .before .before .before .before .height .ensures) (c .before .before .before .before .before .before .before .before .before .before .if1 .left), both-lengths _ _ _ _ _ _ _ (c .before .before .before .before .before .before .before .holds-rows .ensures) (c .before .before .before .before .before .holds .ensures) (c .before .before .before .before .both .ensures) (c .before .before .before .if2 .left)))
+    let e = both-lengths _ _ _ _ _ _ _ (c .before .before .before .before .before .before .before .holds-rows .ensures) (c .before .before .before .before .before .holds .ensures) (c .before .before .before .before .both .ensures) (c .before .before .before .if2 .left) in
+    record {
+      known = c .before .before .before .before .before .before .before .before .before .before .before .before .before .before .before .pre;
+      parties = counted _ _ (c .before .before .before .before .before .before .before .before .before .before .before .height .ensures) (c .before .before .before .before .before .before .before .before .before .before .if1 .left);
+      tapes-fit = e .0;
+      unused = held _ _ (c .before .before .unused-rows .ensures) (c .before .if3 .left);
+      corrections-fit = e .1;
+    }
 
 same-length-3 : tie.Need-same-length-3
 same-length-3 c = c .before .before .prepare-with .kept .1 .1 .1 .1 .0

@@ -1,20 +1,20 @@
 -- `mpc::preparing::prepare_with` meets its contract.
 -- Assumes nothing.
-use mathlib.Core.Path.{refl, sym}
+use mathlib.Core.Path.{sym}
 use native.Mathlib.Omega.{arith}
 use Prim.Native.Nat.{ℕ}
 use lib.ListN.{length-replicate}
-use Rattle.mpc.proofs.Opened.{begun}
+use Rattle.mpc.proofs.Opened.{ands-low}
 use Rattle.mpc.proofs.preparing.prepare_with.Statement.{statement}
 use Rattle.mpc.proofs.preparing.prepare_with.Tie as tie
 
 slice-aggregate-prepare-in : tie.Need-slice-aggregate-prepare-in
-slice-aggregate-prepare-in c = sym (length-replicate {A = ℕ} 299008 0)
+slice-aggregate-prepare-in c = sym (length-replicate {A = ℕ} 5696 0)
 
 prepare-in-requires : tie.Need-prepare-in-requires
 prepare-in-requires c κs =
     let p = c .before .before .before .before .before .pre in
-    (p .0, (begun _ _ 299008 _ (p .1 .0) refl (omega (arith, p .0 .legal .laid .few-inputs, p .0 .legal .laid .few-gates)), p .1 .1))
+    (p, omega (arith, length-replicate {A = ℕ} 5696 0, ands-low _ _ _ _ _ (p .known), p .known .legal .laid .few-inputs, p .known .legal .laid .few-gates))
 
 same-length : tie.Need-same-length
 same-length c = c .before .before .before .prepare-in .kept .1 .1 .1 .1 .0
