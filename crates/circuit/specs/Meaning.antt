@@ -1,4 +1,4 @@
--- What the tests of reading mean (document 01, "Circuit file"; document 02, order 2): the statements of the theorems on the chain and on the wires.
+-- What the tests of reading mean (document 01, "Circuit file"; document 02, order 2): the theorems on the chain, the wires and the fields.
 -- Assumes nothing.
 use mathlib.Core.Path.{_≡_}
 use mathlib.Core.Bool.{true}

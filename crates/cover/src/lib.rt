@@ -189,7 +189,7 @@ fn follow_pair(
     take_value(marks, 2 * k + 1, values, m, &mut out[16..])
 }
 
-// The two nodes below node k, in their rows.
+// The two nodes below node k, in their rows. The number of the next value.
 fn follow(j: u32, k: usize, marks: &[u8], values: &[u8], n: usize, nodes: &mut [u8]) -> usize
     requires { ⌜ ((1 ≤ k) × ((k < 32768) × (2 * k + 1 < length (now marks)))) × ((length (now values) ≡ 16 * length (coverBy (now marks))) × ((n ≡ length (those (2 * k) (openedBy (now marks)))) × (k * 32 + 32 ≤ length (now nodes)))) ⌝ }
     ensures { λ r. ⌜ (r ≡ length (those (2 * k + 2) (openedBy (now (marks .entry))))) × (now (nodes .exit) ≡ putRow 32 (now (nodes .entry)) k (followOf j (now (marks .entry)) (now (values .entry)) (2 * k) (rowOf (now (nodes .entry)) 16 k) ++ followOf j (now (marks .entry)) (now (values .entry)) (2 * k + 1) (rowOf (now (nodes .entry)) 16 k))) ⌝ }

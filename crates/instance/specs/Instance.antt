@@ -72,7 +72,7 @@ unfoldable pub masterOnline : Circuit → ℕ → ℕ → List ℕ → List ℕ 
 masterOnline c n j witness master =
     onlineDigest j (masterMasked c n j witness master) (rowsOf n (masterRun c n j witness master))
 
--- what the challenge asks of an instance: its master if it is not chosen, all parties but p if it is
+-- what the challenge asks of an instance: all parties, by its master, if it is not chosen; all parties but p if it is
 pub data Asked : Type 0 where
   opened : Asked
   hiding : ℕ → Asked

@@ -1,4 +1,4 @@
--- The walk with one bit a wire makes the corrections of the masks that the memory holds.
+-- The walk with one mask a wire makes the corrections of the masks that the memory holds.
 -- Assumes nothing.
 use mathlib.Core.Path.{_≡_, refl, ap, ap₂, _∙_}
 use mathlib.Core.Bool.{Bool, true, false, _&&_}

@@ -1,4 +1,4 @@
-// The walk along the gates with one bit a wire, and the corrections that it makes.
+// The walk along the gates with one mask a wire, and the corrections that it makes.
 ghost use mathlib.Core.Path.{_≡_};
 ghost use Prim.Native.Nat.{_+_, _*_, _≤_, _<_};
 ghost use lib.ListN.{length};

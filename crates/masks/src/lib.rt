@@ -1,3 +1,3 @@
-// The corrections from the wires' masks alone: the XOR of the parties' tapes, and a walk with one bit a wire.
+// The corrections from the wires' masks alone: the XOR of the parties' tapes, and a walk with one mask a wire.
 pub mod chain;
 pub mod rows;

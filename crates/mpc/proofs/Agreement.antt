@@ -1,4 +1,4 @@
--- The engine on bytes computes the run on bits: corrections, masked inputs, broadcast rows and outputs of prepare, run, show and replay.
+-- The engine on bytes computes the run on bits: corrections, masked inputs, broadcast rows and outputs of run, show and replay.
 -- Assumes nothing.
 use mathlib.Core.Path.{_≡_, refl, sym, ap, ap₂, _∙_}
 use mathlib.Core.Bool.{Bool, true, false, _&&_}

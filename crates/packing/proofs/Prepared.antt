@@ -1,4 +1,4 @@
--- The corrections that the walk with one bit a wire makes of a legal file are those that prepare is to make.
+-- The corrections that the walk with one mask a wire makes of a legal file are those that prepare is to make.
 -- Assumes nothing.
 use mathlib.Core.Path.{_≡_, refl, sym, ap, ap₂, _∙_}
 use mathlib.Core.Bool.{Bool, true, _&&_}

@@ -1,4 +1,4 @@
-// The places of the work memory: no other module knows them.
+// The places of the work memory, which no other crate knows.
 ghost use mathlib.Core.Path.{_≡_};
 ghost use Prim.Native.Nat.{_≤_, _<_};
 ghost use Rattle.planes.specs.Steps.{tapeWords, tapeAt, maskedAt, planesEnd, maskWord, broadcastWord, Room, share, tape, masked, putShare, putTape, putMasked};

@@ -24,7 +24,7 @@ use Rattle.instance.proofs.Laid.{stretch-size}
 use Rattle.proof.specs.File.{hides, stretchStart}
 use Rattle.proof.specs.Steps.{askOf}
 
--- the number n asks for the master
+-- the number n is that of an instance not chosen
 pub ask-opened : (n p : ℕ) → p ≡ n → askOf n p ≡ opened
 unfolding askOf
 ask-opened n p e = rw (eq-eqb p n e)

@@ -14,7 +14,7 @@ use Rattle.cover.specs.Steps.{hiddenBy, marksOf}
 use Rattle.seeds.specs.Operations.{maxMessage, maxOutputBytes, areCounts}
 use Rattle.instance.specs.Instance.{Asked, opened, hiding}
 
--- what a number asks of an instance of n parties: to hide that party; n asks for the master
+-- what a number asks of an instance of n parties: to hide that party; n where the instance is not chosen
 unfoldable pub askOf : ℕ → ℕ → Asked
 askOf n p = cond (eqb p n) opened (hiding p)
 
