@@ -4,19 +4,16 @@ use mathlib.Core.Path.{_≡_, refl, sym, ap, ap₂, _∙_}
 use mathlib.Core.Bool.{Bool, true, false, _&&_}
 use mathlib.Core.List.{List, [], _∷_}
 use mathlib.Core.Logic.{⊎-elim}
-use Prim.Native.Nat.{ℕ, zero, suc, _+_, _-_, _*_, _%_, _/_, _≤_, _<_}
+use Prim.Native.Nat.{ℕ, zero, suc, _+_, _-_, _%_, _/_, _≤_, _<_}
 use native.Mathlib.Omega.{arith}
 use native.Mathlib.Numerals.{add-one}
 use borrow.Author.Tests.{lt-ltb, le-ltb, ltb-true}
 use lib.Dec.{ltb}
 use lib.ListN.{length, getD, set, replicate, length-set, length-replicate}
-use lib.Bits.{bitXor}
 use lib.Seq.{ext-getD, getD-set-same, getD-set-other}
-use Rattle.bits.specs.Bits.{tabulate, oct, pack, odd, bitVal, testBit, bitAt}
-use Rattle.bits.specs.Xor.{_⊕_}
-use Rattle.bits.proofs.Bitwise.{odd-xor}
+use Rattle.bits.specs.Bits.{tabulate, oct, pack, odd, testBit, bitAt}
 use Rattle.bits.specs.Steps.{putBit}
-use Rattle.bits.proofs.Numbers.{eq-or-ne, lt-or-le, odd-bitVal, testBit-zero}
+use Rattle.bits.proofs.Numbers.{eq-or-ne, lt-or-le, testBit-zero}
 use Rattle.bits.proofs.Packing.{bitAt-pack, ext-bitAt, length-pack, pack-lt, putBit-pack}
 use Rattle.bits.proofs.Tabulate.{length-tabulate, getD-tabulate, getD-tabulate-end, tabulate-cong}
 use Rattle.bits.proofs.Tests.{and-true-left, and-true-right}
@@ -30,12 +27,11 @@ use Rattle.circuit.specs.declared.Sizes.{Sizes}
 use Rattle.circuit.proofs.Answered.{gates-count}
 use Rattle.circuit.proofs.Chain.{next-read, gate-read, zeros-at}
 use Rattle.circuit.proofs.Run.{wired-reads, goodChain-walks, gates-order}
-use Rattle.words.specs.Words.{parity}
-use Rattle.planes.specs.Steps.{Room, tape, putShare, putMasked}
+use Rattle.planes.specs.Steps.{Room}
 use Rattle.planes.specs.declared.Layout.{Layout}
 use Rattle.gates.proofs.Steps.{room-kept}
 use Rattle.gates.specs.Steps.{gateStep, outputStep, outputValue}
-use Rattle.walk.specs.Steps.{layoutOf, maskedBit, inputsLoaded, Ready, Ended, Lent, walked, outputsSent, outputBit, gatesRun, outputsRun, valuesRun}
+use Rattle.walk.specs.Steps.{layoutOf, Ready, Ended, Lent, walked, outputsSent, outputBit, gatesRun, outputsRun, valuesRun}
 
 -- the walk: one gate is done, and the memory goes on from it
 module _ (l : Layout) (hidden : ℕ) (s : List ℕ) where
@@ -148,23 +144,6 @@ module _ (O : ℕ) (v : ℕ → Bool) where
 
   pub bits-all : (j : ℕ) → O ≤ j → pack (firsts O v j) ≡ pack (tabulate O v)
   bits-all j h = ap pack (tabulate-cong O (λ i. ltb i j && v i) v (λ i l. rw (lt-ltb i j (omega arith))))
-
--- the inputs: one more is masked
-pub masked-turn : (l : Layout) (witness m : List ℕ) (w a b x : ℕ) → a ≡ bitVal (bitAt witness w) → x ≡ tape l m w → b ≡ bitVal (parity 64 x)
-    → odd (bitXor a b) ≡ maskedBit l witness m w
-unfolding maskedBit
-masked-turn l witness m w a b x ea ex eb =
-    odd-xor a b ∙ ap₂ _⊕_ (ap odd ea ∙ odd-bitVal (bitAt witness w)) (ap odd eb ∙ odd-bitVal (parity 64 x) ∙ ap (parity 64) ex)
-
--- or loaded
-pub inputs-none : (l : Layout) (masked m : List ℕ) → m ≡ inputsLoaded l masked 0 m
-unfolding inputsLoaded
-inputs-none l masked m = refl
-
-pub inputs-turn : (l : Layout) (masked : List ℕ) (w x v : ℕ) (m k r u : List ℕ) → r ≡ inputsLoaded l masked w m → x ≡ tape l r w → v ≡ bitVal (bitAt masked w)
-    → k ≡ putShare w x r → u ≡ putMasked l w v k → u ≡ inputsLoaded l masked (w + 1) m
-unfolding inputsLoaded
-inputs-turn l masked w x v m k r u er ex ev ek eu = rw (add-one w) (rw (eu, ek, ev, ex, er))
 
 -- AND gates are gates
 ands-le : (gs : List Gate) → ands gs ≤ length gs

@@ -4,16 +4,14 @@
 use mathlib.Core.Path.{_≡_}
 use mathlib.Core.Bool.{Bool, true}
 use mathlib.Core.List.{List}
-use Prim.Native.Nat.{ℕ, zero, suc, _+_, _-_, _≤_}
+use Prim.Native.Nat.{ℕ, zero, suc, _+_, _-_}
 use lib.ListN.{length}
-use Rattle.bits.specs.Bits.{tabulate, odd, oct, bitVal, bitAt}
-use Rattle.bits.specs.Xor.{_⊕_}
+use Rattle.bits.specs.Bits.{tabulate, odd, oct}
 use Rattle.circuit.specs.Circuit.{ands}
 use Rattle.circuit.specs.File.{inputsOf, outputWire, nextOf, headOf, gatesInOrder}
 use Rattle.circuit.specs.Steps.{gateOf, andOne, gatesFrom, Laid, Legal, Chained, wired, goodOutputs}
 use Rattle.circuit.specs.declared.Sizes.{Sizes}
-use Rattle.words.specs.Words.{parity}
-use Rattle.planes.specs.Steps.{Room, tape}
+use Rattle.planes.specs.Steps.{Room}
 use Rattle.planes.specs.declared.Layout.{Layout}
 use Rattle.gates.specs.Steps.{putWire, gateStep, outputStep, outputValue}
 
@@ -68,14 +66,3 @@ outputsRun s z hidden m = outputsSent (layoutOf z) hidden s (z .outputs) (gatesR
 -- their values
 unfoldable pub valuesRun : List ℕ → Sizes → ℕ → List ℕ → List Bool
 valuesRun s z hidden m = tabulate (z .outputs) (outputBit (layoutOf z) hidden s (gatesRun s z hidden m))
-
--- the masked value of input wire w, for a witness: its mask is the parity of tape word w
-unfoldable pub maskedBit : Layout → List ℕ → List ℕ → ℕ → Bool
-maskedBit l witness m w = bitAt witness w ⊕ parity 64 (tape l m w)
-
--- the first k input wires with their masks from the tapes as shares, and the first k of the masked inputs
-unfoldable pub inputsLoaded : Layout → List ℕ → ℕ → List ℕ → List ℕ
-inputsLoaded l masked zero m = m
-inputsLoaded l masked (suc k) m =
-    let r : List ℕ = inputsLoaded l masked k m in
-    putWire l k (tape l r k) (bitVal (bitAt masked k)) r

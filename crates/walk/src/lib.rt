@@ -4,9 +4,6 @@ ghost use Prim.Native.Nat.{_+_, _≤_};
 ghost use Rattle.bits.specs.Bits.{tabulate, pack};
 ghost use Rattle.circuit.specs.Steps.{andOne};
 ghost use Rattle.walk.specs.Steps.{layoutOf, Ready, Ended, Lent, walked, outputsSent, outputBit, outputsRun, valuesRun};
-
-pub mod inputs;
-
 use circuit::Gate;
 use circuit::Sizes;
 use circuit::records::output_wire;
