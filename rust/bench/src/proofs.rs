@@ -11,7 +11,11 @@ use std::hint::black_box;
 const MESSAGE: &[u8] = b"order 17 of depot 4, 2026-03-01.";
 const ROOT: [u8; 16] = [0x5a; 16];
 const INSTANCES: [u32; 3] = [64, 256, 512];
-const PARTIES: [u32; 2] = [4, 16];
+
+/// The numbers of parties in the table of the examples, and in that of the worst
+/// circuit.
+const SOME_PARTIES: &[u32] = &[4, 16];
+const ALL_PARTIES: &[u32] = &[2, 4, 8, 16];
 
 /// Error 2^-128; the tau for it follows from M and n.
 const SOUNDNESS: f64 = 128.0;
@@ -128,6 +132,13 @@ macro_rules! check_call {
     }};
 }
 
+/// The counts of a table, by M and then by n.
+fn all_counts(parties: &[u32]) -> Vec<Counts> {
+    let each = INSTANCES.iter();
+    each.flat_map(|&m| parties.iter().map(move |&n| counts(m, n)))
+        .collect()
+}
+
 /// The rows of prove and of check for one circuit and these counts.
 fn rows<'a>(example: &'a Example, counts: Counts, openssl: Option<&'a OpenSsl>) -> [Row<'a>; 2] {
     let (statement, proof) = (example.statement(), example.proof(counts));
@@ -165,8 +176,8 @@ fn cells(amount: usize, [ours, second, hashing]: [Option<f64>; 3]) -> [String; 6
     ]
 }
 
-fn print_table(examples: &[Example], rounds: usize, openssl: Option<&OpenSsl>) {
-    let all = INSTANCES.map(|m| PARTIES.map(|n| counts(m, n))).concat();
+fn print_table(examples: &[Example], parties: &[u32], rounds: usize, openssl: Option<&OpenSsl>) {
+    let all = all_counts(parties);
     let rows = examples.iter().flat_map(|example| {
         let all = all.iter();
         all.flat_map(move |&counts| rows(example, counts, openssl))
@@ -203,18 +214,20 @@ pub fn print(openssl: Option<&OpenSsl>) {
         example!("covers32"),
         example!("fresh"),
     ];
-    print_table(&small.map(Example::of), 15, openssl);
-    print_table(&[Example::worst()], 6, openssl);
+    print_table(&small.map(Example::of), SOME_PARTIES, 15, openssl);
+    print_table(&[Example::worst()], ALL_PARTIES, 6, openssl);
 }
 
 #[cfg(test)]
 mod tests {
     use super::*;
 
+    /// The taus were found with exact fractions, apart from this program.
     #[test]
     fn sound_enough() {
-        let taus = INSTANCES.map(|m| PARTIES.map(|n| counts(m, n).tau));
-        assert_eq!(taus, [[36, 33], [64, 36], [64, 32]]);
+        let taus = all_counts(ALL_PARTIES).into_iter().map(|counts| counts.tau);
+        let taus: Vec<u32> = taus.collect();
+        assert_eq!(taus, [42, 36, 34, 33, 128, 64, 44, 36, 128, 64, 43, 32]);
         assert!((soundness(256, 36, 16) - 128.909).abs() < 0.001);
     }
 
