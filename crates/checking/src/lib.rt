@@ -1,11 +1,12 @@
 // The operation check.
 ghost use mathlib.Core.Path.{_≡_};
-ghost use Prim.Native.Nat.{suc, _*_, _^_};
+ghost use Prim.Native.Nat.{suc, _+_, _*_, _^_, _≤_};
 ghost use lib.ListN.{length};
 ghost use Rattle.circuit.specs.File.{readCircuit, legal, circuitOf};
+ghost use Rattle.masks.specs.Steps.{wireCount};
 ghost use Rattle.mpc.specs.Steps.{Known};
 ghost use Rattle.cover.specs.Masters.{height as «height-of»};
-ghost use Rattle.instance.specs.Steps.{Tree, Lent};
+ghost use Rattle.instance.specs.Steps.{Lent};
 ghost use Rattle.proof.specs.Protocol.{statementOf, challenged};
 ghost use Rattle.proof.specs.File.{headerHstar, goodHeader};
 ghost use Rattle.proof.specs.Check.{checkProof, checkLegal, checkOp};
@@ -64,10 +65,9 @@ fn check_in(
     table: &mut [u8],
     marks: &mut [u8],
     nodes: &mut [u8],
-    tapes: &mut [u8],
     memory: &mut [u8],
 ) -> Answer
-    requires { ⌜ Lent (now s) z (k .parties) (k .height) (now tapes) (now memory) × (Headed (k .instances) (k .chosen) (k .parties) (now y) (now message) (now proof) × ((length (now table) ≡ k .instances) × ((length (now marks) ≡ 2 ^ suc («height-of» (k .instances))) × (length (now nodes) ≡ 16 * 2 ^ suc («height-of» (k .instances)))))) ⌝ }
+    requires { ⌜ Lent (now s) z (k .parties) (k .height) (now memory) × (Headed (k .instances) (k .chosen) (k .parties) (now y) (now message) (now proof) × ((length (now table) ≡ k .instances) × ((length (now marks) ≡ 2 ^ suc («height-of» (k .instances))) × (length (now nodes) ≡ 16 * 2 ^ suc («height-of» (k .instances)))))) ⌝ }
     ensures { λ r. ⌜ outcome r ≡ checkProof (circuitOf (now (s .entry))) (now (y .entry)) (now (proof .entry)) (k .instances) (k .parties) (challenged (k .instances) (k .chosen) (k .parties) (headerHstar (now (proof .entry))) (statementOf (k .instances) (k .chosen) (k .parties) (now (s .entry)) (now (y .entry)) (now (message .entry)))) ⌝ }
 {
     draw_challenge(s, k, &proof[6..HEADER_BYTES], y, message, table);
@@ -86,7 +86,7 @@ fn check_in(
         &proof[HEADER_BYTES..first],
         nodes,
     );
-    let v = recompute(s, z, k, table, opened, nodes, y, proof, tapes, memory);
+    let v = recompute(s, z, k, table, opened, nodes, y, proof, memory);
     if !v.agrees {
         return Answer::Refused(Refusal::Output);
     }
@@ -96,26 +96,26 @@ fn check_in(
     Answer::Accepted
 }
 
-// The same with a work memory of its own.
-fn check_with(s: &[u8], z: Sizes, k: Counts, y: &[u8], message: &[u8], proof: &[u8]) -> Answer
-    requires { ⌜ Known (now s) z × (Tree (k .parties) (k .height) × Headed (k .instances) (k .chosen) (k .parties) (now y) (now message) (now proof)) ⌝ }
+// The same with places for what the challenge asks and for the nodes of the masters' tree.
+fn check_from(
+    s: &[u8],
+    z: Sizes,
+    k: Counts,
+    y: &[u8],
+    message: &[u8],
+    proof: &[u8],
+    memory: &mut [u8],
+) -> Answer
+    requires { ⌜ Lent (now s) z (k .parties) (k .height) (now memory) × Headed (k .instances) (k .chosen) (k .parties) (now y) (now message) (now proof) ⌝ }
     ensures { λ r. ⌜ outcome r ≡ checkProof (circuitOf (now (s .entry))) (now (y .entry)) (now (proof .entry)) (k .instances) (k .parties) (challenged (k .instances) (k .chosen) (k .parties) (headerHstar (now (proof .entry))) (statementOf (k .instances) (k .chosen) (k .parties) (now (s .entry)) (now (y .entry)) (now (message .entry)))) ⌝ }
 {
-    let inputs = z.inputs;
-    let gates = z.gates;
-    let ands = z.ands;
     let m = k.instances;
-    let n = k.parties;
     let mut table = [0u8; 512];
     let mut marks = [0u8; 1024];
     let mut nodes = [0u8; 16384];
-    let mut tapes = [0u8; 17408];
-    let mut memory = [0u8; 299008];
     let c = m as usize;
     let r = row_count(m);
     let e = 16 * r;
-    let t = (n as usize) * bits::oct(inputs + 2 * ands);
-    let w = 64 * (inputs + gates) + 4096;
     check_in(
         s,
         z,
@@ -126,14 +126,20 @@ fn check_with(s: &[u8], z: Sizes, k: Counts, y: &[u8], message: &[u8], proof: &[
         &mut table[..c],
         &mut marks[..r],
         &mut nodes[..e],
-        &mut tapes[..t],
-        &mut memory[..w],
+        memory,
     )
 }
 
 // Tests y, the message and the header, and checks a proof of a legal circuit.
-fn check_lent(s: &[u8], z: Sizes, y: &[u8], message: &[u8], proof: &[u8]) -> Answer
-    requires { ⌜ (readCircuit (now s) ≡ legal (circuitOf (now s))) × Known (now s) z ⌝ }
+fn check_lent(
+    s: &[u8],
+    z: Sizes,
+    y: &[u8],
+    message: &[u8],
+    proof: &[u8],
+    memory: &mut [u8],
+) -> Answer
+    requires { ⌜ (readCircuit (now s) ≡ legal (circuitOf (now s))) × (Known (now s) z × (64 * wireCount z + 4096 ≤ length (now memory))) ⌝ }
     ensures { λ r. ⌜ outcome r ≡ checkLegal (now (s .entry)) (now (y .entry)) (now (message .entry)) (now (proof .entry)) (circuitOf (now (s .entry))) ⌝ }
 {
     if !both(holds(y, z.outputs), message.len() <= MAX_MESSAGE) {
@@ -155,7 +161,16 @@ fn check_lent(s: &[u8], z: Sizes, y: &[u8], message: &[u8], proof: &[u8]) -> Ans
         parties: n,
         height: h,
     };
-    check_with(s, z, k, y, message, proof)
+    check_from(s, z, k, y, message, proof, memory)
+}
+
+// The same with a work memory of its own.
+fn check_own(s: &[u8], z: Sizes, y: &[u8], message: &[u8], proof: &[u8]) -> Answer
+    requires { ⌜ (readCircuit (now s) ≡ legal (circuitOf (now s))) × Known (now s) z ⌝ }
+    ensures { λ r. ⌜ outcome r ≡ checkLegal (now (s .entry)) (now (y .entry)) (now (message .entry)) (now (proof .entry)) (circuitOf (now (s .entry))) ⌝ }
+{
+    let mut memory = [0u8; 299008];
+    check_lent(s, z, y, message, proof, &mut memory)
 }
 
 // Checks a proof that the circuit gives y on some witness, under the message.
@@ -165,6 +180,6 @@ pub fn check(s: &[u8], y: &[u8], message: &[u8], proof: &[u8]) -> Answer
     let answer = read(s);
     match answer {
         ReadAnswer::Refused(k, _) => Answer::Refused(k),
-        ReadAnswer::Legal(z) => check_lent(s, z, y, message, proof),
+        ReadAnswer::Legal(z) => check_own(s, z, y, message, proof),
     }
 }

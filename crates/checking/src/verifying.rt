@@ -44,15 +44,14 @@ pub(crate) fn check_instance(
     y: &[u8],
     master: &[u8],
     part: &[u8],
-    tapes: &mut [u8],
     memory: &mut [u8],
 ) -> Replayed
-    requires { ⌜ Lent (now s) z (inst .parties) (inst .height) (now tapes) (now memory) × ((p ≤ inst .parties) × ((length (now master) ≡ 16) × ((length (now part) ≡ stretchBytes (circuitOf (now s)) (inst .parties) (askOf (inst .parties) p)) × (stretchUnused (circuitOf (now s)) (inst .parties) (now part) (askOf (inst .parties) p) ≡ true)))) ⌝ }
+    requires { ⌜ Lent (now s) z (inst .parties) (inst .height) (now memory) × ((p ≤ inst .parties) × ((length (now master) ≡ 16) × ((length (now part) ≡ stretchBytes (circuitOf (now s)) (inst .parties) (askOf (inst .parties) p)) × (stretchUnused (circuitOf (now s)) (inst .parties) (now part) (askOf (inst .parties) p) ≡ true)))) ⌝ }
     ensures { λ r. ⌜ (r .agrees ≡ stretchOutput (circuitOf (now (s .entry))) (inst .parties) (inst .number) (now (y .entry)) (now (part .entry)) (askOf (inst .parties) p)) × ((r .commitments ≡ stretchCommitments (circuitOf (now (s .entry))) (inst .parties) (inst .number) (now (master .entry)) (now (part .entry)) (askOf (inst .parties) p)) × (r .online ≡ stretchOnline (circuitOf (now (s .entry))) (inst .parties) (inst .number) (now (part .entry)) (askOf (inst .parties) p))) ⌝ }
 {
     let n = inst.parties;
     if p == n {
-        let commitments = reopen(s, z, inst, master, tapes, memory);
+        let commitments = reopen(s, z, inst, master, memory);
         let mut online = [0u8; 32];
         copy(part, &mut online);
         return Replayed {
@@ -61,7 +60,7 @@ pub(crate) fn check_instance(
             online,
         };
     }
-    replay(s, z, inst, p, y, part, tapes, memory)
+    replay(s, z, inst, p, y, part, memory)
 }
 
 // Checks every instance from its stretch, and recomputes h* from their digests.
@@ -74,10 +73,9 @@ pub(crate) fn recompute(
     nodes: &[u8],
     y: &[u8],
     proof: &[u8],
-    tapes: &mut [u8],
     memory: &mut [u8],
 ) -> Verdict
-    requires { ⌜ Lent (now s) z (k .parties) (k .height) (now tapes) (now memory) × (Sized (now s) (k .instances) (k .parties) (now table) (now proof) × ((allUnused (circuitOf (now s)) (k .instances) (k .parties) (asksIn (k .parties) (now table)) (now proof) ≡ true) × ((opened ≡ coverBytes (k .instances) (hides (asksIn (k .parties) (now table)))) × Rebuilt (k .instances) (k .parties) (now table) (now proof) (now nodes)))) ⌝ }
+    requires { ⌜ Lent (now s) z (k .parties) (k .height) (now memory) × (Sized (now s) (k .instances) (k .parties) (now table) (now proof) × ((allUnused (circuitOf (now s)) (k .instances) (k .parties) (asksIn (k .parties) (now table)) (now proof) ≡ true) × ((opened ≡ coverBytes (k .instances) (hides (asksIn (k .parties) (now table)))) × Rebuilt (k .instances) (k .parties) (now table) (now proof) (now nodes)))) ⌝ }
     ensures { λ r. ⌜ (r .agrees ≡ allOutputs (circuitOf (now (s .entry))) (k .instances) (k .parties) (asksIn (k .parties) (now (table .entry))) (now (y .entry)) (now (proof .entry))) × (r .hstar ≡ recomputed (circuitOf (now (s .entry))) (k .instances) (k .parties) (asksIn (k .parties) (now (table .entry))) (now (proof .entry))) ⌝ }
 {
     let m = k.instances;
@@ -97,7 +95,7 @@ pub(crate) fn recompute(
             height: h,
         };
         let seed = master(nodes, j);
-        let r = check_instance(s, z, inst, p, y, seed, &proof[at..end], tapes, memory);
+        let r = check_instance(s, z, inst, p, y, seed, &proof[at..end], memory);
         agrees = both(agrees, r.agrees);
         all = all.absorb(SHA3_256_RATE, &r.commitments);
         online = online.absorb(SHA3_256_RATE, &r.online);

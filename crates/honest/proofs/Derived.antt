@@ -1,12 +1,15 @@
 -- What the leaves of an instance give: rows of seeds, and the parties' tapes.
 -- Assumes nothing.
-use mathlib.Core.Path.{_≡_, refl}
-use mathlib.Core.Bool.{true}
+use mathlib.Core.Path.{_≡_, refl, _∙_}
+use mathlib.Core.Bool.{Bool, true, false, cond}
 use mathlib.Core.List.{List, [], _∷_, flatten}
+use mathlib.Core.Logic.{_≢_}
 use Prim.Native.Nat.{ℕ, zero, suc, _-_, _*_, _^_, _≤_, _<_, min}
 use native.Mathlib.Nat.{mod-lt}
 use native.Mathlib.Omega.{arith}
-use lib.ListN.{length}
+use borrow.Author.Tests.{ne-eqb}
+use lib.Dec.{eqb}
+use lib.ListN.{length, replicate, length-replicate}
 use lib.Pow.{pow-pos, pow-mono}
 use Rattle.bits.specs.Bits.{tabulate}
 use Rattle.bits.specs.Bytes.{rowOf}
@@ -20,7 +23,7 @@ use Rattle.party.specs.Derive.{seedRow, clearFrom}
 use Rattle.party.specs.Derive as derive
 use Rattle.hashing.proofs.Hashes.{bytes-append}
 use Rattle.party.proofs.Clearing.{length-tape, tape-unused}
-use Rattle.instance.specs.Instance.{seedsOf, seedOf, tapesOf}
+use Rattle.instance.specs.Instance.{seedsOf, seedsBut, seedOf, tapesOf}
 use Rattle.proof.proofs.Places.{length-rows}
 use Rattle.proof.proofs.Passing.{and-true}
 
@@ -44,10 +47,27 @@ tape-bytes : (j i : ℕ) (seed : List ℕ) (k len : ℕ) → Bytes (derive.tapeR
 unfolding derive.tapeRow
 tape-bytes j i seed k len = clear-bytes k _
 
+-- a row of seeds has 32 bytes
+length-seeds : (j i : ℕ) (leaf : List ℕ) → length (seedRow j i leaf) ≡ 32
+unfolding seedRow
+length-seeds j i leaf = length-shake128 _ 32
+
+-- and so has a zero row in its place
+length-but : (b : Bool) (j i : ℕ) (leaf : List ℕ) → length (cond b (replicate 32 0) (seedRow j i leaf)) ≡ 32
+length-but true j i leaf = length-replicate {A = ℕ} 32 0
+length-but false j i leaf = length-seeds j i leaf
+
 -- party i's row of seeds follows from its leaf
 pub seeds-row : (n j : ℕ) (leaves : List ℕ) (i : ℕ) → i < n → rowOf (seedsOf n j leaves) 32 i ≡ seedRow j i (rowOf leaves 16 i)
-unfolding seedsOf seedRow
-seeds-row n j leaves i h = row-tabulate 32 n (λ k. seedRow j k (rowOf leaves 16 k)) (λ k l. length-shake128 _ 32) i h
+unfolding seedsOf
+seeds-row n j leaves i h = row-tabulate 32 n (λ k. seedRow j k (rowOf leaves 16 k)) (λ k l. length-seeds j k _) i h
+
+-- also where that of another party p is zero
+pub but-row : (n p j : ℕ) (leaves : List ℕ) (i : ℕ) → i < n → i ≢ p → rowOf (seedsBut n p j leaves) 32 i ≡ seedRow j i (rowOf leaves 16 i)
+unfolding seedsBut
+but-row n p j leaves i h m =
+    row-tabulate 32 n (λ k. cond (eqb k p) (replicate 32 0) (seedRow j k (rowOf leaves 16 k))) (λ k l. length-but (eqb k p) j k _) i h
+    ∙ rw (ne-eqb i p m) refl
 
 -- the tapes that follow from rows of seeds
 module _ (c : Circuit) (n j : ℕ) (seeds : List ℕ) where

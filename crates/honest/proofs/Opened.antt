@@ -35,7 +35,7 @@ use Rattle.instance.specs.Opened.{openedSeeds, openedCommitments, openedShowing
 use Rattle.proof.proofs.Passing.{and-true}
 use Rattle.proof.proofs.Places.{ext-rows}
 use Rattle.proof.proofs.Parts.{length-bits, length-rowBits, siblings-back, corrections-back, commitment-back, masked-back, row-back}
-use Rattle.honest.proofs.Derived.{seeds-row, length-tapes, tapes-row, tapes-made}
+use Rattle.honest.proofs.Derived.{seeds-row, but-row, length-tapes, tapes-row, tapes-made}
 
 -- the tapes with row p all zero do not depend on row p
 pub hidden-same : (c : Circuit) (n p : ℕ) → p < n → (a b : List ℕ) → length a ≡ n * rowBytes c → length b ≡ n * rowBytes c
@@ -73,7 +73,7 @@ module _ (c : Circuit) (n j p : ℕ) (count : heightOf n ≡ 0 → ⊥) (l : p <
   seeds-back i h m =
       let e : 2 ^ heightOf n ≡ n = height-pow n count in
       rw (siblings-back c n j witness master p)
-      (seeds-row n j _ i h
+      (but-row n p j _ i h m
       ∙ (ap (seedRow j i) (opening-rows j (heightOf n) 1 p i master size (omega arith) (omega arith) m)
       ∙ sym (seeds-row n j (leavesBelow j (heightOf n) 1 master) i h)))
 

@@ -23,26 +23,30 @@ use Rattle.plain.specs.Run.{Transcript}
 use Rattle.plain.specs.Tapes.{andsOf, rowBytes, usedBits}
 use Rattle.plain.specs.Showing.{rowsOf, hidden, replayOf}
 use Rattle.hashing.specs.Inputs.{commitmentsInput, onlineInput}
-use Rattle.tree.specs.Tree.{leavesBelow, openedBelow}
-use Rattle.party.specs.Derive.{commitmentOf, tapeRow}
+use Rattle.tree.specs.Tree.{leavesBelow}
+use Rattle.party.specs.Derive.{seedRow, commitmentOf, tapeRow}
 use Rattle.party.proofs.Clearing.{length-tape}
 use Rattle.tree.proofs.Numbering.{leaf-of-party}
-use Rattle.instance.specs.Instance.{hiding, leavesOf, seedsOf, tapesOf, commitmentsDigest, onlineDigest, commitmentsOf, masterSeeds, masterTapes, masterCorrections, masterCommitments}
+use Rattle.instance.specs.Instance.{hiding, leavesOf, tapesOf, commitmentsDigest, onlineDigest, commitmentsOf, masterSeeds, masterTapes, masterCorrections, masterCommitments}
 use Rattle.instance.specs.Stretch.{stretchBytes, siblingsPart, correctionsPart, commitmentPart, maskedPart, rowPart}
 use Rattle.instance.specs.Opened.{openedSeeds, openedCommitments, openedShowing, openedRun}
 use Rattle.honest.specs.Response.{Chosen}
 use Rattle.honest.specs.Verification.{all, seedOf, comOf, tapes, honestLeaf, honestAux, honestCom, openedLeaf, openedCom, simulation, msgs}
 use Rattle.proof.proofs.Places.{length-rows}
-use Rattle.honest.proofs.Derived.{seeds-row, length-tapes, tapes-row}
+use Rattle.honest.proofs.Derived.{seeds-row, but-row, length-tapes, tapes-row}
 use Rattle.honest.proofs.Opened.{hidden-same}
 use Rattle.honest.proofs.Leaves.{opened-leaf}
 
--- the leaves of n parties of instance j, each and in one string
-module _ (n j : ℕ) (leaf : ℕ → List ℕ) (leaves : List ℕ) where
+-- the parties' leaves in instance j, and rows of seeds
+module _ (n j : ℕ) (leaf : ℕ → List ℕ) (seeds : List ℕ) where
+  -- row i follows from party i's leaf
+  abbrev Follows : ℕ → Type 0
+  Follows i = rowOf seeds 32 i ≡ seedRow j i (leaf i)
+
   -- the commitment of party i
-  com-same : (aux : List ℕ) (i : ℕ) → i < n → leaf i ≡ rowOf leaves 16 i → comOf n j leaf aux i ≡ commitmentOf j n i (seedsOf n j leaves) aux
+  com-same : (aux : List ℕ) (i : ℕ) → Follows i → comOf n j leaf aux i ≡ commitmentOf j n i seeds aux
   unfolding comOf commitmentOf
-  com-same aux i h e = rw (seeds-row n j leaves i h, e)
+  com-same aux i e = rw e
 
   -- the tapes, of a circuit
   module _ (c : Circuit) where
@@ -50,43 +54,41 @@ module _ (n j : ℕ) (leaf : ℕ → List ℕ) (leaves : List ℕ) where
     made i = tapeRow j i (seedOf j i (leaf i)) (usedBits c n i) (rowBytes c)
 
     -- of party i
-    tape-same : (i : ℕ) → i < n → leaf i ≡ rowOf leaves 16 i → made i ≡ tapeRow j i (take 16 (rowOf (seedsOf n j leaves) 32 i)) (usedBits c n i) (rowBytes c)
-    tape-same i h e = rw (seeds-row n j leaves i h, e)
+    tape-same : (i : ℕ) → Follows i → made i ≡ tapeRow j i (take 16 (rowOf seeds 32 i)) (usedBits c n i) (rowBytes c)
+    tape-same i e = rw e
 
     -- of all, in one string
-    tapes-same : ((i : ℕ) → i < n → leaf i ≡ rowOf leaves 16 i) → tapes c n j leaf ≡ tapesOf c n j (seedsOf n j leaves)
+    tapes-same : ((i : ℕ) → i < n → Follows i) → tapes c n j leaf ≡ tapesOf c n j seeds
     unfolding tapes tapesOf
-    tapes-same same = ap flatten (tabulate-cong n _ _ (λ i h. tape-same i h (same i h)))
+    tapes-same same = ap flatten (tabulate-cong n _ _ (λ i h. tape-same i (same i h)))
 
     length-made : (i : ℕ) → length (made i) ≡ rowBytes c
     length-made i = length-tape j i (seedOf j i (leaf i)) (usedBits c n i) (rowBytes c)
 
     -- of all but p
-    hidden-tapes : (p : ℕ) → p < n → ((i : ℕ) → i < n → i ≢ p → leaf i ≡ rowOf leaves 16 i)
-        → hidden c p (tapes c n j leaf) ≡ hidden c p (tapesOf c n j (seedsOf n j leaves))
+    hidden-tapes : (p : ℕ) → p < n → ((i : ℕ) → i < n → i ≢ p → Follows i) → hidden c p (tapes c n j leaf) ≡ hidden c p (tapesOf c n j seeds)
     unfolding tapes
     hidden-tapes p l same =
-        hidden-same c n p l (tapes c n j leaf) (tapesOf c n j (seedsOf n j leaves)) (length-rows (rowBytes c) n made length-made)
-        (length-tapes c n j (seedsOf n j leaves))
+        hidden-same c n p l (tapes c n j leaf) (tapesOf c n j seeds) (length-rows (rowBytes c) n made length-made) (length-tapes c n j seeds)
         (λ i h m.
         row-tabulate (rowBytes c) n made (λ k b. length-made k) i h
-        ∙ (tape-same i h (same i h m) ∙ sym (tapes-row c n j (seedsOf n j leaves) i h)))
+        ∙ (tape-same i (same i h m) ∙ sym (tapes-row c n j seeds i h)))
 
 -- an instance that is not chosen
 module _ (c : Circuit) (n j : ℕ) (count : heightOf n ≡ 0 → ⊥) (master : List ℕ) (size : length master ≡ 16) where
-  -- its leaves
-  leaf-is : (i : ℕ) → i < n → honestLeaf n j master i ≡ rowOf (leavesBelow j (heightOf n) 1 master) 16 i
-  unfolding honestLeaf
-  leaf-is i h = sym (leaf-of-party j n i master (count-yes n count) size h)
+  -- its seeds
+  seeds-are : (i : ℕ) → i < n → Follows n j (honestLeaf n j master) (masterSeeds n j master) i
+  unfolding honestLeaf masterSeeds leavesOf
+  seeds-are i h =
+      seeds-row n j (leavesBelow j (heightOf n) 1 master) i h ∙ ap (seedRow j i) (leaf-of-party j n i master (count-yes n count) size h)
 
   -- h_j
   pub unchosen-hj : sha3-256 (commitmentsInput j (all n (honestCom c n j master))) ≡ masterCommitments c n j master
-  unfolding honestCom honestAux masterCommitments commitmentsDigest commitmentsOf masterCorrections masterTapes masterSeeds leavesOf
+  unfolding honestCom honestAux masterCommitments commitmentsDigest commitmentsOf masterCorrections masterTapes
   unchosen-hj =
-      let leaves : List ℕ = leavesBelow j (heightOf n) 1 master in
-      rw (tapes-same n j (honestLeaf n j master) leaves c leaf-is)
+      rw (tapes-same n j (honestLeaf n j master) (masterSeeds n j master) c seeds-are)
       (ap (λ (l : List (List ℕ)). sha3-256 (commitmentsInput j (flatten l)))
-      (tabulate-cong n _ _ (λ i h. com-same n j (honestLeaf n j master) leaves _ i h (leaf-is i h))))
+      (tabulate-cong n _ _ (λ i h. com-same n j (honestLeaf n j master) (masterSeeds n j master) _ i (seeds-are i h))))
 
 -- a chosen one, with p hidden, from its stretch
 module _ (c : Circuit) (n j p : ℕ) (count : heightOf n ≡ 0 → ⊥) (l : p < n) (part : List ℕ) (size : length part ≡ stretchBytes c n (hiding p)) where
@@ -105,25 +107,26 @@ module _ (c : Circuit) (n j p : ℕ) (count : heightOf n ≡ 0 → ⊥) (l : p <
   unfolding siblingsPart stretchBytes
   siblings-size = length-take-le (16 * heightOf n) part (omega arith)
 
-  -- the leaf of each party but p
-  opened-is : (i : ℕ) → i < n → i ≢ p → openedLeaf n j p sent i ≡ rowOf (openedBelow j (heightOf n) 1 p (siblingsPart n part)) 16 i
-  opened-is i h m = opened-leaf j n p i sent count siblings-size l h m
+  -- the seeds of each party but p
+  opened-are : (i : ℕ) → i < n → i ≢ p → Follows n j (openedLeaf n j p sent) (openedSeeds n j p part) i
+  unfolding openedSeeds
+  opened-are i h m = but-row n p j _ i h m ∙ ap (seedRow j i) (sym (opened-leaf j n p i sent count siblings-size l h m))
 
   -- h_j
   pub chosen-hj : sha3-256 (commitmentsInput j (all n (openedCom n j p sent))) ≡ commitmentsDigest j (openedCommitments c n j p part)
-  unfolding openedCom openedCommitments commitmentsDigest openedSeeds
+  unfolding openedCom openedCommitments commitmentsDigest
   chosen-hj =
       ap (λ (t : List (List ℕ)). sha3-256 (commitmentsInput j (flatten t)))
       (tabulate-cong n (openedCom n j p sent)
       (λ i. cond (eqb i p) (commitmentPart c n p part) (commitmentOf j n i (openedSeeds n j p part) (correctionsPart c n p part)))
       (λ i h.
       ⊎-elim (λ e. rw (eq-eqb i p e))
-      (λ m. rw (ne-eqb i p m) (com-same n j (openedLeaf n j p sent) (openedBelow j (heightOf n) 1 p (siblingsPart n part)) _ i h (opened-is i h m)))
+      (λ m. rw (ne-eqb i p m) (com-same n j (openedLeaf n j p sent) (openedSeeds n j p part) _ i (opened-are i h m)))
       (eq-or-ne i p)))
 
   -- the execution
   pub simulation-is : simulation c n j p sent ≡ openedRun c n j p part
-  unfolding simulation openedRun openedShowing openedSeeds
+  unfolding simulation openedRun openedShowing
   simulation-is =
       ap
       (λ (t : List ℕ).
@@ -133,7 +136,7 @@ module _ (c : Circuit) (n j p : ℕ) (count : heightOf n ≡ 0 → ⊥) (l : p <
         maskedInputs = maskedPart c n p part;
         row = rowPart c n p part;
       }))
-      (hidden-tapes n j (openedLeaf n j p sent) (openedBelow j (heightOf n) 1 p (siblingsPart n part)) c p l opened-is)
+      (hidden-tapes n j (openedLeaf n j p sent) (openedSeeds n j p part) c p l opened-are)
 
   -- h'_j
   pub chosen-h′j : sha3-256 (onlineInput j (maskedPart c n p part) (all n (msgs c n j p sent)))

@@ -7,24 +7,28 @@ use Prim.Native.Nat.{ℕ, suc, _+_, _-_, _*_, _≤_, _<_}
 use native.Mathlib.Omega.{arith}
 use native.Mathlib.Numerals.{add-one}
 use borrow.Author.Tests.{eq-eqb, ne-eqb}
-use borrow.Rule.Slice.PartMut.{midOf, putMid, mid-len}
+use borrow.Rule.Slice.PartMut.{putMid, mid-len, drop-put}
 use lib.Dec.{eqb}
 use lib.ListN.{length, take, drop, replicate, length-drop}
-use lib.Seq.{take-all}
+use lib.Seq.{take-all, take-at, drop-at, length-take-le}
 use Rattle.bits.specs.Bits.{oct, unusedZero}
-use Rattle.bits.proofs.Rows.{row-fits}
-use Rattle.bits.proofs.Tests.{and-true-left, and-true-right}
-use Rattle.bits.proofs.Copies.{part-cleared}
 use Rattle.parties.specs.Parties.{heightOf}
 use Rattle.circuit.specs.File.{circuitOf}
-use Rattle.plain.specs.Tapes.{andsOf, withRow}
+use Rattle.circuit.specs.declared.Sizes.{Sizes}
+use Rattle.planes.specs.Steps.{correctionsAt, rowsAt, seedsAt, heldEnd}
+use Rattle.planes.specs.declared.Layout.{Layout}
+use Rattle.walk.specs.Steps.{layoutOf}
+use Rattle.plain.specs.Tapes.{andsOf}
+use Rattle.packed.specs.Steps.{tapesHeld, correctionsHeld}
 use Rattle.mpc.specs.Steps.{Known}
-use Rattle.mpc.proofs.Opened.{sized, circuit-inputs, circuit-outputs, circuit-ands, circuit-row}
+use Rattle.mpc.proofs.Opened.{sized, circuit-inputs, circuit-outputs, circuit-ands}
 use Rattle.tree.specs.Tree.{openedBelow}
-use Rattle.instance.specs.Instance.{hiding, seedsOf, tapesOf}
+use Rattle.instance.specs.Instance.{hiding, seedsBut}
 use Rattle.instance.specs.Stretch.{correctionBytes, stretchBytes, siblingsPart, correctionsPart, commitmentPart, maskedPart, rowPart}
 use Rattle.instance.specs.Opened.{openedSeeds, openedShowing, stretchUnused}
-use Rattle.instance.specs.Steps.{Tree}
+use Rattle.instance.specs.Steps.{Tree, seedsHeld, tapesBut}
+use Rattle.instance.proofs.Tapes.{tapes-hidden}
+use Rattle.instance.proofs.Rooms.{part-kept, corrections-inside, corrections-size}
 
 -- the last party sends no corrections
 pub sent-none : (p n x : ℕ) → p + 1 ≡ n → 0 ≡ cond (eqb (suc p) n) 0 x
@@ -118,24 +122,6 @@ module _ (s : List ℕ) (i o g a : ℕ) (k : Known s (sized i o g a)) (n h p : �
         = e3 ∙ ap₂ unusedZero (ap₂ _+_ (sym ca) (sym co)) row-is in
         e5 ∙ ap₂ _&&_ f1 (e4 ∙ ap₂ _&&_ f2 f3)
 
-    -- where it holds, the masked inputs have no unused bits
-    pub masked-unused : stretchUnused (circuitOf s) n part (hiding p) ≡ true
-        → unusedZero i (take (16 * h + x + 32 + y - (16 * h + x + 32)) (drop (16 * h + x + 32) part)) ≡ true
-    unfolding stretchUnused
-    masked-unused e =
-        let c1 : Bool = unusedZero (andsOf (circuitOf s)) (correctionsPart (circuitOf s) n p part) in
-        let c2 : Bool = unusedZero (circuitOf s .inputs) (maskedPart (circuitOf s) n p part) in
-        let c3 : Bool = unusedZero (andsOf (circuitOf s) + length (circuitOf s .outputs)) (rowPart (circuitOf s) n p part) in
-        ap₂ unusedZero (sym (circuit-inputs s i o g a k)) masked-are ∙ and-true-left c2 c3 (and-true-right c1 (c2 && c3) e)
-
--- a row lies inside
-pub row-room : (n p len m t : ℕ) → p < n → len ≡ m → t ≡ n * m → p * len + len ≤ t
-row-room n p len m t l e f = omega (arith, row-fits n len p l, ap (λ (x : ℕ). n * x) e, f)
-
--- the tapes are few bytes
-pub row-few : (n p len i a : ℕ) → n ≤ 16 → p < n → len ≡ oct (i + 2 * a) → i ≤ 512 → a ≤ 4096 → p * len + len ≤ 65536
-row-few n p len i a f l e hi ha = omega (arith, row-fits 16 len p (omega (arith, f, l)), e)
-
 -- the length of a part
 pub part-length : (a u m t : ℕ) (s : List ℕ) → a + u ≤ length s → u ≡ m → t ≡ m → t ≡ length (take (a + u - a) (drop a s))
 part-length a u m t s h e f = f ∙ sym (mid-len a (a + u) s h ∙ omega (arith, e))
@@ -153,24 +139,21 @@ other-is : (p n : ℕ) (y x z : List ℕ) → (p + 1 ≡ n → ⊥) → y ≡ z 
 other-is p n y x z e q = rw (ne-eqb (suc p) n (λ t. e (add-one p ∙ t))) q
 
 -- the seeds that follow from a stretch
-pub seeds-opened : (n h j p : ℕ) → Tree n h → (part x : List ℕ) → x ≡ seedsOf n j (openedBelow j h 1 p (take (16 * h) part)) → x ≡ openedSeeds n j p part
+pub seeds-opened : (n h j p : ℕ) → Tree n h → (part x : List ℕ) → x ≡ seedsBut n p j (openedBelow j h 1 p (take (16 * h) part)) → x ≡ openedSeeds n j p part
 unfolding openedSeeds siblingsPart
-seeds-opened n h j p tree part x q = q ∙ ap (λ (y : ℕ). seedsOf n j (openedBelow j y 1 p (take (16 * y) part))) (tree .height)
+seeds-opened n h j p tree part x q = q ∙ ap (λ (y : ℕ). seedsBut n p j (openedBelow j y 1 p (take (16 * y) part))) (tree .height)
 
--- what is shown of it
+-- and the tapes, with row p hidden
+pub tapes-shown : (s : List ℕ) (n h j p : ℕ) → Tree n h → p < n → (part x : List ℕ)
+    → x ≡ tapesBut (circuitOf s) n p j (seedsBut n p j (openedBelow j h 1 p (take (16 * h) part))) → x ≡ openedShowing (circuitOf s) n j p part .tapes
+unfolding openedShowing
+tapes-shown s n h j p tree few part x q =
+    q ∙ ap (tapesBut (circuitOf s) n p j) (seeds-opened n h j p tree part _ refl) ∙ tapes-hidden (circuitOf s) n j (openedSeeds n j p part) p few
+
+-- the corrections of a stretch
 module _ (s : List ℕ) (i o g a : ℕ) (k : Known s (sized i o g a)) (n h j p : ℕ) (tree : Tree n h) (part : List ℕ)
     (size : length part ≡ stretchBytes (circuitOf s) n (hiding p)) where
-  -- the tapes, with row p hidden
-  pub tapes-shown : (len : ℕ) (seeds tapes z : List ℕ) → len ≡ oct (i + 2 * a) → p * len + len ≤ length tapes → seeds ≡ openedSeeds n j p part
-      → tapes ≡ tapesOf (circuitOf s) n j seeds → z ≡ replicate (length (midOf (p * len) (p * len + len - p * len) tapes)) 0
-      → putMid (p * len) (p * len + len - p * len) tapes z ≡ openedShowing (circuitOf s) n j p part .tapes
-  unfolding openedShowing withRow
-  tapes-shown len seeds tapes z e l f q t =
-      let all : List ℕ = tapesOf (circuitOf s) n j (openedSeeds n j p part) in
-      part-cleared all tapes z (p * len) len l (q ∙ ap (tapesOf (circuitOf s) n j) f) t
-      ∙ ap (λ (y : ℕ). take (p * y) all ++ replicate y 0 ++ drop (p * y + y) all) (e ∙ sym (circuit-row s i o g a k))
-
-  -- the corrections, all zero where they are the hidden party's
+  -- all zero where they are the hidden party's
   pub corrections-zero : (t : ℕ) (y : List ℕ) → p + 1 ≡ n → t ≡ oct a → y ≡ replicate t 0 → y ≡ openedShowing (circuitOf s) n j p part .corrections
   unfolding openedShowing
   corrections-zero t y e l q =
@@ -184,3 +167,35 @@ module _ (s : List ℕ) (i o g a : ℕ) (k : Known s (sized i o g a)) (n h j p :
   corrections-sent u y e l q =
       other-is p n y (replicate (oct (andsOf (circuitOf s))) 0) (correctionsPart (circuitOf s) n p part) e
       (q ∙ corrections-are s i o g a k n h p tree part size u (sent-all p n (oct a) u e l))
+
+-- the place of the corrections is filled with y, in the places that the code has
+module _ (z : Sizes) (n : ℕ) (l : Layout) (e : l ≡ layoutOf z) (m : List ℕ) (room : heldEnd (layoutOf z) n ≤ length m) (at rows : ℕ) (ea : at ≡ correctionsAt l)
+    (er : rows ≡ rowsAt l) (y : List ℕ) (fits : length y ≡ length (take (rows - at) (drop at m))) where
+  abbrev filled : List ℕ
+  filled = putMid at (rows - at) m y
+
+  inside : (at ≤ rows) × (rows ≤ length m)
+  inside = corrections-inside z n l e m room at rows ea er
+
+  short : length y ≡ rows - at
+  short = fits ∙ mid-len at rows m (inside .1)
+
+  -- what stands from the rows on is as it was
+  after : drop (rowsAt (layoutOf z)) filled ≡ drop (rowsAt (layoutOf z)) m
+  after =
+      let d : rows ≡ rowsAt (layoutOf z) = er ∙ ap rowsAt e in
+      ap (λ (k : ℕ). drop k filled) (sym d) ∙ drop-put at rows m y (inside .0) (inside .1) short ∙ ap (λ (k : ℕ). drop k m) d
+
+  pub filled-seeds : (x : List ℕ) → seedsHeld z n m ≡ x → seedsHeld z n filled ≡ x
+  filled-seeds x d = part-kept (rowsAt (layoutOf z)) (seedsAt (layoutOf z) n) (32 * n) m filled (omega arith) after ∙ d
+
+  pub filled-tapes : (x : List ℕ) → tapesHeld z n m ≡ x → tapesHeld z n filled ≡ x
+  filled-tapes x d = part-kept (rowsAt (layoutOf z)) (rowsAt (layoutOf z)) (n * oct (z .inputs + 2 * z .ands)) m filled (omega arith) after ∙ d
+
+  pub filled-corrections : correctionsHeld z filled ≡ y
+  filled-corrections =
+      let d : correctionsAt (layoutOf z) ≡ at = sym (ea ∙ ap correctionsAt e) in
+      let post : List ℕ = drop (rows - at) (drop at m) in
+      ap (λ (k : ℕ). take (oct (z .ands)) (drop k filled)) d
+      ∙ ap (take (oct (z .ands))) (drop-at (take at m) (y ++ post) at (length-take-le at m (omega (arith, inside))))
+      ∙ take-at y post (oct (z .ands)) (fits ∙ corrections-size z n l e m room at rows ea er)

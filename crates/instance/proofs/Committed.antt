@@ -28,13 +28,13 @@ use Rattle.hashing.proofs.Digests.{taken-more, taken-room, given-taken}
 use Rattle.instance.specs.Instance.{commitmentsDigest}
 
 -- a part of bytes is bytes
-bytes-take : (k : ℕ) (M : List ℕ) → Bytes M → Bytes (take k M)
+pub bytes-take : (k : ℕ) (M : List ℕ) → Bytes M → Bytes (take k M)
 bytes-take zero M h i = omega arith
 bytes-take (suc k) [] h i = omega arith
 bytes-take (suc k) (x ∷ M) h zero = h 0
 bytes-take (suc k) (x ∷ M) h (suc i) = bytes-take k M (λ j. h (suc j)) i
 
-bytes-drop : (k : ℕ) (M : List ℕ) → Bytes M → Bytes (drop k M)
+pub bytes-drop : (k : ℕ) (M : List ℕ) → Bytes M → Bytes (drop k M)
 bytes-drop k M h i = rw (getD-drop k M i 0) (h (k + i))
 
 -- either of two strings of bytes
@@ -82,7 +82,7 @@ module _ (j n i : ℕ) (seeds corrections : List ℕ) where
   commitment-length = length-sha3-256 _
 
 -- rows of bytes are bytes
-bytes-rows : (n : ℕ) (f : ℕ → List ℕ) → ((i : ℕ) → Bytes (f i)) → Bytes (flatten (tabulate n f))
+pub bytes-rows : (n : ℕ) (f : ℕ → List ℕ) → ((i : ℕ) → Bytes (f i)) → Bytes (flatten (tabulate n f))
 unfolding flatten
 bytes-rows zero f h k = omega arith
 bytes-rows (suc n) f h k = bytes-append (f 0) (flatten (tabulate n (λ i. f (suc i)))) (h 0) (bytes-rows n (λ i. f (suc i)) (λ i. h (suc i))) k

@@ -1,29 +1,36 @@
 -- The stretch of a chosen instance as it is written: its five parts, one after the other.
 -- Assumes nothing.
 use mathlib.Core.Path.{_≡_, refl, sym, ap, ap₂, _∙_}
-use mathlib.Core.Bool.{Bool, true, false, cond}
+use mathlib.Core.Bool.{Bool, true, false, cond, _&&_}
 use mathlib.Core.List.{List, [], _++_, append-nil, append-assoc}
 use Prim.Native.Nat.{ℕ, suc, _+_, _-_, _*_, _^_, _≤_, _<_}
 use native.Mathlib.Omega.{arith}
-use borrow.Rule.Slice.PartMut.{post-is, mid-len}
-use lib.Dec.{eqb}
-use lib.ListN.{length, take, drop, replicate, length-append, length-drop, drop-of-length-le}
-use lib.Seq.{take-at}
-use Rattle.bits.specs.Bits.{oct, unusedZero}
-use Rattle.keccak.proofs.Lengths.{length-sha3-256}
+use borrow.Rule.Slice.PartMut.{putMid, post-is, mid-len}
+use lib.Dec.{eqb, ltb}
+use lib.ListN.{length, take, drop, length-append, length-drop, drop-of-length-le}
+use lib.Seq.{take-at, drop-at, drop-drop}
+use Rattle.bits.specs.Bits.{tabulate, oct, pack}
 use Rattle.parties.specs.Parties.{heightOf}
 use Rattle.circuit.specs.File.{circuitOf}
-use Rattle.engine.specs.Steps.{packed}
-use Rattle.mpc.specs.Steps.{Known, Parties, worked}
-use Rattle.mpc.proofs.Opened.{sized, circuit-inputs, circuit-outputs, circuit-ands, ands-low}
+use Rattle.circuit.specs.declared.Sizes.{Sizes}
+use Rattle.planes.specs.Steps.{Room, correctionsAt, rowsAt, seedsAt, leavesAt, broadcastWord, tapeWords}
+use Rattle.planes.specs.declared.Layout.{Layout}
+use Rattle.walk.specs.Steps.{layoutOf}
+use Rattle.plain.specs.Run.{Transcript}
+use Rattle.plain.specs.Showing.{rowBits}
+use Rattle.packed.specs.Steps.{tapesHeld, correctionsHeld, broadcastBytes, sentBit, ranMemory}
+use Rattle.packed.proofs.Runs.{whole-row-ran}
+use Rattle.mpc.specs.Steps.{Known}
+use Rattle.mpc.proofs.Opened.{circuit-inputs, circuit-outputs, circuit-ands}
 use Rattle.party.specs.Derive.{commitmentOf}
 use Rattle.tree.specs.Tree.{siblingsBelow}
 use Rattle.instance.specs.Instance.{hiding, masterSeeds, masterTapes, masterCorrections, masterRun, masterMasked, sentCorrections, stretchOf}
 use Rattle.instance.specs.Stretch.{correctionBytes, stretchBytes}
-use Rattle.instance.specs.Steps.{Tree}
+use Rattle.instance.specs.Steps.{Tree, Lent, seedsHeld, heldBytes}
 use Rattle.instance.proofs.Trees.{tree-sizes}
+use Rattle.instance.proofs.Rooms.{lent-held}
+use Rattle.instance.proofs.Sent.{seeds-part, corrections-part, run-made}
 use Rattle.instance.proofs.Checks.{sent-few}
-use Rattle.instance.proofs.Sent.{row-made}
 
 -- x is written at a place
 module _ (at : ℕ) (x p : List ℕ) (l : at + length x ≤ length p) where
@@ -37,82 +44,146 @@ module _ (at : ℕ) (x p : List ℕ) (l : at + length x ≤ length p) where
 
 -- after a front
 put-front : (pre x p q : List ℕ) (at to : ℕ) → length pre ≡ at → take at p ≡ pre → to ≡ at + length x
-    → q ≡ take at p ++ x ++ drop (at + length x) p → (length (pre ++ x) ≡ to) × (take to q ≡ pre ++ x)
+    → q ≡ take at p ++ x ++ drop (at + length x) p → (length (pre ++ x) ≡ to) × ((take to q ≡ pre ++ x) × (q ≡ pre ++ x ++ drop to p))
 put-front pre x p q at to l t e y =
     let n : length (pre ++ x) ≡ to = length-append pre x ∙ omega (arith, l, e) in
-    (n, ap (take to) (y ∙ ap (λ (u : List ℕ). u ++ x ++ drop (at + length x) p) t) ∙ take-at (pre ++ x) (drop (at + length x) p) to n)
+    let d : q ≡ pre ++ x ++ drop (at + length x) p = y ∙ ap (λ (u : List ℕ). u ++ x ++ drop (at + length x) p) t in
+    (n, (ap (take to) d ∙ take-at (pre ++ x) (drop (at + length x) p) to n, d ∙ ap (λ (k : ℕ). pre ++ x ++ drop k p) (sym e)))
 
--- five parts
-pub five-parts : (first second third fourth k : ℕ) (p0 z1 x y v z5 p2 p3 p4 : List ℕ) → length z1 ≡ first → second ≡ first + length x
+-- what stands after it is as it was
+front-rest : (pre p : List ℕ) (to k : ℕ) → length pre ≡ to → to ≤ k → drop k (pre ++ drop to p) ≡ drop k p
+front-rest pre p to k l h =
+    let d : to + (k - to) ≡ k = omega arith in
+    ap (λ (i : ℕ). drop i (pre ++ drop to p)) (sym d) ∙ sym (drop-drop (k - to) to (pre ++ drop to p))
+    ∙ ap (drop (k - to)) (drop-at pre (drop to p) to l) ∙ drop-drop (k - to) to p ∙ ap (λ (i : ℕ). drop i p) d
+
+-- the three parts before the run's
+pub three-parts : (first second third : ℕ) (p0 z1 x y p2 p3 : List ℕ) → length z1 ≡ first → second ≡ first + length x
     → p2 ≡ take first (z1 ++ drop first p0) ++ x ++ drop (first + length x) (z1 ++ drop first p0) → third ≡ second + length y
-    → p3 ≡ take second p2 ++ y ++ drop (second + length y) p2 → fourth ≡ third + length v
-    → p4 ≡ take third p3 ++ v ++ drop (third + length v) p3 → length p4 ≤ fourth + k
-    → take fourth p4 ++ (z5 ++ drop k (drop fourth p4)) ≡ z1 ++ x ++ y ++ v ++ z5
-five-parts first second third fourth k p0 z1 x y v z5 p2 p3 p4 l1 e2 q2 e3 q3 e4 q4 l =
-    let f1 = take-at z1 (drop first p0) first l1 in
-    let f2 = put-front z1 x (z1 ++ drop first p0) p2 first second l1 f1 e2 q2 in
-    let f3 = put-front (z1 ++ x) y p2 p3 second third (f2 .0) (f2 .1) e3 q3 in
-    let f4 = put-front (z1 ++ x ++ y) v p3 p4 third fourth (f3 .0) (f3 .1) e4 q4 in
-    ap₂ (λ (u t : List ℕ). u ++ (z5 ++ t)) (f4 .1) (drop-of-length-le (drop fourth p4) {i = k} (omega (arith, length-drop fourth p4, l)))
-    ∙ ap (λ (t : List ℕ). z1 ++ x ++ y ++ v ++ t) (append-nil z5)
+    → p3 ≡ take second p2 ++ y ++ drop (second + length y) p2 → p3 ≡ z1 ++ x ++ y ++ drop third p0
+three-parts first second third p0 z1 x y p2 p3 l1 e2 q2 e3 q3 =
+    let p1 : List ℕ = z1 ++ drop first p0 in
+    let f2 = put-front z1 x (z1 ++ drop first p0) p2 first second l1 (take-at z1 (drop first p0) first l1) e2 q2 in
+    let f3 = put-front (z1 ++ x) y p2 p3 second third (f2 .0) (f2 .1 .0) e3 q3 in
+    f3 .1 .1
+    ∙ ap (λ (t : List ℕ). z1 ++ x ++ y ++ t)
+    (ap (drop third) (f2 .1 .1) ∙ front-rest (z1 ++ x) (z1 ++ drop first p0) second third (f2 .0) (omega (arith, e3))
+    ∙ front-rest z1 p0 first third l1 (omega (arith, e2, e3)))
 
--- the corrections that are sent
-sent-front : (b : Bool) (a v : ℕ) (x r : List ℕ) → length x ≡ a → v ≡ cond b 0 a → take v (x ++ r) ≡ cond b [] x
-sent-front true a v x r l e = rw e refl
-sent-front false a v x r l e = take-at x r v (l ∙ sym e)
+-- the two parts of the run after a front of b bytes
+two-parts : (third b fourth k : ℕ) (front p0 p1 v w : List ℕ) → third ≡ b → p1 ≡ front ++ drop b p0 → length p1 ≡ length p0 → third ≤ length p0
+    → fourth ≡ third + length v → length (take third p1 ++ (v ++ drop (fourth - third) (drop third p1))) ≤ fourth + k
+    → take fourth (take third p1 ++ (v ++ drop (fourth - third) (drop third p1)))
+    ++ (w ++ drop k (drop fourth (take third p1 ++ (v ++ drop (fourth - third) (drop third p1)))))
+    ≡ front ++ v ++ w
+two-parts third b fourth k front p0 p1 v w eb e l inside f h =
+    let rest : List ℕ = drop (fourth - third) (drop third p1) in
+    let p2 : List ℕ = take third p1 ++ (v ++ rest) in
+    let size : length front ≡ third = omega (arith, ap length e, length-append front (drop b p0), length-drop b p0, l, eb, inside) in
+    let a : take third p1 ≡ front = ap (take third) e ∙ take-at front (drop b p0) third size in
+    let c : take third p1 ++ (v ++ rest) ≡ front ++ v ++ rest = ap (λ (t : List ℕ). t ++ (v ++ rest)) a ∙ sym (append-assoc front v rest) in
+    let n : length (front ++ v) ≡ fourth = length-append front v ∙ omega (arith, size, f) in
+    ap₂ (λ (u t : List ℕ). u ++ (w ++ t)) (ap (take fourth) c ∙ take-at (front ++ v) rest fourth n)
+    (drop-of-length-le (drop fourth p2) {i = k} (omega (arith, length-drop fourth p2, h)))
+    ∙ ap (λ (t : List ℕ). front ++ v ++ t) (append-nil w)
 
--- a commitment has 32 bytes
-pub length-commitment : (j n p : ℕ) (rows corrections : List ℕ) → length (commitmentOf j n p rows corrections) ≡ 32
-unfolding commitmentOf
-length-commitment j n p rows corrections = length-sha3-256 _
+-- the corrections that are sent, of all that stand in the memory
+sent-front : (b : Bool) (a v c : ℕ) (x : List ℕ) → v ≡ cond b 0 a → take v (drop c x) ≡ cond b [] (take a (drop c x))
+sent-front true a v c x e = rw e refl
+sent-front false a v c x e = rw e refl
 
--- an instance with p hidden; v bytes of corrections are sent
-module _ (s : List ℕ) (i o g a n h p v : ℕ) (k : Known s (sized i o g a)) (tree : Tree n h) (few : p < n) (sent : v ≡ cond (eqb (suc p) n) 0 (oct a)) where
-  -- its stretch has as many bytes as its five parts
-  pub stretch-size : stretchBytes (circuitOf s) n (hiding p) ≡ 16 * h + v + 32 + oct i + oct (a + o)
-  unfolding stretchBytes correctionBytes
-  stretch-size =
-      let size : ℕ → ℕ → ℕ → ℕ → ℕ = λ x y t q. 16 * q + cond (eqb (suc p) n) 0 (oct x) + 32 + oct y + oct (x + t) in
-      ap₂ (λ (x y : ℕ). size x y (length (circuitOf s .outputs)) (heightOf n)) (circuit-ands s i o g a k) (circuit-inputs s i o g a k)
-      ∙ ap₂ (size a i) (circuit-outputs s i o g a k) (sym (tree .height))
-      ∙ ap (λ (x : ℕ). 16 * h + x + 32 + oct i + oct (a + o)) (sym sent)
+-- what the siblings ask
+pub siblings-asks : (n h p : ℕ) → Tree n h → p < n → ((1 + 1) * 2 ^ h ≤ 65536) × (p < 2 ^ h)
+siblings-asks n h p tree few =
+    let e : 2 ^ h ≡ n = ap (λ (t : ℕ). 2 ^ t) (tree .height) ∙ tree-sizes n h tree .leaves in
+    (omega (arith, e, tree-sizes n h tree .few), omega (arith, e, few))
 
-  pub sent-inside : v ≤ oct a
-  sent-inside = sent-few (eqb (suc p) n) v (oct a) sent
+-- v bytes of corrections are sent of a memory m
+module _ (z : Sizes) (n p v : ℕ) (m : List ℕ) (sent : v ≡ cond (eqb (suc p) n) 0 (oct (z .ands))) where
+  sent-part : (l : Layout) (at : ℕ) → l ≡ layoutOf z → at ≡ correctionsAt l → take (at + v - at) (drop at m) ≡ sentCorrections n p (correctionsHeld z m)
+  unfolding sentCorrections
+  sent-part l at e ea =
+      let d : at + v - at ≡ v = omega arith in
+      ap₂ (λ (x y : ℕ). take x (drop y m)) d (ea ∙ ap correctionsAt e)
+      ∙ sent-front (eqb (suc p) n) (oct (z .ands)) v (correctionsAt (layoutOf z)) m sent
 
-  -- what the siblings ask
-  pub siblings-asks : ((1 + 1) * 2 ^ h ≤ 65536) × (p < 2 ^ h)
-  siblings-asks =
-      let e : 2 ^ h ≡ n = ap (λ (t : ℕ). 2 ^ t) (tree .height) ∙ tree-sizes n h tree .leaves in
-      (omega (arith, e, tree-sizes n h tree .few), omega (arith, e, few))
+  -- what is written of it is as stated, in the places that the code has
+  pub held-laid : (h j third : ℕ) (l : Layout) (at rows a b : ℕ) (master p0 z1 y p3 : List ℕ) → l ≡ layoutOf z → at ≡ correctionsAt l → rows ≡ rowsAt l
+      → a ≡ seedsAt l n → b ≡ leavesAt l n → z1 ≡ siblingsBelow j h 1 p master
+      → y ≡ commitmentOf j n p (take (b - a) (drop a m)) (take (rows - at) (drop at m)) → third ≡ heldBytes z n h p
+      → p3 ≡ z1 ++ take (at + v - at) (drop at m) ++ y ++ drop third p0
+      → p3 ≡ siblingsBelow j h 1 p master ++ sentCorrections n p (correctionsHeld z m)
+      ++ commitmentOf j n p (seedsHeld z n m) (correctionsHeld z m) ++ drop (heldBytes z n h p) p0
+  held-laid h j third l at rows a b master p0 z1 y p3 e ea er eb ec e1 e2 e3 q =
+      q
+      ∙ ap₂ _++_
+      (ap₂ _++_ (ap₂ _++_ e1 (sent-part l at e ea))
+      (e2 ∙ ap₂ (commitmentOf j n p) (seeds-part z n l e m a b eb ec) (corrections-part z n l e m at rows ea er)))
+      (ap (λ (k : ℕ). drop k p0) e3)
 
-  -- what the broadcast row asks, of t bytes, in a work memory of z bytes
-  pub row-asks : (z t : ℕ) → 64 * (i + g) + 4096 ≤ z → t ≡ oct (a + o)
-      → (t ≤ 4096) × ((48 * (i + g) + p < 4294967296) × (48 * (i + g) + p + 16 * (a + o) ≤ z + 15))
-  row-asks z t l e =
-      let x = ands-low s i o g a k in
-      let y = k .legal .laid .few-outputs in
-      let f = tree-sizes n h tree .few in (
-        omega (arith, e, x, y, k .legal .laid .few-gates),
-        (omega (arith, f, few, k .legal .laid .few-inputs, k .legal .laid .few-gates), omega (arith, f, few, x, y, l)),
-      )
+-- the corrections that are sent are some of all
+pub sent-most : (z : Sizes) (n p v : ℕ) → v ≡ cond (eqb (suc p) n) 0 (oct (z .ands)) → v ≤ oct (z .ands)
+sent-most z n p v e = sent-few (eqb (suc p) n) v (oct (z .ands)) e
 
-  -- the stretch is as stated
-  module _ (j Z : ℕ) (w master : List ℕ) (parties : Parties n) (room : 64 * (i + g) + 4096 ≤ Z) (unused : unusedZero i w ≡ true) where
-    pub stretch-made : (sd co r m z1 x y u z5 part S C : List ℕ) (l : ℕ) → S ≡ sd → C ≡ co → sd ≡ masterSeeds n j master → co ≡ masterCorrections (circuitOf s) n j master
-        → length co ≡ oct a → m ≡ worked s (sized i o g a) n w (masterTapes (circuitOf s) n j master) (replicate Z 0)
-        → z1 ≡ siblingsBelow j h 1 p master → x ≡ take v (co ++ r) → y ≡ commitmentOf j n p S C → u ≡ masterMasked (circuitOf s) n j w master
-        → l ≡ oct (a + o) → z5 ≡ packed m (48 * (i + g) + p) (a + o) l → part ≡ z1 ++ x ++ y ++ u ++ z5
-        → part ≡ stretchOf (circuitOf s) n j w master (hiding p)
-    unfolding stretchOf sentCorrections masterRun
-    stretch-made sd co r m z1 x y u z5 part S C l eS eC esd eco lco em e1 e2 e3 e4 el e5 e =
-        e
-        ∙ ap₂ _++_
-        (ap₂ _++_
-        (ap₂ _++_
-        (ap₂ _++_ (e1 ∙ ap (λ (t : ℕ). siblingsBelow j t 1 p master) (tree .height))
-        (e2 ∙ sent-front (eqb (suc p) n) (oct a) v co r lco sent ∙ ap (λ (t : List ℕ). cond (eqb (suc p) n) [] t) eco))
-        (e3 ∙ ap₂ (commitmentOf j n p) (eS ∙ esd) (eC ∙ eco)))
-        e4)
-        (e5 ∙ ap₂ (λ (t : List ℕ) (q : ℕ). packed t (48 * (i + g) + p) (a + o) q) em el
-        ∙ row-made s i o g a n Z w (masterTapes (circuitOf s) n j master) k parties room unused p few)
+-- the bytes before the run's are few
+pub held-few : (z : Sizes) (n h p : ℕ) → heldBytes z n h p ≤ 16 * h + oct (z .ands) + 32
+held-few z n h p = omega (arith, sent-most z n p (cond (eqb (suc p) n) 0 (oct (z .ands))) refl)
+
+-- what the broadcast row asks, of t bytes
+pub row-asks : (z : Sizes) (l : Layout) (p t : ℕ) (m : List ℕ) → Room (layoutOf z) m → l ≡ layoutOf z → p < 16 → t ≡ broadcastBytes z
+    → Room l m × ((p < 64) × ((broadcastWord l (z .ands + z .outputs) ≤ tapeWords l) × (oct (z .ands + z .outputs) ≤ t)))
+row-asks z l p t m room e few et = rw e (room, (omega arith, (omega arith, omega (arith, et))))
+
+-- the stretch of a legal file's circuit has as many bytes as its five parts
+pub stretch-size : (s : List ℕ) (z : Sizes) (n h p : ℕ) → Known s z → Tree n h
+    → stretchBytes (circuitOf s) n (hiding p) ≡ heldBytes z n h p + oct (z .inputs) + broadcastBytes z
+unfolding stretchBytes correctionBytes
+stretch-size s z n h p k tree =
+    let size : ℕ → ℕ → ℕ → ℕ → ℕ = λ x y t q. 16 * q + cond (eqb (suc p) n) 0 (oct x) + 32 + oct y + oct (x + t) in
+    ap₂ (λ (x y : ℕ). size x y (length (circuitOf s .outputs)) (heightOf n)) (circuit-ands s (z .inputs) (z .outputs) (z .gates) (z .ands) k)
+    (circuit-inputs s (z .inputs) (z .outputs) (z .gates) (z .ands) k)
+    ∙ ap₂ (size (z .ands) (z .inputs)) (circuit-outputs s (z .inputs) (z .outputs) (z .gates) (z .ands) k) (sym (tree .height))
+
+-- the stretch is as stated: of a memory m that holds what a master gives
+module _ (s : List ℕ) (z : Sizes) (n h j p : ℕ) (few : p < n) (master m : List ℕ) (lent : Lent s z n h m) (w : List ℕ)
+    (es : seedsHeld z n m ≡ masterSeeds n j master) (et : tapesHeld z n m ≡ masterTapes (circuitOf s) n j master)
+    (ec : correctionsHeld z m ≡ masterCorrections (circuitOf s) n j master) where
+  -- the row of party p, which is t bytes
+  row-made : (l : Layout) (v x : List ℕ) (t : ℕ) → l ≡ layoutOf z → v ≡ ranMemory s z n w m → t ≡ broadcastBytes z
+      → x ≡ pack (tabulate (8 * t) (λ q. ltb q (z .ands + z .outputs) && sentBit l v p q)) → x ≡ pack (rowBits (masterRun (circuitOf s) n j w master) p)
+  row-made l v x t el ev e q =
+      q
+      ∙ ap₂ (λ (k : Layout) (y : List ℕ). pack (tabulate (8 * t) (λ q. ltb q (z .ands + z .outputs) && sentBit k y p q))) el ev
+      ∙ ap (λ (k : ℕ). pack (tabulate (8 * k) (λ q. ltb q (z .ands + z .outputs) && sentBit (layoutOf z) (ranMemory s z n w m) p q))) e
+      ∙ whole-row-ran s z n m (lent-held s z n h m lent) w p few
+      ∙ ap (λ (r : Transcript). pack (rowBits r p)) (run-made s z n h j master m lent w et ec)
+
+  stretch-made : (l : Layout) (v x r part : List ℕ) (t : ℕ) → l ≡ layoutOf z → v ≡ ranMemory s z n w m → t ≡ broadcastBytes z
+      → x ≡ masterMasked (circuitOf s) n j w master
+      → r ≡ pack (tabulate (8 * t) (λ q. ltb q (z .ands + z .outputs) && sentBit l v p q))
+      → part ≡ siblingsBelow j h 1 p master ++ sentCorrections n p (correctionsHeld z m)
+      ++ commitmentOf j n p (seedsHeld z n m) (correctionsHeld z m) ++ x ++ r → part ≡ stretchOf (circuitOf s) n j w master (hiding p)
+  unfolding stretchOf
+  stretch-made l v x r part t el ev e ex er q =
+      q
+      ∙ ap₂ _++_
+      (ap₂ _++_
+      (ap₂ _++_
+      (ap₂ _++_ (ap (λ (k : ℕ). siblingsBelow j k 1 p master) (lent .tree .height)) (ap (sentCorrections n p) ec))
+      (ap₂ (commitmentOf j n p) es ec))
+      ex)
+      (row-made l v r t el ev e er)
+
+  -- and so it is written after the parts that need no run
+  pub stretch-written : (l : Layout) (v x r p0 p1 : List ℕ) (third fourth k t : ℕ) → l ≡ layoutOf z → v ≡ ranMemory s z n w m → t ≡ broadcastBytes z
+      → x ≡ masterMasked (circuitOf s) n j w master
+      → r ≡ pack (tabulate (8 * t) (λ q. ltb q (z .ands + z .outputs) && sentBit l v p q)) → third ≡ heldBytes z n h p
+      → p1 ≡ siblingsBelow j h 1 p master ++ sentCorrections n p (correctionsHeld z m)
+      ++ commitmentOf j n p (seedsHeld z n m) (correctionsHeld z m) ++ drop (heldBytes z n h p) p0 → length p1 ≡ length p0 → third ≤ length p0
+      → fourth ≡ third + length x → length (putMid third (fourth - third) p1 x) ≤ fourth + k
+      → putMid fourth k (putMid third (fourth - third) p1 x) r ≡ stretchOf (circuitOf s) n j w master (hiding p)
+  stretch-written l v x r p0 p1 third fourth k t el ev e ex er e3 e1 l1 inside e4 h4 =
+      stretch-made l v x r _ t el ev e ex er
+      (two-parts third (heldBytes z n h p) fourth k
+      (siblingsBelow j h 1 p master ++ sentCorrections n p (correctionsHeld z m) ++ commitmentOf j n p (seedsHeld z n m) (correctionsHeld z m)) p0 p1 x r e3 e1 l1
+      inside e4 h4)

@@ -1,7 +1,9 @@
 pub mod Trees
+pub mod Written
 pub mod Seeded
 pub mod Tapes
 pub mod Committed
+pub mod Rooms
 pub mod Online
 pub mod Sent
 pub mod Laid

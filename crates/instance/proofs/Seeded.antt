@@ -1,107 +1,230 @@
--- Rows that are filled one after the other: seeds from leaves, tapes from seeds; and the leaves in the front of a buffer.
+-- Seeds from leaves and tapes from seeds, as rows in the memory: one turn of each loop, and what the memory then holds.
 -- Assumes nothing.
-use mathlib.Core.Path.{_≡_, sym, ap, ap₂, _∙_}
-use mathlib.Core.Bool.{true, false, cond}
-use mathlib.Core.List.{List, _++_, flatten}
-use Prim.Native.Nat.{ℕ, suc, _+_, _-_, _*_, _^_, _≤_, _<_}
+use mathlib.Core.Path.{_≡_, refl, sym, ap, ap₂, _∙_}
+use mathlib.Core.Bool.{cond}
+use mathlib.Core.List.{List, flatten}
+use Prim.Native.Nat.{ℕ, suc, _+_, _*_, _^_, _≤_, _<_}
 use native.Mathlib.Omega.{arith}
+use borrow.Author.Tests.{eq-eqb, ne-eqb}
 use lib.Dec.{eqb}
-use lib.ListN.{length, take, replicate, length-append, length-replicate}
-use lib.Seq.{length-take-le, take-all, take-at}
+use lib.ListN.{length, take, drop, replicate, length-replicate}
+use lib.Seq.{sets, length-sets, take-take}
 use Rattle.bits.specs.Bits.{tabulate, oct}
 use Rattle.bits.specs.Bytes.{rowOf}
-use Rattle.bits.proofs.Rows.{row-length}
+use Rattle.keccak.proofs.Lengths.{length-shake128}
 use Rattle.parties.specs.Parties.{heightOf}
-use Rattle.parties.proofs.Counts.{Sizes, sizes, count-no}
+use Rattle.circuit.specs.Circuit.{Circuit}
 use Rattle.circuit.specs.File.{circuitOf}
+use Rattle.circuit.specs.declared.Sizes.{Sizes}
 use Rattle.plain.specs.Tapes.{rowBytes, usedBits}
+use Rattle.planes.specs.Steps.{tapeWords, rowsAt, seedsAt, leavesAt}
+use Rattle.planes.specs.declared.Layout.{Layout}
+use Rattle.walk.specs.Steps.{layoutOf}
+use Rattle.packed.specs.Steps.{tapesHeld}
+use Rattle.packed.proofs.Runs.{room-planes, room-end}
 use Rattle.mpc.specs.Steps.{Known}
 use Rattle.mpc.proofs.Opened.{sized, circuit-inputs, circuit-ands, circuit-row}
 use Rattle.tree.specs.Tree.{leavesBelow}
 use Rattle.party.specs.Derive.{seedRow}
 use Rattle.party.specs.Derive as derive
-use Rattle.instance.specs.Instance.{leavesOf, seedsOf, masterSeeds, seedOf, tapesOf}
-use Rattle.instance.specs.Steps.{Tree}
-
--- all rows
-rows-end : (n i len : ℕ) (g : ℕ → List ℕ) (rows : List ℕ) → i ≡ n → length rows ≡ n * len → take (i * len) rows ≡ flatten (tabulate i g)
-    → rows ≡ flatten (tabulate n g)
-rows-end n i len g rows e l p =
-    sym (take-all (n * len) rows (omega (arith, l))) ∙ (ap (λ (k : ℕ). take (k * len) rows) (sym e) ∙ (p ∙ ap (λ (k : ℕ). flatten (tabulate k g)) e))
-
--- the seeds are these rows
-pub seeds-end : (n i j : ℕ) (leaves rows : List ℕ) → i ≡ n → length rows ≡ 32 * n
-    → take (i * 32) rows ≡ flatten (tabulate i (λ k. seedRow j k (rowOf leaves 16 k))) → rows ≡ seedsOf n j leaves
-unfolding seedsOf
-seeds-end n i j leaves rows e l p = rows-end n i 32 (λ k. seedRow j k (rowOf leaves 16 k)) rows e (l ∙ omega arith) p
-
--- a party's row of seeds has room for its seed
-pub seed-fits : (n i : ℕ) (seeds row : List ℕ) → i < n → length seeds ≡ 32 * n → row ≡ rowOf seeds 32 i → length (take 16 row) ≡ 16
-seed-fits n i seeds row h l e =
-    length-take-le 16 row (omega (arith, ap length e, row-length seeds 32 i (omega (arith, l, h))))
-
--- tapes of a legal file's circuit
-module _ (s : List ℕ) (i o g a : ℕ) (known : Known s (sized i o g a)) where
-  -- party k's tape
-  abbrev pub tapeAt : ℕ → ℕ → List ℕ → ℕ → List ℕ
-  tapeAt n j seeds k = derive.tapeRow j k (seedOf seeds k) (usedBits (circuitOf s) n k) (rowBytes (circuitOf s))
-
-  -- the bits it uses, by I and A
-  used-is : (n k : ℕ) → usedBits (circuitOf s) n k ≡ cond (eqb (suc k) n) (i + a) (i + 2 * a)
-  unfolding usedBits
-  used-is n k =
-      ap₂ (λ (x y : ℕ). cond (eqb (suc k) n) (x + y) (x + 2 * y)) (circuit-inputs s i o g a known) (circuit-ands s i o g a known)
-
-  pub tape-made : (n j k used len size : ℕ) (seeds row z : List ℕ) → len ≡ oct (i + 2 * a) → row ≡ rowOf seeds 32 k
-      → used ≡ cond (eqb (suc k) n) (i + a) (i + 2 * a) → size ≡ len → z ≡ derive.tapeRow j k (take 16 row) used size → z ≡ tapeAt n j seeds k
-  tape-made n j k used len size seeds row z m r u q e =
-      e ∙ (ap (λ (t : List ℕ). derive.tapeRow j k (take 16 t) used size) r
-      ∙ ap₂ (derive.tapeRow j k (seedOf seeds k)) (u ∙ sym (used-is n k)) (q ∙ (m ∙ sym (circuit-row s i o g a known))))
-
-  -- the tapes are these rows
-  pub tapes-end : (n k j len : ℕ) (seeds rows : List ℕ) → k ≡ n → len ≡ oct (i + 2 * a) → length rows ≡ n * oct (i + 2 * a)
-      → take (k * len) rows ≡ flatten (tabulate k (tapeAt n j seeds)) → rows ≡ tapesOf (circuitOf s) n j seeds
-  unfolding tapesOf
-  tapes-end n k j len seeds rows e m l p = rows-end n k len (tapeAt n j seeds) rows e (l ∙ ap (λ (x : ℕ). n * x) (sym m)) p
+use Rattle.party.proofs.Clearing.{length-tape}
+use Rattle.instance.specs.Instance.{leavesOf, seedsOf, seedsBut, masterSeeds, masterTapes, seedOf, tapesOf}
+use Rattle.instance.specs.Steps.{Tree, Lent, seedsHeld, tapesBut}
+use Rattle.instance.proofs.Trees.{tree-sizes}
+use Rattle.instance.proofs.Written.{sets-after, sets-here, row-read, rows-length, row-kept, either-length}
 
 -- the sizes of a tree of height h
 module _ (n h : ℕ) (tree : Tree n h) where
-  tree-sizes : Sizes n
-  tree-sizes = sizes n (λ q. let f : false ≡ true = sym (count-no n q) ∙ tree .parties in let z : _≡_ {A = ℕ} 0 1 = cc in omega arith)
-
   pub tree-few : n ≤ 16
-  tree-few = tree-sizes .few
+  tree-few = tree-sizes n h tree .few
 
   pub tree-leaves : 2 ^ h ≡ n
-  tree-leaves = ap (λ (k : ℕ). 2 ^ k) (tree .height) ∙ tree-sizes .leaves
-
-  -- the front of a buffer of 256 bytes, for the leaves
-  pub front : length (take (16 * n) (replicate {A = ℕ} 256 0)) ≡ 16 * n
-  front = length-take-le (16 * n) (replicate 256 0) (omega (arith, tree-few, length-replicate {A = ℕ} 256 0))
-
-  pub front-leaves : length (take (16 * n) (replicate {A = ℕ} 256 0)) ≡ 16 * 2 ^ h
-  front-leaves = front ∙ ap (λ (k : ℕ). 16 * k) (sym tree-leaves)
+  tree-leaves = ap (λ (k : ℕ). 2 ^ k) (tree .height) ∙ tree-sizes n h tree .leaves
 
   -- nodes are numbered in two bytes
   pub tree-small : (1 + 1) * 2 ^ h ≤ 65536
   tree-small = omega (arith, tree-few, tree-leaves)
 
--- the leaves z, written in front of the rest of a buffer
-module _ (n : ℕ) (z rest : List ℕ) (l : length z ≡ 16 * n) where
-  pub written-fits : 16 * n ≤ length (z ++ rest)
-  written-fits = omega (arith, l, length-append z rest)
+-- the seeds of all parties but p
+module _ (p j : ℕ) (leaves : List ℕ) where
+  -- party i's
+  abbrev pub seedBut : ℕ → List ℕ
+  seedBut i = cond (eqb i p) (replicate 32 0) (seedRow j i (rowOf leaves 16 i))
 
-  written : take (16 * n) (z ++ rest) ≡ z
-  written = take-at z rest (16 * n) l
+  pub seed-size : (i : ℕ) → length (seedBut i) ≡ 32
+  unfolding seedRow
+  seed-size i = either-length (eqb i p) (replicate 32 0) (seedRow j i (rowOf leaves 16 i)) 32 (length-replicate {A = ℕ} 32 0) (length-shake128 _ 32)
 
-  pub written-length : length (take (16 * n) (z ++ rest)) ≡ 16 * n
-  written-length = ap length written ∙ l
+  pub seed-zero : (i k : ℕ) (z : List ℕ) → i ≡ p → k ≡ 32 → z ≡ replicate k 0 → z ≡ seedBut i
+  seed-zero i k z e q h = h ∙ ap (λ (x : ℕ). replicate x 0) q ∙ rw (eq-eqb i p e) refl
 
-  -- the seeds from them
-  pub seeds-made : (j : ℕ) (leaves w : List ℕ) → z ≡ leaves → w ≡ seedsOf n j (take (16 * n) (z ++ rest)) → w ≡ seedsOf n j leaves
-  seeds-made j leaves w e q = q ∙ ap (seedsOf n j) (written ∙ e)
+  pub seed-derived : (i : ℕ) (leaf z : List ℕ) → (i ≡ p → ⊥) → leaf ≡ rowOf leaves 16 i → z ≡ seedRow j i leaf → z ≡ seedBut i
+  seed-derived i leaf z e q h = h ∙ ap (seedRow j i) q ∙ rw (ne-eqb i p e) refl
 
--- a master's leaves give its seeds
-pub master-made : (n j h : ℕ) (master w : List ℕ) → h ≡ heightOf n → w ≡ seedsOf n j (leavesBelow j h 1 master) → w ≡ masterSeeds n j master
-unfolding masterSeeds leavesOf
-master-made n j h master w e q = q ∙ ap (λ (k : ℕ). seedsOf n j (leavesBelow j k 1 master)) e
+  seeds-size : (n : ℕ) → length (seedsBut n p j leaves) ≡ 32 * n
+  unfolding seedsBut
+  seeds-size n = omega (arith, rows-length 32 seedBut seed-size n)
+
+  -- all rows
+  pub seeds-end : (n i to : ℕ) (m w : List ℕ) → i ≡ n → w ≡ sets m to (flatten (tabulate i seedBut)) → w ≡ sets m to (seedsBut n p j leaves)
+  unfolding seedsBut
+  seeds-end n i to m w e h = h ∙ ap (λ (k : ℕ). sets m to (flatten (tabulate k seedBut))) e
+
+-- leaf i, which stands in the memory after the seeds
+pub leaf-read : (n p j i a to : ℕ) (m w leaf : List ℕ) → i < n → a + 16 * n ≤ length m → to + 32 * n ≤ a
+    → w ≡ sets m to (flatten (tabulate i (seedBut p j (take (16 * n) (drop a m))))) → leaf ≡ take 16 (drop (a + 16 * i) w)
+    → leaf ≡ rowOf (take (16 * n) (drop a m)) 16 i
+leaf-read n p j i a to m w leaf h l q e d =
+    let leaves : List ℕ = take (16 * n) (drop a m) in
+    let x : a + 16 * i ≡ a + i * 16 = omega arith in
+    let y : n * 16 ≡ 16 * n = omega arith in
+    d ∙ ap (λ (k : ℕ). take 16 (drop k w)) x
+    ∙ row-read 16 n i a to m (flatten (tabulate i (seedBut p j leaves))) w h (omega arith) (omega (arith, rows-length 32 (seedBut p j leaves) (seed-size p j leaves) i)) e
+    ∙ ap (λ (k : ℕ). rowOf (take k (drop a m)) 16 i) y
+
+-- the tapes of all parties but p
+module _ (c : Circuit) (n p j : ℕ) (seeds : List ℕ) where
+  -- party i's
+  abbrev pub tapeBut : ℕ → List ℕ
+  tapeBut i = cond (eqb i p) (replicate (rowBytes c) 0) (derive.tapeRow j i (seedOf seeds i) (usedBits c n i) (rowBytes c))
+
+  pub tape-size : (len : ℕ) → len ≡ rowBytes c → (i : ℕ) → length (tapeBut i) ≡ len
+  tape-size len e i =
+      either-length (eqb i p) (replicate (rowBytes c) 0) (derive.tapeRow j i (seedOf seeds i) (usedBits c n i) (rowBytes c)) len
+      (length-replicate {A = ℕ} (rowBytes c) 0 ∙ sym e) (length-tape j i (seedOf seeds i) (usedBits c n i) (rowBytes c) ∙ sym e)
+
+  pub tape-zero : (i k : ℕ) (z : List ℕ) → i ≡ p → k ≡ rowBytes c → z ≡ replicate k 0 → z ≡ tapeBut i
+  tape-zero i k z e q h = h ∙ ap (λ (x : ℕ). replicate x 0) q ∙ rw (eq-eqb i p e) refl
+
+  pub tape-derived : (i used k : ℕ) (seed z : List ℕ) → (i ≡ p → ⊥) → seed ≡ seedOf seeds i → used ≡ usedBits c n i → k ≡ rowBytes c
+      → z ≡ derive.tapeRow j i seed used k → z ≡ tapeBut i
+  tape-derived i used k seed z e q u v h =
+      h ∙ ap (λ (x : List ℕ). derive.tapeRow j i x used k) q ∙ ap₂ (derive.tapeRow j i (seedOf seeds i)) u v ∙ rw (ne-eqb i p e) refl
+
+  tapes-size : length (tapesBut c n p j seeds) ≡ n * rowBytes c
+  unfolding tapesBut
+  tapes-size = rows-length (rowBytes c) tapeBut (tape-size (rowBytes c) refl) n
+
+  -- all rows
+  pub tapes-end : (i to : ℕ) (m w : List ℕ) → i ≡ n → w ≡ sets m to (flatten (tabulate i tapeBut)) → w ≡ sets m to (tapesBut c n p j seeds)
+  unfolding tapesBut
+  tapes-end i to m w e h = h ∙ ap (λ (k : ℕ). sets m to (flatten (tabulate k tapeBut))) e
+
+-- seed i, which stands in the memory after the tapes
+pub seed-read : (c : Circuit) (n p j i a to len : ℕ) (m w seed : List ℕ) → len ≡ rowBytes c → i < n → a + 32 * n ≤ length m → to + i * len ≤ a
+    → w ≡ sets m to (flatten (tabulate i (tapeBut c n p j (take (32 * n) (drop a m))))) → seed ≡ take 16 (drop (a + 32 * i) w)
+    → seed ≡ seedOf (take (32 * n) (drop a m)) i
+seed-read c n p j i a to len m w seed v h l q e d =
+    let seeds : List ℕ = take (32 * n) (drop a m) in
+    let x : a + 32 * i ≡ a + i * 32 = omega arith in
+    let y : n * 32 ≡ 32 * n = omega arith in
+    d ∙ ap (λ (k : ℕ). take 16 (drop k w)) x ∙ sym (take-take 16 32 (drop (a + i * 32) w) (omega arith))
+    ∙ ap (take 16)
+    (row-read 32 n i a to m (flatten (tabulate i (tapeBut c n p j seeds))) w h (omega arith) (omega (arith, rows-length len (tapeBut c n p j seeds) (tape-size c n p j seeds len v) i)) e
+    ∙ ap (λ (k : ℕ). rowOf (take k (drop a m)) 32 i) y)
+
+-- the bits that party k uses, by I and A
+pub used-is : (s : List ℕ) (i o g a : ℕ) → Known s (sized i o g a) → (n k used : ℕ) → used ≡ cond (eqb (suc k) n) (i + a) (i + 2 * a)
+    → used ≡ usedBits (circuitOf s) n k
+unfolding usedBits
+used-is s i o g a known n k used e =
+    e ∙ sym (ap₂ (λ (x y : ℕ). cond (eqb (suc k) n) (x + y) (x + 2 * y)) (circuit-inputs s i o g a known) (circuit-ands s i o g a known))
+
+-- leaves, seeds and tapes are written one after the other, each before what it is made of
+module _ (c : Circuit) (n p j leaves seeds rows : ℕ) (m m₁ m₂ m₃ L : List ℕ) (size : length L ≡ 16 * n) (fits : leaves + 16 * n ≤ length m)
+    (low : seeds + 32 * n ≤ leaves) (below : rows + n * rowBytes c ≤ seeds) (e₁ : m₁ ≡ sets m leaves L)
+    (e₂ : m₂ ≡ sets m₁ seeds (seedsBut n p j (take (16 * n) (drop leaves m₁))))
+    (e₃ : m₃ ≡ sets m₂ rows (tapesBut c n p j (take (32 * n) (drop seeds m₂)))) where
+  abbrev S : List ℕ
+  S = seedsBut n p j L
+
+  seeds-written : take (32 * n) (drop seeds m₂) ≡ S
+  seeds-written =
+      let l : take (16 * n) (drop leaves m₁) ≡ L
+      = ap (λ (t : List ℕ). take (16 * n) (drop leaves t)) e₁ ∙ sets-here m leaves (16 * n) L size fits in
+      ap (λ (t : List ℕ). take (32 * n) (drop seeds t)) (e₂ ∙ ap (λ (t : List ℕ). sets m₁ seeds (seedsBut n p j t)) l)
+      ∙ sets-here m₁ seeds (32 * n) S (seeds-size p j L n) (omega (arith, ap length e₁, length-sets m leaves L))
+
+  abbrev T : List ℕ
+  T = tapesBut c n p j S
+
+  e₄ : m₃ ≡ sets m₂ rows T
+  e₄ = e₃ ∙ ap (λ (t : List ℕ). sets m₂ rows (tapesBut c n p j t)) seeds-written
+
+  length₂ : length m₂ ≡ length m
+  length₂ =
+      ap length e₂ ∙ length-sets m₁ seeds (seedsBut n p j (take (16 * n) (drop leaves m₁))) ∙ ap length e₁ ∙ length-sets m leaves L
+
+  pub seeds-held : take (32 * n) (drop seeds m₃) ≡ S
+  seeds-held =
+      ap (take (32 * n)) (ap (drop seeds) e₄ ∙ sets-after m₂ rows T seeds (omega (arith, tapes-size c n p j S))) ∙ seeds-written
+
+  pub tapes-held : take (n * rowBytes c) (drop rows m₃) ≡ T
+  tapes-held =
+      ap (λ (t : List ℕ). take (n * rowBytes c) (drop rows t)) e₄
+      ∙ sets-here m₂ rows (n * rowBytes c) T (tapes-size c n p j S) (omega (arith, length₂))
+
+-- no party is left out
+pub seeds-all : (n j : ℕ) (leaves : List ℕ) → seedsBut n n j leaves ≡ seedsOf n j leaves
+unfolding seedsBut seedsOf
+seeds-all n j leaves = row-kept n (λ i. seedRow j i (rowOf leaves 16 i)) (replicate 32 0)
+
+pub tapes-all : (c : Circuit) (n j : ℕ) (seeds : List ℕ) → tapesBut c n n j seeds ≡ tapesOf c n j seeds
+unfolding tapesBut tapesOf
+tapes-all c n j seeds = row-kept n (λ i. derive.tapeRow j i (seedOf seeds i) (usedBits c n i) (rowBytes c)) (replicate (rowBytes c) 0)
+
+-- a master's leaves give its seeds and its tapes
+module _ (n j h : ℕ) (master L : List ℕ) (e : h ≡ heightOf n) (d : L ≡ leavesBelow j h 1 master) where
+  pub master-seeds : seedsBut n n j L ≡ masterSeeds n j master
+  unfolding masterSeeds leavesOf
+  master-seeds = seeds-all n j L ∙ ap (seedsOf n j) (d ∙ ap (λ (k : ℕ). leavesBelow j k 1 master) e)
+
+  pub master-tapes : (c : Circuit) → tapesBut c n n j (seedsBut n n j L) ≡ masterTapes c n j master
+  unfolding masterTapes
+  master-tapes c = tapes-all c n j (seedsBut n n j L) ∙ ap (tapesOf c n j) master-seeds
+
+-- the places in a memory that is lent, by the layout l
+module _ (s : List ℕ) (z : Sizes) (n h : ℕ) (m : List ℕ) (lent : Lent s z n h m) (l : Layout) (e : l ≡ layoutOf z) where
+  few : n ≤ 16
+  few = tree-few n h (lent .tree)
+
+  some : 1 ≤ n
+  some = omega (arith, tree-sizes n h (lent .tree) .some)
+
+  -- what the places ask
+  pub places-room : (l .wires ≤ 1048576) × ((tapeWords l ≤ 4194304) × (n ≤ 64))
+  places-room =
+      let r = room-planes s z (lent .known .legal) (lent .known .ands) n m some few (lent .room) in
+      rw e (r .few-wires, (r .few-words, omega (arith, few)))
+
+  -- leaves, seeds and tapes fit
+  pub leaves-fit : (leaves : ℕ) → leaves ≡ leavesAt l n → leaves + 16 * n ≤ length m
+  leaves-fit leaves el =
+      omega (arith, el ∙ ap (λ (x : Layout). leavesAt x n) e, room-end s z (lent .known .legal) (lent .known .ands) n m some few (lent .room))
+
+  module _ (leaves seeds rows : ℕ) (el : leaves ≡ leavesAt l n) (es : seeds ≡ seedsAt l n) (er : rows ≡ rowsAt l) where
+    pub seeds-fit : seeds + 32 * n ≤ leaves
+    seeds-fit = omega (arith, el, es)
+
+    pub tapes-fit : rows + n * oct (z .inputs + 2 * z .ands) ≤ seeds
+    tapes-fit = omega (arith, er ∙ ap (λ (x : Layout). rowsAt x) e, es ∙ ap (λ (x : Layout). seedsAt x n) e)
+
+    -- what is held when they are written
+    module _ (p j : ℕ) (m₁ m₂ m₃ L : List ℕ) (size : length L ≡ 16 * n) (e₁ : m₁ ≡ sets m leaves L)
+        (e₂ : m₂ ≡ sets m₁ seeds (seedsBut n p j (take (16 * n) (drop leaves m₁))))
+        (e₃ : m₃ ≡ sets m₂ rows (tapesBut (circuitOf s) n p j (take (32 * n) (drop seeds m₂)))) where
+      row : rowBytes (circuitOf s) ≡ oct (z .inputs + 2 * z .ands)
+      row = circuit-row s (z .inputs) (z .outputs) (z .gates) (z .ands) (lent .known)
+
+      below : rows + n * rowBytes (circuitOf s) ≤ seeds
+      below = omega (arith, tapes-fit, ap (λ (x : ℕ). n * x) row)
+
+      pub seeds-are : seedsHeld z n m₃ ≡ seedsBut n p j L
+      seeds-are =
+          ap (λ (x : ℕ). take (32 * n) (drop x m₃)) (sym (es ∙ ap (λ (x : Layout). seedsAt x n) e))
+          ∙ seeds-held (circuitOf s) n p j leaves seeds rows m m₁ m₂ m₃ L size (leaves-fit leaves el) seeds-fit below e₁ e₂ e₃
+
+      pub tapes-are : tapesHeld z n m₃ ≡ tapesBut (circuitOf s) n p j (seedsBut n p j L)
+      tapes-are =
+          ap₂ (λ (x y : ℕ). take (n * x) (drop y m₃)) (sym row) (sym (er ∙ ap (λ (x : Layout). rowsAt x) e))
+          ∙ tapes-held (circuitOf s) n p j leaves seeds rows m m₁ m₂ m₃ L size (leaves-fit leaves el) seeds-fit below e₁ e₂ e₃

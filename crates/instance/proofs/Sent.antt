@@ -1,96 +1,143 @@
--- What an instance's digests and stretch are made of: seeds, corrections and rows as the steps leave them; the stretch, part by part.
+-- What an instance's digests and stretch are made of: seeds, tapes and corrections in the work memory, and the run on them.
 -- Assumes nothing.
-use mathlib.Core.Path.{_≡_, refl, sym, ap, ap₂, _∙_}
-use mathlib.Core.Bool.{true, cond}
+use mathlib.Core.Path.{_≡_, sym, ap, ap₂, _∙_}
+use mathlib.Core.Bool.{Bool, false, cond}
 use mathlib.Core.List.{List, _++_, flatten}
-use Prim.Native.Nat.{ℕ, _+_, _*_, _≤_, _<_}
+use Prim.Native.Nat.{ℕ, _+_, _-_, _*_, _≤_}
 use native.Mathlib.Omega.{arith}
 use borrow.Author.Tests.{ne-eqb}
 use lib.Dec.{eqb}
-use lib.ListN.{length, take, drop, replicate, length-replicate}
-use lib.Seq.{length-take-le, take-at, length-front}
-use Rattle.bits.specs.Bits.{tabulate, oct, pack, unusedZero}
-use Rattle.bits.proofs.Tabulate.{tabulate-cong}
+use lib.ListN.{length, getD, take, drop, replicate, length-replicate}
+use lib.Seq.{sets, length-take-le, take-at, length-front}
+use Rattle.bits.specs.Bits.{tabulate, oct, pack, bitAt}
 use Rattle.bits.proofs.Copies.{prefix-length}
+use Rattle.bits.proofs.Packing.{bitAt-pack}
+use Rattle.bits.proofs.Tabulate.{tabulate-cong}
 use Rattle.circuit.specs.File.{circuitOf}
-use Rattle.engine.specs.Steps.{Room, packed, packedRows}
+use Rattle.circuit.specs.declared.Sizes.{Sizes}
+use Rattle.masks.specs.Steps.{rowsFrom, worked, correctionsOf}
+use Rattle.masks.proofs.Kept.{left-after, left-corrections}
+use Rattle.packing.proofs.Prepared.{corrections-prepared}
+use Rattle.planes.specs.Steps.{correctionsAt, rowsAt, seedsAt, leavesAt}
+use Rattle.planes.specs.declared.Layout.{Layout}
+use Rattle.walk.specs.Steps.{layoutOf}
 use Rattle.plain.specs.Showing as shown
-use Rattle.plain.specs.Showing.{correctionBits, honestRun, rowBits}
-use Rattle.mpc.specs.Steps.{Known, Parties, Begun, worked}
-use Rattle.plain.proofs.Lengths.{first-all, length-honest}
-use Rattle.mpc.proofs.Worked.{worked-corrections, worked-row, worked-rows}
-use Rattle.mpc.proofs.Opened.{sized, begun, circuit-outputs, circuit-ands, ands-low, room}
-use Rattle.mpc.proofs.Asks.{ands-few}
+use Rattle.plain.specs.Showing.{correctionBits, runOn, honestRun, rowsOf}
+use Rattle.packed.specs.Steps.{tapesHeld, correctionsHeld, broadcastBytes, rowsSent, ranMemory}
+use Rattle.packed.proofs.Runs.{rows-ran}
+use Rattle.mpc.specs.Steps.{Known}
 use Rattle.party.specs.Derive.{commitmentOf}
 use Rattle.instance.specs.Instance.{tapesOf, commitmentsDigest, onlineDigest, commitmentsOf, masterSeeds, masterTapes, masterCorrections, masterCommitments, masterRun, masterMasked, masterOnline}
-use Rattle.instance.specs.Steps.{Tree}
-use Rattle.instance.proofs.Trees.{tree-sizes}
+use Rattle.instance.specs.Steps.{Lent, seedsHeld}
+use Rattle.instance.proofs.Trees.{tree-parties}
+use Rattle.instance.proofs.Tapes.{tapes-unused}
+use Rattle.instance.proofs.Rooms.{part-kept, lent-masks, lent-held}
 
--- the work memory of Z bytes after the run
-module _ (s : List ℕ) (i o g a n Z : ℕ) (w tapes : List ℕ) (k : Known s (sized i o g a)) (parties : Parties n) (room : 64 * (i + g) + 4096 ≤ Z)
-    (unused : unusedZero i w ≡ true) where
-  -- it was clear
-  begins : Begun (sized i o g a) n (replicate Z 0)
-  begins = begun (sized i o g a) n Z (replicate Z 0) parties refl room
+-- the corrections are made in a memory m that holds an instance's seeds and tapes, in the places that the code has
+module _ (s : List ℕ) (z : Sizes) (n h : ℕ) (m : List ℕ) (lent : Lent s z n h m) (l : Layout) (e : l ≡ layoutOf z) (rows at : ℕ) (er : rows ≡ rowsAt l)
+    (ea : at ≡ correctionsAt l) (w : List ℕ)
+    (q : w ≡ sets (worked s z n (rowsFrom z n rows m) m) at (correctionsOf s z n (rowsFrom z n rows m))) where
+  here : rows ≡ rowsAt (layoutOf z)
+  here = er ∙ ap rowsAt e
 
-  -- what is left
-  abbrev left : List ℕ
-  left = worked s (sized i o g a) n w tapes (replicate Z 0)
+  there : at ≡ correctionsAt (layoutOf z)
+  there = ea ∙ ap correctionsAt e
 
-  -- a broadcast row of it
-  pub row-made : (p : ℕ) → p < n → packed left (48 * (i + g) + p) (a + o) (oct (a + o)) ≡ pack (rowBits (honestRun (circuitOf s) n w tapes) p)
-  row-made p l =
-      worked-row s i o g a n tapes (replicate Z 0) k begins w unused p (a + o) l (omega arith)
-      ∙ ap pack
-      (first-all (a + o) (rowBits (honestRun (circuitOf s) n w tapes) p)
-      (length-honest (circuitOf s) n p w tapes ∙ ap₂ (λ (x y : ℕ). x + y) (circuit-ands s i o g a k) (circuit-outputs s i o g a k)))
+  -- what stands from the rows on is as it was
+  after : drop (rowsAt (layoutOf z)) w ≡ drop (rowsAt (layoutOf z)) m
+  after =
+      let d : at + oct (z .ands) ≡ rowsAt (layoutOf z) = omega (arith, there) in
+      ap₂ drop (sym d) q ∙ left-after s z n rows at m (lent-masks s z n h m lent l e rows at er ea) ∙ ap (λ (k : ℕ). drop k m) d
 
-  -- what an instance leaves: seeds sd, tapes, masked inputs mk, memory m, corrections x
-  pub instance-made : (j : ℕ) (master sd mk m x : List ℕ) (l : ℕ) → sd ≡ masterSeeds n j master → tapes ≡ tapesOf (circuitOf s) n j sd
-      → mk ≡ shown.maskedInputs (circuitOf s) n w tapes → m ≡ left → l ≡ oct a → x ≡ packed m (16 * (i + g) + 1) a l
-      → (sd ≡ masterSeeds n j master) × ((x ≡ masterCorrections (circuitOf s) n j master) × ((mk ≡ masterMasked (circuitOf s) n j w master) × ((tapes ≡ masterTapes (circuitOf s) n j master) × (m ≡ worked s (sized i o g a) n w (masterTapes (circuitOf s) n j master) (replicate Z 0)))))
-  unfolding masterTapes masterCorrections masterMasked
-  instance-made j master sd mk m x l e1 e2 e3 e4 e5 e6 =
-      let t : tapes ≡ tapesOf (circuitOf s) n j (masterSeeds n j master) = e2 ∙ ap (tapesOf (circuitOf s) n j) e1 in (
-        e1,
-        (
-          e6 ∙ ap₂ (λ (y : List ℕ) (q : ℕ). packed y (16 * (i + g) + 1) a q) e4 e5 ∙ worked-corrections s i o g a n tapes (replicate Z 0) k begins w unused
-              ∙ ap (λ (y : List ℕ). pack (correctionBits (circuitOf s) n y)) t,
-          (e3 ∙ ap (shown.maskedInputs (circuitOf s) n w) t, (t, e4 ∙ ap (λ (y : List ℕ). worked s (sized i o g a) n w y (replicate Z 0)) t)),
-        ),
-      )
+  pub seeds-made : (x : List ℕ) → seedsHeld z n m ≡ x → seedsHeld z n w ≡ x
+  seeds-made x d = part-kept (rowsAt (layoutOf z)) (seedsAt (layoutOf z) n) (32 * n) m w (omega arith) after ∙ d
 
--- what the digests are made of: the fronts S, C and M of the arrays are what the instance leaves
-module _ (s : List ℕ) (i o g a n Z j : ℕ) (w master : List ℕ) (k : Known s (sized i o g a)) (parties : Parties n) (room : 64 * (i + g) + 4096 ≤ Z)
-    (unused : unusedZero i w ≡ true) where
-  pub digests-made : (theirs S C M m x y : List ℕ) → S ≡ masterSeeds n j master → C ≡ masterCorrections (circuitOf s) n j master
-      → M ≡ masterMasked (circuitOf s) n j w master → m ≡ worked s (sized i o g a) n w (masterTapes (circuitOf s) n j master) (replicate Z 0)
-      → x ≡ commitmentsDigest j (flatten (tabulate n (λ t. cond (eqb t n) theirs (commitmentOf j n t S C))))
-      → y ≡ onlineDigest j M (packedRows (i + g) m n (a + o) (oct (a + o)))
-      → (x ≡ masterCommitments (circuitOf s) n j master) × (y ≡ masterOnline (circuitOf s) n j w master)
-  unfolding masterCommitments commitmentsOf masterOnline masterRun
-  digests-made theirs S C M m x y e1 e2 e3 e4 e5 e6 =
-      let z : tabulate n (λ t. cond (eqb t n) theirs (commitmentOf j n t S C))
-      ≡ tabulate n (λ t. commitmentOf j n t (masterSeeds n j master) (masterCorrections (circuitOf s) n j master))
-      = tabulate-cong n (λ t. cond (eqb t n) theirs (commitmentOf j n t S C))
-      (λ t. commitmentOf j n t (masterSeeds n j master) (masterCorrections (circuitOf s) n j master))
-      (λ t l. rw (ne-eqb t n (λ e. omega arith)) (ap₂ (commitmentOf j n t) e1 e2)) in (
-        e5 ∙ ap (λ (t : List (List ℕ)). commitmentsDigest j (flatten t)) z,
-        e6
-            ∙ ap₂ (onlineDigest j) e3
-            (ap (λ (t : List ℕ). packedRows (i + g) t n (a + o) (oct (a + o))) e4
-            ∙ worked-rows s i o g a n (masterTapes (circuitOf s) n j master) (replicate Z 0) k (begun (sized i o g a) n Z (replicate Z 0) parties refl room) w unused),
-      )
+  pub tapes-made : (x : List ℕ) → tapesHeld z n m ≡ x → tapesHeld z n w ≡ x
+  tapes-made x d = part-kept (rowsAt (layoutOf z)) (rowsAt (layoutOf z)) (n * oct (z .inputs + 2 * z .ands)) m w (omega arith) after ∙ d
+
+  -- the corrections follow from the tapes
+  pub corrections-made : (j : ℕ) (master : List ℕ) → tapesHeld z n m ≡ masterTapes (circuitOf s) n j master
+      → correctionsHeld z w ≡ masterCorrections (circuitOf s) n j master
+  unfolding masterTapes masterCorrections
+  corrections-made j master d =
+      let t : List ℕ = tapesOf (circuitOf s) n j (masterSeeds n j master) in
+      let f : rowsFrom z n rows m ≡ t = ap (λ (k : ℕ). rowsFrom z n k m) here ∙ d in
+      ap₂ (λ (k : ℕ) (x : List ℕ). take (oct (z .ands)) (drop k x)) (sym there) q
+      ∙ left-corrections s z n rows at m (lent-masks s z n h m lent l e rows at er ea) ∙ ap (correctionsOf s z n) f
+      ∙ corrections-prepared s z (lent .known .legal) (lent .known .ands) n t (tree-parties n h (lent .tree) .some)
+      (tapes-unused (circuitOf s) n j (masterSeeds n j master) n (omega arith))
+
+-- the commitments of n parties, with another for party p
+abbrev pub committed : (n j p : ℕ) → List ℕ → List ℕ → List ℕ → List ℕ
+committed n j p theirs seeds corr = flatten (tabulate n (λ i. cond (eqb i p) theirs (commitmentOf j n i seeds corr)))
+
+-- with no other
+committed-all : (n j : ℕ) (theirs seeds corr : List ℕ) → committed n j n theirs seeds corr ≡ commitmentsOf n j seeds corr
+unfolding commitmentsOf
+committed-all n j theirs seeds corr =
+    ap flatten
+    (tabulate-cong n (λ i. cond (eqb i n) theirs (commitmentOf j n i seeds corr)) (λ i. commitmentOf j n i seeds corr)
+    (λ i l. rw (ne-eqb i n (λ e. omega (arith, e, l)))))
+
+-- the parts of the memory, in the places that the code has
+module _ (z : Sizes) (n : ℕ) (l : Layout) (e : l ≡ layoutOf z) (m : List ℕ) where
+  pub seeds-part : (a b : ℕ) → a ≡ seedsAt l n → b ≡ leavesAt l n → take (b - a) (drop a m) ≡ seedsHeld z n m
+  seeds-part a b ea eb =
+      let d : b - a ≡ 32 * n = omega (arith, ea, eb) in
+      ap₂ (λ (x y : ℕ). take x (drop y m)) d (ea ∙ ap (λ (k : Layout). seedsAt k n) e)
+
+  pub corrections-part : (a b : ℕ) → a ≡ correctionsAt l → b ≡ rowsAt l → take (b - a) (drop a m) ≡ correctionsHeld z m
+  corrections-part a b ea eb =
+      let d : b - a ≡ oct (z .ands) = omega (arith, ea, eb, ap (λ (k : Layout). oct (k .ands)) e) in
+      ap₂ (λ (x y : ℕ). take x (drop y m)) d (ea ∙ ap correctionsAt e)
+
+  -- h_j of what is held
+  pub commitments-held : (j a b c d : ℕ) (theirs r : List ℕ) → a ≡ seedsAt l n → b ≡ leavesAt l n → c ≡ correctionsAt l → d ≡ rowsAt l
+      → r ≡ commitmentsDigest j (committed n j n theirs (take (b - a) (drop a m)) (take (d - c) (drop c m)))
+      → r ≡ commitmentsDigest j (commitmentsOf n j (seedsHeld z n m) (correctionsHeld z m))
+  commitments-held j a b c d theirs r ea eb ec ed q =
+      q ∙ ap (commitmentsDigest j)
+      (committed-all n j theirs (take (b - a) (drop a m)) (take (d - c) (drop c m))
+      ∙ ap₂ (commitmentsOf n j) (seeds-part a b ea eb) (corrections-part c d ec ed))
+
+-- h_j from a master
+pub commitments-made : (s : List ℕ) (z : Sizes) (n j : ℕ) (master m r : List ℕ) → seedsHeld z n m ≡ masterSeeds n j master
+    → correctionsHeld z m ≡ masterCorrections (circuitOf s) n j master
+    → r ≡ commitmentsDigest j (commitmentsOf n j (seedsHeld z n m) (correctionsHeld z m)) → r ≡ masterCommitments (circuitOf s) n j master
+unfolding masterCommitments
+commitments-made s z n j master m r e d q = q ∙ ap (commitmentsDigest j) (ap₂ (commitmentsOf n j) e d)
+
+-- the run in a memory that holds what a master gives
+module _ (s : List ℕ) (z : Sizes) (n h j : ℕ) (master m : List ℕ) (lent : Lent s z n h m) (w : List ℕ)
+    (et : tapesHeld z n m ≡ masterTapes (circuitOf s) n j master) (ec : correctionsHeld z m ≡ masterCorrections (circuitOf s) n j master) where
+  -- it is the run of the paper
+  pub run-made : runOn (circuitOf s) n w (tapesHeld z n m) (bitAt (correctionsHeld z m)) ≡ masterRun (circuitOf s) n j w master
+  unfolding masterRun masterCorrections honestRun
+  run-made =
+      let bs : List Bool = correctionBits (circuitOf s) n (masterTapes (circuitOf s) n j master) in
+      let f : bitAt (pack bs) ≡ (λ t. getD bs t false) = λ i t. bitAt-pack bs t i in
+      ap₂ (λ (x y : List ℕ). runOn (circuitOf s) n w x (bitAt y)) et ec
+      ∙ ap (runOn (circuitOf s) n w (masterTapes (circuitOf s) n j master)) f
+
+  -- its masked inputs
+  pub masked-made : (x : List ℕ) → x ≡ shown.maskedInputs (circuitOf s) n w (tapesHeld z n m) → x ≡ masterMasked (circuitOf s) n j w master
+  unfolding masterMasked
+  masked-made x q = q ∙ ap (shown.maskedInputs (circuitOf s) n w) et
+
+  -- h'_j
+  pub online-made : (x v r : List ℕ) → x ≡ masterMasked (circuitOf s) n j w master → v ≡ ranMemory s z n w m
+      → r ≡ onlineDigest j x (rowsSent (layoutOf z) n (broadcastBytes z) v) → r ≡ masterOnline (circuitOf s) n j w master
+  unfolding masterOnline
+  online-made x v r ex ev q =
+      q ∙ ap₂ (onlineDigest j) ex
+      (ap (rowsSent (layoutOf z) n (broadcastBytes z)) ev ∙ rows-ran s z n m (lent-held s z n h m lent) w ∙ ap (rowsOf n) run-made)
 
 -- the sizes of an instance's arrays
-pub few-seeds : (n h : ℕ) → Tree n h → 32 * n ≤ 512
-few-seeds n h t = omega (arith, tree-sizes n h t .few)
+pub few-masked : (s : List ℕ) (z : Sizes) (r : ℕ) → Known s z → r ≡ oct (z .inputs) → r ≤ 64
+few-masked s z r k e = omega (arith, e, k .legal .laid .few-inputs)
 
-pub few-corrections : (s : List ℕ) (i o g a r : ℕ) → Known s (sized i o g a) → r ≡ oct a → r ≤ 512
-few-corrections s i o g a r k e = omega (arith, e, ands-few s i o g a k)
-
-pub few-masked : (s : List ℕ) (i o g a r : ℕ) → Known s (sized i o g a) → r ≡ oct i → r ≤ 64
-few-masked s i o g a r k e = omega (arith, e, k .legal .laid .few-inputs)
+pub few-output : (s : List ℕ) (z : Sizes) (r : ℕ) → Known s z → r ≡ oct (z .outputs) → r ≤ 32
+few-output s z r k e = omega (arith, e, k .legal .laid .few-outputs)
 
 -- z in its place
 module _ (N k : ℕ) (z : List ℕ) (l : k ≤ N) (e : length z ≡ length (take k (replicate {A = ℕ} N 0))) where
@@ -102,17 +149,3 @@ module _ (N k : ℕ) (z : List ℕ) (l : k ≤ N) (e : length z ≡ length (take
 
   pub front-taken : k ≡ length (take k (z ++ drop k (replicate {A = ℕ} N 0)))
   front-taken = sym (length-take-le k (z ++ drop k (replicate {A = ℕ} N 0)) front-inside)
-
-  -- less of it
-  module _ (v : ℕ) (f : v ≤ k) where
-    pub front-less : v ≤ length (z ++ drop k (replicate {A = ℕ} N 0))
-    front-less = omega (arith, front-inside, f)
-
-    pub front-some : length (take v (z ++ drop k (replicate {A = ℕ} N 0))) ≡ v
-    front-some = length-take-le v (z ++ drop k (replicate {A = ℕ} N 0)) front-less
-
--- what the digest of the rows asks
-pub online-asks : (s : List ℕ) (i o g a n : ℕ) (m : List ℕ) → Known s (sized i o g a) → Parties n → 64 * (i + g) + 4096 ≤ length m
-    → Room (i + g) n m × (a + o ≤ i + g + 256)
-online-asks s i o g a n m k parties l =
-    (room s i o g a k n m parties l, omega (arith, ands-low s i o g a k, k .legal .laid .few-outputs))

@@ -1,23 +1,20 @@
--- The tapes that follow from rows of seeds: a party's row, the unused bits, and what the making of the corrections asks.
+-- The tapes that follow from rows of seeds: a party's row, the unused bits, and the tapes of all parties but one.
 -- Assumes nothing.
-use mathlib.Core.Path.{_≡_, refl, ap, _∙_}
+use mathlib.Core.Path.{_≡_, refl}
 use mathlib.Core.Bool.{true}
 use mathlib.Core.List.{List}
-use Prim.Native.Nat.{ℕ, zero, suc, _+_, _*_, _≤_, _<_}
+use Prim.Native.Nat.{ℕ, zero, suc, _≤_, _<_}
 use native.Mathlib.Omega.{arith}
-use lib.ListN.{length}
-use Rattle.bits.specs.Bits.{oct}
+use lib.ListN.{replicate}
 use Rattle.bits.proofs.Rows.{row-tabulate}
 use Rattle.circuit.specs.Circuit.{Circuit}
-use Rattle.circuit.specs.File.{circuitOf}
-use Rattle.plain.specs.Tapes.{rowBytes, tapeRow, usedBits, unusedRows}
-use Rattle.mpc.specs.Steps.{PrepareLent}
-use Rattle.mpc.proofs.Opened.{sized, ands-low}
+use Rattle.plain.specs.Tapes.{rowBytes, tapeRow, usedBits, unusedRows, withRow}
+use Rattle.plain.specs.Showing.{hidden}
 use Rattle.party.specs.Derive as derive
 use Rattle.party.proofs.Clearing.{length-tape, tape-unused}
 use Rattle.instance.specs.Instance.{seedOf, tapesOf}
-use Rattle.instance.specs.Steps.{Lent}
-use Rattle.instance.proofs.Trees.{tree-parties}
+use Rattle.instance.specs.Steps.{tapesBut}
+use Rattle.instance.proofs.Written.{row-changed}
 
 module _ (c : Circuit) (n j : ℕ) (seeds : List ℕ) where
   -- party i's tape
@@ -36,17 +33,8 @@ module _ (c : Circuit) (n j : ℕ) (seeds : List ℕ) where
   tapes-unused (suc k) h =
       rw (tapes-unused k (omega arith), tapes-row k (omega arith), tape-unused j k (seedOf seeds k) (usedBits c n k) (rowBytes c)) refl
 
--- what the making of the corrections asks, where the tapes are made in a buffer
-pub prepare-asks : (s : List ℕ) (i o g a n h j : ℕ) (seeds tapes buffer memory out : List ℕ) → Lent s (sized i o g a) n h buffer memory
-    → tapes ≡ tapesOf (circuitOf s) n j seeds → length tapes ≡ length buffer → length out ≡ oct a
-    → PrepareLent s (sized i o g a) n tapes out × (i + g + oct (i + 2 * a) ≤ length memory)
-prepare-asks s i o g a n h j seeds tapes buffer memory out p e l f = (
-  record {
-    known = p .known;
-    parties = tree-parties n h (p .tree);
-    tapes-fit = l ∙ p .tapes-fit;
-    unused = ap (λ (t : List ℕ). unusedRows (circuitOf s) n t n) e ∙ tapes-unused (circuitOf s) n j seeds n (omega arith);
-    corrections-fit = f;
-  },
-  omega (arith, ands-low s i o g a (p .known), p .room),
-)
+  -- the tapes of all parties but p are all tapes with party p's hidden
+  pub tapes-hidden : (p : ℕ) → p < n → tapesBut c n p j seeds ≡ hidden c p (tapesOf c n j seeds)
+  unfolding tapesBut tapesOf withRow
+  tapes-hidden p h =
+      row-changed (rowBytes c) tapeFrom (λ k. length-tape j k (seedOf seeds k) (usedBits c n k) (rowBytes c)) n p (replicate (rowBytes c) 0) h

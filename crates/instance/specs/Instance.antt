@@ -5,7 +5,7 @@ use mathlib.Core.Bool.{Bool, true, false, cond}
 use mathlib.Core.List.{List, [], _++_, flatten}
 use Prim.Native.Nat.{ℕ, suc, _+_}
 use lib.Dec.{eqb}
-use lib.ListN.{take}
+use lib.ListN.{take, replicate}
 use Rattle.bits.specs.Bits.{tabulate, pack}
 use Rattle.bits.specs.Bytes.{rowOf}
 use Rattle.keccak.specs.Sponge.{sha3-256}
@@ -26,6 +26,10 @@ leavesOf n j master = leavesBelow j (heightOf n) 1 master
 -- the seed and r of each party, from the leaves, in rows of 32 bytes
 unfoldable pub seedsOf : ℕ → ℕ → List ℕ → List ℕ
 seedsOf n j leaves = flatten (tabulate n (λ i. seedRow j i (rowOf leaves 16 i)))
+
+-- the same of all parties but p, whose row is zero
+unfoldable pub seedsBut : ℕ → ℕ → ℕ → List ℕ → List ℕ
+seedsBut n p j leaves = flatten (tabulate n (λ i. cond (eqb i p) (replicate 32 0) (seedRow j i (rowOf leaves 16 i))))
 
 -- party i's seed
 abbrev pub seedOf : List ℕ → ℕ → List ℕ

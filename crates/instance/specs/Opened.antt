@@ -14,12 +14,12 @@ use Rattle.plain.specs.Tapes.{andsOf}
 use Rattle.plain.specs.Showing.{rowsOf, hidden, Showing, replayOf}
 use Rattle.tree.specs.Tree.{openedBelow}
 use Rattle.party.specs.Derive.{commitmentOf}
-use Rattle.instance.specs.Instance.{Asked, opened, hiding, seedsOf, tapesOf, commitmentsDigest, onlineDigest, masterCommitments}
+use Rattle.instance.specs.Instance.{Asked, opened, hiding, seedsBut, tapesOf, commitmentsDigest, onlineDigest, masterCommitments}
 use Rattle.instance.specs.Stretch.{siblingsPart, correctionsPart, commitmentPart, maskedPart, rowPart}
 
--- the seeds of a chosen instance: the leaves that follow from its siblings
+-- the seeds of a chosen instance but party p's, which is not known: from the leaves that follow from its siblings
 unfoldable pub openedSeeds : ℕ → ℕ → ℕ → List ℕ → List ℕ
-openedSeeds n j p part = seedsOf n j (openedBelow j (heightOf n) 1 p (siblingsPart n part))
+openedSeeds n j p part = seedsBut n p j (openedBelow j (heightOf n) 1 p (siblingsPart n part))
 
 -- Verification, step 1: the commitments of the opened parties, and com_p as sent
 unfoldable pub openedCommitments : Circuit → ℕ → ℕ → ℕ → List ℕ → List ℕ

@@ -1,23 +1,43 @@
 -- What only the contracts of steps use: no definition of the paper stands here.
 -- Assumes nothing.
 use mathlib.Core.Path.{_≡_}
-use mathlib.Core.Bool.{true}
-use mathlib.Core.List.{List}
-use Prim.Native.Nat.{ℕ, _+_, _*_, _≤_}
-use lib.ListN.{length}
+use mathlib.Core.Bool.{true, cond}
+use mathlib.Core.List.{List, flatten}
+use Prim.Native.Nat.{ℕ, suc, _+_, _*_, _≤_}
+use lib.Dec.{eqb}
+use lib.ListN.{length, take, drop, replicate}
+use Rattle.bits.specs.Bits.{tabulate, oct}
 use Rattle.parties.specs.Parties.{heightOf, isPartyCount}
+use Rattle.circuit.specs.Circuit.{Circuit}
 use Rattle.circuit.specs.declared.Sizes.{Sizes}
-use Rattle.engine.specs.Steps.{wireCount}
-use Rattle.mpc.specs.Steps.{Known, TapesFit}
+use Rattle.plain.specs.Tapes.{rowBytes, usedBits}
+use Rattle.masks.specs.Steps.{wireCount}
+use Rattle.planes.specs.Steps.{seedsAt}
+use Rattle.walk.specs.Steps.{layoutOf}
+use Rattle.mpc.specs.Steps.{Known}
+use Rattle.party.specs.Derive as derive
+use Rattle.instance.specs.Instance.{seedOf}
 
 -- n parties, with a tree of height h
 pub record Tree (n h : ℕ) : Type 0 where
   pub parties : isPartyCount n ≡ true
   pub height : h ≡ heightOf n
 
--- an instance of a legal circuit with n parties: buffers for its tapes and its work
-pub record Lent (s : List ℕ) (z : Sizes) (n h : ℕ) (tapes memory : List ℕ) : Type 0 where
+-- an instance of a legal circuit with n parties, and a work memory
+pub record Lent (s : List ℕ) (z : Sizes) (n h : ℕ) (memory : List ℕ) : Type 0 where
   pub known : Known s z
   pub tree : Tree n h
-  pub tapes-fit : TapesFit z n tapes
   pub room : 64 * wireCount z + 4096 ≤ length memory
+
+-- the seeds of n parties that stand in the memory
+abbrev pub seedsHeld : Sizes → ℕ → List ℕ → List ℕ
+seedsHeld z n m = take (32 * n) (drop (seedsAt (layoutOf z) n) m)
+
+-- the tape rows of all parties but p, whose row is zero, from their seeds
+unfoldable pub tapesBut : Circuit → ℕ → ℕ → ℕ → List ℕ → List ℕ
+tapesBut c n p j seeds =
+    flatten (tabulate n (λ i. cond (eqb i p) (replicate (rowBytes c) 0) (derive.tapeRow j i (seedOf seeds i) (usedBits c n i) (rowBytes c))))
+
+-- the bytes of a chosen instance's stretch that need no run, with party p hidden: siblings, corrections, com_p
+abbrev pub heldBytes : Sizes → ℕ → ℕ → ℕ → ℕ
+heldBytes z n h p = 16 * h + cond (eqb (suc p) n) 0 (oct (z .ands)) + 32

@@ -1,58 +1,42 @@
 // What a checker makes of an instance's stretch of the proof: its digests and its tests.
 ghost use mathlib.Core.Path.{_≡_};
 ghost use mathlib.Core.Bool.{true, cond};
-ghost use Prim.Native.Nat.{suc, _+_, _*_, _≤_, _<_};
+ghost use Prim.Native.Nat.{suc, _≤_, _<_};
 ghost use lib.Dec.{eqb};
-ghost use lib.ListN.{length, replicate};
-ghost use Rattle.bits.specs.Bits.{oct, pack, unusedZero};
-ghost use Rattle.bits.specs.Bytes.{sameBytes};
+ghost use lib.ListN.{length};
+ghost use Rattle.bits.specs.Bits.{oct};
 ghost use Rattle.circuit.specs.File.{maxGates, circuitOf};
-ghost use Rattle.plain.specs.Showing.{rowsOf, replayOf};
-ghost use Rattle.engine.specs.Steps.{wireCount};
-ghost use Rattle.mpc.specs.Steps.{Known, Parties, ShowingFits, TapesFit, prepared, replayed as «replayed-memory»};
-ghost use Rattle.instance.specs.Instance.{commitmentsDigest, onlineDigest, masterTapes, masterCommitments, hiding};
+ghost use Rattle.mpc.specs.Steps.{Known};
+ghost use Rattle.packed.specs.Steps.{tapesHeld, correctionsHeld};
+ghost use Rattle.instance.specs.Instance.{commitmentsDigest, masterCommitments, hiding};
 ghost use Rattle.instance.specs.Stretch.{stretchBytes};
 ghost use Rattle.instance.specs.Opened.{openedSeeds, openedCommitments, openedShowing, stretchOnline, stretchUnused, stretchOutput};
-ghost use Rattle.instance.specs.Steps.{Tree, Lent};
+ghost use Rattle.instance.specs.Steps.{Tree, Lent, seedsHeld};
 use crate::Instance;
 use crate::Replayed;
 use crate::committing::commit;
 use crate::committing::online;
-use crate::seeding::master_seeds;
-use crate::seeding::opened_seeds;
-use crate::seeding::tape_rows;
+use crate::seeding::hold_opened;
+use crate::sending::commit_held;
+use crate::sending::from_master;
 use bits::clear;
 use bits::copy;
 use circuit::Sizes;
-use mpc::preparing::prepare_in;
 use mpc::tests::both;
-use mpc::working::run_opened;
-use replaying::outputs_are;
+use packed::running::replay_held;
+use planes::places::corrections_at;
+use planes::places::leaves_at;
+use planes::places::rows_at;
+use planes::places::seeds_at;
+use walk::layout;
 
-// h_j of an instance that is not chosen, from its master.
-pub fn reopen(
-    s: &[u8],
-    z: Sizes,
-    inst: Instance,
-    master: &[u8],
-    tapes: &mut [u8],
-    memory: &mut [u8],
-) -> [u8; 32]
-    requires { ⌜ Lent (now s) z (inst .parties) (inst .height) (now tapes) (now memory) × (length (now master) ≡ 16) ⌝ }
+// h_j of an instance that is not chosen, from its master. What then stands in the memory is not told.
+pub fn reopen(s: &[u8], z: Sizes, inst: Instance, master: &[u8], memory: &mut [u8]) -> [u8; 32]
+    requires { ⌜ Lent (now s) z (inst .parties) (inst .height) (now memory) × (length (now master) ≡ 16) ⌝ }
     ensures { λ r. ⌜ r ≡ masterCommitments (circuitOf (now (s .entry))) (inst .parties) (inst .number) (now (master .entry)) ⌝ }
-    ensures { λ _. ⌜ now (tapes .exit) ≡ masterTapes (circuitOf (now (s .entry))) (inst .parties) (inst .number) (now (master .entry)) ⌝ }
-    ensures { λ _. ⌜ now (memory .exit) ≡ prepared (now (s .entry)) z (inst .parties) (masterTapes (circuitOf (now (s .entry))) (inst .parties) (inst .number) (now (master .entry))) (now (memory .entry)) ⌝ }
 {
-    let n = inst.parties;
-    let k = n as usize;
-    let size = 32 * k;
-    let a = bits::oct(z.ands);
-    let mut seeds = [0u8; 512];
-    let mut corrections = [0u8; 512];
-    master_seeds(inst, master, &mut seeds[..size]);
-    tape_rows(s, z, inst, &seeds[..size], tapes);
-    prepare_in(s, z, k, tapes, &mut corrections[..a], memory);
-    commit(inst, n, &master[..0], &seeds[..size], &corrections[..a])
+    from_master(s, z, inst, master, memory);
+    commit_held(z, inst, memory)
 }
 
 // The bytes of corrections in the stretch of a chosen instance that hides party p.
@@ -78,82 +62,36 @@ pub fn unused(s: &[u8], z: Sizes, n: u32, h: u32, p: u32, part: &[u8]) -> bool
     both(c, both(m, r))
 }
 
-// The tapes and seeds of the opened parties, and the corrections that are sent: zeros where they are the hidden party's.
-fn reopen_parties(
+// Brings the seeds and the tapes of the opened parties into the memory, and the corrections that are sent: zeros where they are the
+// hidden party's.
+pub(crate) fn reopen_parties(
     s: &[u8],
     z: Sizes,
     inst: Instance,
     p: u32,
     part: &[u8],
-    seeds: &mut [u8],
-    corrections: &mut [u8],
-    tapes: &mut [u8],
+    memory: &mut [u8],
 )
-    requires { ⌜ Known (now s) z × (Tree (inst .parties) (inst .height) × ((p < inst .parties) × ((length (now part) ≡ stretchBytes (circuitOf (now s)) (inst .parties) (hiding p)) × ((length (now seeds) ≡ 32 * inst .parties) × ((length (now corrections) ≡ oct (z .ands)) × TapesFit z (inst .parties) (now tapes)))))) ⌝ }
-    ensures { λ _. ⌜ now (seeds .exit) ≡ openedSeeds (inst .parties) (inst .number) p (now (part .entry)) ⌝ }
-    ensures { λ _. ⌜ now (corrections .exit) ≡ openedShowing (circuitOf (now (s .entry))) (inst .parties) (inst .number) p (now (part .entry)) .corrections ⌝ }
-    ensures { λ _. ⌜ now (tapes .exit) ≡ openedShowing (circuitOf (now (s .entry))) (inst .parties) (inst .number) p (now (part .entry)) .tapes ⌝ }
+    requires { ⌜ Lent (now s) z (inst .parties) (inst .height) (now memory) × ((p < inst .parties) × (length (now part) ≡ stretchBytes (circuitOf (now s)) (inst .parties) (hiding p))) ⌝ }
+    ensures { λ _. ⌜ seedsHeld z (inst .parties) (now (memory .exit)) ≡ openedSeeds (inst .parties) (inst .number) p (now (part .entry)) ⌝ }
+    ensures { λ _. ⌜ tapesHeld z (inst .parties) (now (memory .exit)) ≡ openedShowing (circuitOf (now (s .entry))) (inst .parties) (inst .number) p (now (part .entry)) .tapes ⌝ }
+    ensures { λ _. ⌜ correctionsHeld z (now (memory .exit)) ≡ openedShowing (circuitOf (now (s .entry))) (inst .parties) (inst .number) p (now (part .entry)) .corrections ⌝ }
 {
     let n = inst.parties;
-    let h = inst.height;
-    let first = 16 * (h as usize);
-    opened_seeds(inst, p, &part[..first], seeds);
-    tape_rows(s, z, inst, seeds, tapes);
-    let len = bits::oct(z.inputs + 2 * z.ands);
-    let at = (p as usize) * len;
-    let end = at + len;
-    clear(&mut tapes[at..end]);
+    let first = 16 * (inst.height as usize);
+    let l = layout(z);
+    let at = corrections_at(l);
+    let rows = rows_at(l);
+    hold_opened(s, z, inst, p, &part[..first], memory);
     if p + 1 == n {
-        clear(corrections);
+        clear(&mut memory[at..rows]);
     } else {
         let second = first + bits::oct(z.ands);
-        copy(&part[first..second], corrections);
+        copy(&part[first..second], &mut memory[at..rows]);
     }
 }
 
-// Replays a run with party p hidden: the digest over its broadcasts, and whether its output is y, beside h_j as given.
-fn rerun(
-    s: &[u8],
-    z: Sizes,
-    j: u32,
-    n: usize,
-    p: usize,
-    y: &[u8],
-    tapes: &[u8],
-    corrections: &[u8],
-    masked: &[u8],
-    row: &[u8],
-    commitments: [u8; 32],
-    memory: &mut [u8],
-) -> Replayed
-    requires { ⌜ Known (now s) z × (Parties n × ((p < n) × (ShowingFits z n (now tapes) (now corrections) (now masked) (now row) × ((unusedZero (z .inputs) (now masked) ≡ true) × (64 * wireCount z + 4096 ≤ length (now memory)))))) ⌝ }
-    ensures { λ r. ⌜ (r .agrees ≡ sameBytes (pack (replayOf (circuitOf (now (s .entry))) n p (record { tapes = now (tapes .entry); corrections = now (corrections .entry); maskedInputs = now (masked .entry); row = now (row .entry) }) .output)) (now (y .entry))) × ((r .commitments ≡ commitments) × (r .online ≡ onlineDigest j (now (masked .entry)) (rowsOf n (replayOf (circuitOf (now (s .entry))) n p (record { tapes = now (tapes .entry); corrections = now (corrections .entry); maskedInputs = now (masked .entry); row = now (row .entry) }))))) ⌝ }
-    ensures { λ _. ⌜ now (memory .exit) ≡ «replayed-memory» (now (s .entry)) z n p (record { tapes = now (tapes .entry); corrections = now (corrections .entry); maskedInputs = now (masked .entry); row = now (row .entry) }) (replicate (length (now (memory .entry))) 0) ⌝ }
-{
-    let mut values = [0u8; 4096];
-    clear(memory);
-    run_opened(
-        s,
-        z,
-        n,
-        p,
-        tapes,
-        corrections,
-        masked,
-        row,
-        &mut values,
-        memory,
-    );
-    let agrees = outputs_are(&values, z.outputs, y);
-    let online = online(j, masked, memory, z.inputs + z.gates, n, z.ands + z.outputs);
-    Replayed {
-        agrees,
-        commitments,
-        online,
-    }
-}
-
-// Replays a chosen instance from its stretch.
+// Replays a chosen instance from its stretch. What then stands in the memory is not told.
 pub fn replay(
     s: &[u8],
     z: Sizes,
@@ -161,56 +99,48 @@ pub fn replay(
     p: u32,
     y: &[u8],
     part: &[u8],
-    tapes: &mut [u8],
     memory: &mut [u8],
 ) -> Replayed
-    requires { ⌜ Lent (now s) z (inst .parties) (inst .height) (now tapes) (now memory) × ((p < inst .parties) × ((length (now part) ≡ stretchBytes (circuitOf (now s)) (inst .parties) (hiding p)) × (stretchUnused (circuitOf (now s)) (inst .parties) (now part) (hiding p) ≡ true))) ⌝ }
+    requires { ⌜ Lent (now s) z (inst .parties) (inst .height) (now memory) × ((p < inst .parties) × ((length (now part) ≡ stretchBytes (circuitOf (now s)) (inst .parties) (hiding p)) × (stretchUnused (circuitOf (now s)) (inst .parties) (now part) (hiding p) ≡ true))) ⌝ }
     ensures { λ r. ⌜ (r .agrees ≡ stretchOutput (circuitOf (now (s .entry))) (inst .parties) (inst .number) (now (y .entry)) (now (part .entry)) (hiding p)) × ((r .commitments ≡ commitmentsDigest (inst .number) (openedCommitments (circuitOf (now (s .entry))) (inst .parties) (inst .number) p (now (part .entry)))) × (r .online ≡ stretchOnline (circuitOf (now (s .entry))) (inst .parties) (inst .number) (now (part .entry)) (hiding p))) ⌝ }
-    ensures { λ _. ⌜ now (tapes .exit) ≡ openedShowing (circuitOf (now (s .entry))) (inst .parties) (inst .number) p (now (part .entry)) .tapes ⌝ }
-    ensures { λ _. ⌜ now (memory .exit) ≡ «replayed-memory» (now (s .entry)) z (inst .parties) p (openedShowing (circuitOf (now (s .entry))) (inst .parties) (inst .number) p (now (part .entry))) (replicate (length (now (memory .entry))) 0) ⌝ }
 {
     let j = inst.number;
     let n = inst.parties;
-    let h = inst.height;
     let k = n as usize;
-    let size = 32 * k;
-    let a = bits::oct(z.ands);
+    let l = layout(z);
+    let at = corrections_at(l);
+    let seeds = seeds_at(l, k);
+    let leaves = leaves_at(l, k);
     let sent = sent_bytes(z.ands, n, p);
-    let first = 16 * (h as usize);
-    let second = first + sent;
+    let second = 16 * (inst.height as usize) + sent;
     let third = second + 32;
     let fourth = third + bits::oct(z.inputs);
-    let mut seeds = [0u8; 512];
-    let mut corrections = [0u8; 512];
-    reopen_parties(
-        s,
-        z,
-        inst,
-        p,
-        part,
-        &mut seeds[..size],
-        &mut corrections[..a],
-        tapes,
-    );
+    let o = bits::oct(z.outputs);
+    let mut out = [0u8; 32];
+    reopen_parties(s, z, inst, p, part, memory);
+    let end = at + sent;
     let commitments = commit(
         inst,
         p,
         &part[second..third],
-        &seeds[..size],
-        &corrections[..sent],
+        &memory[seeds..leaves],
+        &memory[at..end],
     );
-    rerun(
+    replay_held(
         s,
         z,
-        j,
         k,
         p as usize,
-        y,
-        tapes,
-        &corrections[..a],
         &part[third..fourth],
         &part[fourth..],
-        commitments,
+        &mut out[..o],
         memory,
-    )
+    );
+    let online = online(j, &part[third..fourth], z, k, memory);
+    let agrees = bits::same(&out[..o], y);
+    Replayed {
+        agrees,
+        commitments,
+        online,
+    }
 }

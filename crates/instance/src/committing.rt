@@ -5,18 +5,24 @@ ghost use mathlib.Core.List.{flatten};
 ghost use Prim.Native.Nat.{_+_, _*_, _≤_};
 ghost use lib.Dec.{eqb};
 ghost use lib.ListN.{length};
-ghost use Rattle.bits.specs.Bits.{tabulate, oct};
-ghost use Rattle.circuit.specs.File.{maxOutputs};
-ghost use Rattle.engine.specs.Steps.{packedRows, Room};
+ghost use Rattle.bits.specs.Bits.{tabulate};
+ghost use Rattle.planes.specs.Steps.{Room, rowsAt};
+ghost use Rattle.walk.specs.Steps.{layoutOf};
+ghost use Rattle.packed.specs.Steps.{broadcastBytes, rowsSent};
 ghost use Rattle.party.specs.Derive.{commitmentOf};
 ghost use Rattle.instance.specs.Instance.{commitmentsDigest, onlineDigest};
 use crate::Instance;
-use engine::memory::pack;
+use circuit::Sizes;
 use hashing::finish;
 use hashing::start_commitments;
 use hashing::start_online;
 use keccak::SHA3_256_RATE;
+use packed::running::row_bytes;
 use party::commitment;
+use planes::places::rows_at;
+use planes::rows::store_block;
+use planes::tapes::rows_in;
+use walk::layout;
 
 // h_j over the commitments of n parties; `theirs` stands for party p's (n for none).
 pub fn commit(inst: Instance, p: u32, theirs: &[u8], seeds: &[u8], corrections: &[u8]) -> [u8; 32]
@@ -39,26 +45,23 @@ pub fn commit(inst: Instance, p: u32, theirs: &[u8], seeds: &[u8], corrections: 
     finish(s)
 }
 
-// h'_j over the masked inputs and the broadcast rows in the memory.
-pub fn online(
-    j: u32,
-    masked: &[u8],
-    memory: &[u8],
-    wires: usize,
-    n: usize,
-    broadcasts: usize,
-) -> [u8; 32]
-    requires { ⌜ Room wires n (now memory) × (broadcasts ≤ wires + maxOutputs) ⌝ }
-    ensures { λ r. ⌜ r ≡ onlineDigest j (now (masked .entry)) (packedRows wires (now (memory .entry)) n broadcasts (oct broadcasts)) ⌝ }
+// h'_j over the masked inputs and the broadcasts in the memory, of which rows are made a group of 8 parties at a time. What then stands
+// in the place of the rows is not told.
+pub fn online(j: u32, masked: &[u8], z: Sizes, n: usize, memory: &mut [u8]) -> [u8; 32]
+    requires { ⌜ Room (layoutOf z) (now memory) × ((n ≤ 64) × (rowsAt (layoutOf z) + 8 * broadcastBytes z ≤ length (now memory))) ⌝ }
+    ensures { λ r. ⌜ r ≡ onlineDigest j (now (masked .entry)) (rowsSent (layoutOf z) n (broadcastBytes z) (now (memory .entry))) ⌝ }
 {
-    let len = bits::oct(broadcasts);
-    let mut row = [0u8; 608];
+    let l = layout(z);
+    let len = row_bytes(z);
+    let a = rows_at(l);
     let mut s = start_online(j).absorb(SHA3_256_RATE, masked);
-    let mut i = 0;
-    while i < n {
-        pack(memory, 48 * wires + i, broadcasts, &mut row[..len]);
-        s = s.absorb(SHA3_256_RATE, &row[..len]);
-        i += 1;
+    let mut g = 0;
+    while 8 * g < n {
+        let count = rows_in(n, g);
+        let end = a + count * len;
+        store_block(l, memory, count, g, len);
+        s = s.absorb(SHA3_256_RATE, &memory[a..end]);
+        g += 1;
     }
     finish(s)
 }

@@ -1,71 +1,66 @@
-// Seeds and tapes of the parties of an instance.
+// Seeds and tapes of the parties of an instance, in the work memory.
 ghost use mathlib.Core.Path.{_≡_};
 ghost use Prim.Native.Nat.{_+_, _*_, _≤_, _<_};
-ghost use lib.ListN.{length};
+ghost use lib.ListN.{length, take, drop};
+ghost use lib.Seq.{sets};
 ghost use Rattle.bits.specs.Bits.{oct};
 ghost use Rattle.circuit.specs.File.{circuitOf};
-ghost use Rattle.mpc.specs.Steps.{Known, TapesFit};
+ghost use Rattle.mpc.specs.Steps.{Known};
 ghost use Rattle.tree.specs.Tree.{openedBelow};
-ghost use Rattle.instance.specs.Instance.{seedsOf, masterSeeds, tapesOf};
-ghost use Rattle.instance.specs.Steps.{Tree};
+ghost use Rattle.packed.specs.Steps.{tapesHeld};
+ghost use Rattle.instance.specs.Instance.{seedsBut, masterSeeds, masterTapes};
+ghost use Rattle.instance.specs.Steps.{Lent, seedsHeld, tapesBut};
 use crate::Instance;
+use bits::clear;
+use bits::copy;
 use circuit::Sizes;
 use mpc::tests::used_bits;
 use party::seed_row;
 use party::tape;
+use planes::places::leaves_at;
+use planes::places::rows_at;
+use planes::places::seeds_at;
 use tree::leaves_below;
 use tree::opened_below;
+use walk::layout;
 
-// The seed and r of each of n parties, from the leaves.
-pub fn seed_rows(inst: Instance, leaves: &[u8], seeds: &mut [u8])
-    requires { ⌜ (inst .parties ≤ 16) × ((length (now leaves) ≡ 16 * inst .parties) × (length (now seeds) ≡ 32 * inst .parties)) ⌝ }
-    ensures { λ _. ⌜ now (seeds .exit) ≡ seedsOf (inst .parties) (inst .number) (now (leaves .entry)) ⌝ }
+// 16 bytes of the memory, from `at` on.
+fn key(memory: &[u8], at: usize) -> [u8; 16]
+    requires { ⌜ at + 16 ≤ length (now memory) ⌝ }
+    ensures { λ r. ⌜ r ≡ take 16 (drop at (now (memory .entry))) ⌝ }
+{
+    let mut k = [0u8; 16];
+    let end = at + 16;
+    copy(&memory[at..end], &mut k);
+    k
+}
+
+// The seed and r of each party but p (n for none), from the leaves, as rows from byte `to` of the memory on.
+fn seed_rows(inst: Instance, p: u32, leaves: usize, to: usize, memory: &mut [u8])
+    requires { ⌜ (inst .parties ≤ 16) × ((to + 32 * inst .parties ≤ leaves) × (leaves + 16 * inst .parties ≤ length (now memory))) ⌝ }
+    ensures { λ _. ⌜ now (memory .exit) ≡ sets (now (memory .entry)) to (seedsBut (inst .parties) p (inst .number) (take (16 * inst .parties) (drop leaves (now (memory .entry))))) ⌝ }
 {
     let j = inst.number;
     let n = inst.parties;
     let mut i = 0;
     while i < n {
         let k = i as usize;
-        let leaf = bits::row(leaves, 16, k);
-        let a = 32 * k;
-        let e = a + 32;
-        seed_row(j, i, leaf, &mut seeds[a..e]);
+        let a = to + 32 * k;
+        let end = a + 32;
+        if i == p {
+            clear(&mut memory[a..end]);
+        } else {
+            let leaf = key(memory, leaves + 16 * k);
+            seed_row(j, i, &leaf, &mut memory[a..end]);
+        }
         i += 1;
     }
 }
 
-// The seeds of instance j, from its master.
-pub fn master_seeds(inst: Instance, master: &[u8], seeds: &mut [u8])
-    requires { ⌜ Tree (inst .parties) (inst .height) × ((length (now master) ≡ 16) × (length (now seeds) ≡ 32 * inst .parties)) ⌝ }
-    ensures { λ _. ⌜ now (seeds .exit) ≡ masterSeeds (inst .parties) (inst .number) (now (master .entry)) ⌝ }
-{
-    let j = inst.number;
-    let n = inst.parties;
-    let h = inst.height;
-    let mut leaves = [0u8; 256];
-    let size = 16 * (n as usize);
-    leaves_below(j, 1, h, master, &mut leaves[..size]);
-    seed_rows(inst, &leaves[..size], seeds);
-}
-
-// The seeds of instance j that follow from an opening of all leaves but p.
-pub fn opened_seeds(inst: Instance, p: u32, siblings: &[u8], seeds: &mut [u8])
-    requires { ⌜ Tree (inst .parties) (inst .height) × ((p < inst .parties) × ((length (now siblings) ≡ 16 * inst .height) × (length (now seeds) ≡ 32 * inst .parties))) ⌝ }
-    ensures { λ _. ⌜ now (seeds .exit) ≡ seedsOf (inst .parties) (inst .number) (openedBelow (inst .number) (inst .height) 1 p (now (siblings .entry))) ⌝ }
-{
-    let j = inst.number;
-    let n = inst.parties;
-    let h = inst.height;
-    let mut leaves = [0u8; 256];
-    let size = 16 * (n as usize);
-    opened_below(j, 1, h, p, siblings, &mut leaves[..size]);
-    seed_rows(inst, &leaves[..size], seeds);
-}
-
-// The tape rows of the parties, from their seeds.
-pub fn tape_rows(s: &[u8], z: Sizes, inst: Instance, seeds: &[u8], tapes: &mut [u8])
-    requires { ⌜ Known (now s) z × ((inst .parties ≤ 16) × ((length (now seeds) ≡ 32 * inst .parties) × TapesFit z (inst .parties) (now tapes))) ⌝ }
-    ensures { λ _. ⌜ now (tapes .exit) ≡ tapesOf (circuitOf (now (s .entry))) (inst .parties) (inst .number) (now (seeds .entry)) ⌝ }
+// The tape row of each party but p (n for none), from its seed, as rows from byte `to` of the memory on.
+fn tape_rows(s: &[u8], z: Sizes, inst: Instance, p: u32, seeds: usize, to: usize, memory: &mut [u8])
+    requires { ⌜ Known (now s) z × ((inst .parties ≤ 16) × ((to + inst .parties * oct (z .inputs + 2 * z .ands) ≤ seeds) × (seeds + 32 * inst .parties ≤ length (now memory)))) ⌝ }
+    ensures { λ _. ⌜ now (memory .exit) ≡ sets (now (memory .entry)) to (tapesBut (circuitOf (now (s .entry))) (inst .parties) p (inst .number) (take (32 * inst .parties) (drop seeds (now (memory .entry))))) ⌝ }
 {
     let j = inst.number;
     let n = inst.parties;
@@ -75,11 +70,62 @@ pub fn tape_rows(s: &[u8], z: Sizes, inst: Instance, seeds: &[u8], tapes: &mut [
     let mut i = 0;
     while i < n {
         let k = i as usize;
-        let row = bits::row(seeds, 32, k);
-        let used = used_bits(inputs, ands, n as usize, k);
-        let a = k * len;
-        let e = a + len;
-        tape(j, i, &row[..16], used, &mut tapes[a..e]);
+        let a = to + k * len;
+        let end = a + len;
+        if i == p {
+            clear(&mut memory[a..end]);
+        } else {
+            let seed = key(memory, seeds + 32 * k);
+            let used = used_bits(inputs, ands, n as usize, k);
+            tape(j, i, &seed, used, &mut memory[a..end]);
+        }
         i += 1;
     }
+}
+
+// Brings the seeds and the tapes of all parties into the memory, from the master.
+pub(crate) fn hold_parties(s: &[u8], z: Sizes, inst: Instance, master: &[u8], memory: &mut [u8])
+    requires { ⌜ Lent (now s) z (inst .parties) (inst .height) (now memory) × (length (now master) ≡ 16) ⌝ }
+    ensures { λ _. ⌜ seedsHeld z (inst .parties) (now (memory .exit)) ≡ masterSeeds (inst .parties) (inst .number) (now (master .entry)) ⌝ }
+    ensures { λ _. ⌜ tapesHeld z (inst .parties) (now (memory .exit)) ≡ masterTapes (circuitOf (now (s .entry))) (inst .parties) (inst .number) (now (master .entry)) ⌝ }
+{
+    let j = inst.number;
+    let n = inst.parties;
+    let h = inst.height;
+    let l = layout(z);
+    let k = n as usize;
+    let leaves = leaves_at(l, k);
+    let end = leaves + 16 * k;
+    let seeds = seeds_at(l, k);
+    let rows = rows_at(l);
+    leaves_below(j, 1, h, master, &mut memory[leaves..end]);
+    seed_rows(inst, n, leaves, seeds, memory);
+    tape_rows(s, z, inst, n, seeds, rows, memory);
+}
+
+// The same of all parties but p, from an opening: party p's seed and tape are not derived, their rows are zero.
+pub(crate) fn hold_opened(
+    s: &[u8],
+    z: Sizes,
+    inst: Instance,
+    p: u32,
+    siblings: &[u8],
+    memory: &mut [u8],
+)
+    requires { ⌜ Lent (now s) z (inst .parties) (inst .height) (now memory) × ((p < inst .parties) × (length (now siblings) ≡ 16 * inst .height)) ⌝ }
+    ensures { λ _. ⌜ seedsHeld z (inst .parties) (now (memory .exit)) ≡ seedsBut (inst .parties) p (inst .number) (openedBelow (inst .number) (inst .height) 1 p (now (siblings .entry))) ⌝ }
+    ensures { λ _. ⌜ tapesHeld z (inst .parties) (now (memory .exit)) ≡ tapesBut (circuitOf (now (s .entry))) (inst .parties) p (inst .number) (seedsBut (inst .parties) p (inst .number) (openedBelow (inst .number) (inst .height) 1 p (now (siblings .entry)))) ⌝ }
+{
+    let j = inst.number;
+    let n = inst.parties;
+    let h = inst.height;
+    let l = layout(z);
+    let k = n as usize;
+    let leaves = leaves_at(l, k);
+    let end = leaves + 16 * k;
+    let seeds = seeds_at(l, k);
+    let rows = rows_at(l);
+    opened_below(j, 1, h, p, siblings, &mut memory[leaves..end]);
+    seed_rows(inst, p, leaves, seeds, memory);
+    tape_rows(s, z, inst, p, seeds, rows, memory);
 }

@@ -1,102 +1,96 @@
 // What a prover makes of an instance: its digests, and its stretch of the proof.
 ghost use mathlib.Core.Path.{_≡_};
 ghost use mathlib.Core.List.{_++_};
-ghost use Prim.Native.Nat.{_+_, _*_, _≤_, _<_};
-ghost use lib.ListN.{length, take, drop, replicate};
-ghost use Rattle.bits.specs.Bits.{oct};
-ghost use Rattle.circuit.specs.File.{circuitOf};
-ghost use Rattle.mpc.specs.Steps.{WitnessFits, worked};
-ghost use Rattle.instance.specs.Instance.{masterSeeds, masterTapes, masterCorrections, masterMasked, masterCommitments, masterOnline, hiding, stretchOf};
+ghost use Prim.Native.Nat.{_+_, _≤_, _<_};
+ghost use lib.ListN.{length, take, drop};
+ghost use Rattle.circuit.specs.File.{maxGates, circuitOf};
+ghost use Rattle.mpc.specs.Steps.{WitnessFits};
+ghost use Rattle.planes.specs.Steps.{Room, heldEnd};
+ghost use Rattle.walk.specs.Steps.{layoutOf};
+ghost use Rattle.packed.specs.Steps.{tapesHeld, correctionsHeld};
+ghost use Rattle.tree.specs.Tree.{siblingsBelow};
+ghost use Rattle.party.specs.Derive.{commitmentOf};
+ghost use Rattle.instance.specs.Instance.{commitmentsDigest, commitmentsOf, masterSeeds, masterTapes, masterCorrections, masterCommitments, masterOnline, hiding, sentCorrections, stretchOf};
 ghost use Rattle.instance.specs.Stretch.{stretchBytes};
-ghost use Rattle.instance.specs.Steps.{Lent};
+ghost use Rattle.instance.specs.Steps.{Tree, Lent, seedsHeld, heldBytes};
 use crate::Digests;
 use crate::Instance;
+use crate::checking::sent_bytes;
 use crate::committing::commit;
 use crate::committing::online;
-use crate::seeding::master_seeds;
-use crate::seeding::tape_rows;
-use bits::clear;
+use crate::seeding::hold_parties;
 use bits::copy;
 use circuit::Sizes;
-use engine::memory::pack;
-use mpc::working::run_honest;
+use masks::chain::make_corrections;
+use packed::running::pack_row;
+use packed::running::run_held;
 use party::commitment;
+use planes::places::corrections_at;
+use planes::places::leaves_at;
+use planes::places::rows_at;
+use planes::places::seeds_at;
 use tree::siblings_below;
+use walk::layout;
 
-// Runs instance j on the witness from its master: its seeds, corrections and masked inputs, and its work memory.
-pub fn from_master(
-    s: &[u8],
-    z: Sizes,
-    inst: Instance,
-    witness: &[u8],
-    master: &[u8],
-    seeds: &mut [u8],
-    corrections: &mut [u8],
-    masked: &mut [u8],
-    tapes: &mut [u8],
-    memory: &mut [u8],
-)
-    requires { ⌜ Lent (now s) z (inst .parties) (inst .height) (now tapes) (now memory) × (WitnessFits z (now witness) × ((length (now master) ≡ 16) × ((length (now seeds) ≡ 32 * inst .parties) × ((length (now corrections) ≡ oct (z .ands)) × (length (now masked) ≡ oct (z .inputs)))))) ⌝ }
-    ensures { λ _. ⌜ now (seeds .exit) ≡ masterSeeds (inst .parties) (inst .number) (now (master .entry)) ⌝ }
-    ensures { λ _. ⌜ now (corrections .exit) ≡ masterCorrections (circuitOf (now (s .entry))) (inst .parties) (inst .number) (now (master .entry)) ⌝ }
-    ensures { λ _. ⌜ now (masked .exit) ≡ masterMasked (circuitOf (now (s .entry))) (inst .parties) (inst .number) (now (witness .entry)) (now (master .entry)) ⌝ }
-    ensures { λ _. ⌜ now (tapes .exit) ≡ masterTapes (circuitOf (now (s .entry))) (inst .parties) (inst .number) (now (master .entry)) ⌝ }
-    ensures { λ _. ⌜ now (memory .exit) ≡ worked (now (s .entry)) z (inst .parties) (now (witness .entry)) (masterTapes (circuitOf (now (s .entry))) (inst .parties) (inst .number) (now (master .entry))) (replicate (length (now (memory .entry))) 0) ⌝ }
+// Brings the seeds, the tapes and the corrections of instance j into the memory, from its master.
+pub(crate) fn from_master(s: &[u8], z: Sizes, inst: Instance, master: &[u8], memory: &mut [u8])
+    requires { ⌜ Lent (now s) z (inst .parties) (inst .height) (now memory) × (length (now master) ≡ 16) ⌝ }
+    ensures { λ _. ⌜ seedsHeld z (inst .parties) (now (memory .exit)) ≡ masterSeeds (inst .parties) (inst .number) (now (master .entry)) ⌝ }
+    ensures { λ _. ⌜ tapesHeld z (inst .parties) (now (memory .exit)) ≡ masterTapes (circuitOf (now (s .entry))) (inst .parties) (inst .number) (now (master .entry)) ⌝ }
+    ensures { λ _. ⌜ correctionsHeld z (now (memory .exit)) ≡ masterCorrections (circuitOf (now (s .entry))) (inst .parties) (inst .number) (now (master .entry)) ⌝ }
 {
     let n = inst.parties;
-    master_seeds(inst, master, seeds);
-    tape_rows(s, z, inst, seeds, tapes);
-    clear(memory);
-    run_honest(s, z, n as usize, witness, tapes, masked, memory);
-    pack(memory, 16 * (z.inputs + z.gates) + 1, z.ands, corrections);
+    let l = layout(z);
+    let at = corrections_at(l);
+    let rows = rows_at(l);
+    hold_parties(s, z, inst, master, memory);
+    make_corrections(s, z, n as usize, rows, at, memory);
 }
 
-// The digests of instance j, from its master and the witness.
+// h_j from the seeds and the corrections in the memory: of all parties.
+pub(crate) fn commit_held(z: Sizes, inst: Instance, memory: &[u8]) -> [u8; 32]
+    requires { ⌜ Room (layoutOf z) (now memory) × ((inst .parties ≤ 16) × (heldEnd (layoutOf z) (inst .parties) ≤ length (now memory))) ⌝ }
+    ensures { λ r. ⌜ r ≡ commitmentsDigest (inst .number) (commitmentsOf (inst .parties) (inst .number) (seedsHeld z (inst .parties) (now (memory .entry))) (correctionsHeld z (now (memory .entry)))) ⌝ }
+{
+    let n = inst.parties;
+    let l = layout(z);
+    let k = n as usize;
+    let at = corrections_at(l);
+    let rows = rows_at(l);
+    let seeds = seeds_at(l, k);
+    let leaves = leaves_at(l, k);
+    // no party's commitment is given: what stands for it is not read
+    commit(
+        inst,
+        n,
+        &memory[..0],
+        &memory[seeds..leaves],
+        &memory[at..rows],
+    )
+}
+
+// The digests of instance j, from its master and the witness. What then stands in the memory is not told.
 pub fn digests(
     s: &[u8],
     z: Sizes,
     inst: Instance,
     witness: &[u8],
     master: &[u8],
-    tapes: &mut [u8],
     memory: &mut [u8],
 ) -> Digests
-    requires { ⌜ Lent (now s) z (inst .parties) (inst .height) (now tapes) (now memory) × (WitnessFits z (now witness) × (length (now master) ≡ 16)) ⌝ }
+    requires { ⌜ Lent (now s) z (inst .parties) (inst .height) (now memory) × (WitnessFits z (now witness) × (length (now master) ≡ 16)) ⌝ }
     ensures { λ r. ⌜ (r .commitments ≡ masterCommitments (circuitOf (now (s .entry))) (inst .parties) (inst .number) (now (master .entry))) × (r .online ≡ masterOnline (circuitOf (now (s .entry))) (inst .parties) (inst .number) (now (witness .entry)) (now (master .entry))) ⌝ }
-    ensures { λ _. ⌜ now (tapes .exit) ≡ masterTapes (circuitOf (now (s .entry))) (inst .parties) (inst .number) (now (master .entry)) ⌝ }
-    ensures { λ _. ⌜ now (memory .exit) ≡ worked (now (s .entry)) z (inst .parties) (now (witness .entry)) (masterTapes (circuitOf (now (s .entry))) (inst .parties) (inst .number) (now (master .entry))) (replicate (length (now (memory .entry))) 0) ⌝ }
 {
     let j = inst.number;
-    let n = inst.parties;
-    let k = n as usize;
-    let size = 32 * k;
-    let a = bits::oct(z.ands);
+    let k = inst.parties as usize;
     let m = bits::oct(z.inputs);
-    let mut seeds = [0u8; 512];
-    let mut corrections = [0u8; 512];
+    let o = bits::oct(z.outputs);
     let mut masked = [0u8; 64];
-    from_master(
-        s,
-        z,
-        inst,
-        witness,
-        master,
-        &mut seeds[..size],
-        &mut corrections[..a],
-        &mut masked[..m],
-        tapes,
-        memory,
-    );
-    // no party's commitment is given: what stands for it is not read
-    let commitments = commit(inst, n, master, &seeds[..size], &corrections[..a]);
-    let online = online(
-        j,
-        &masked[..m],
-        memory,
-        z.inputs + z.gates,
-        k,
-        z.ands + z.outputs,
-    );
+    let mut y = [0u8; 32];
+    from_master(s, z, inst, master, memory);
+    let commitments = commit_held(z, inst, memory);
+    run_held(s, z, k, witness, &mut masked[..m], &mut y[..o], memory);
+    let online = online(j, &masked[..m], z, k, memory);
     Digests {
         commitments,
         online,
@@ -114,7 +108,39 @@ pub(crate) fn put(from: &[u8], at: usize, part: &mut [u8]) -> usize
     to
 }
 
-// The stretch of a chosen instance: siblings, corrections unless p = n − 1, com_p, masked inputs, broadcast row p.
+// Writes the parts of a stretch that need no run, from the seeds and the corrections in the memory: siblings, corrections unless
+// p = n − 1, com_p. Gives the place after them.
+pub(crate) fn send_held(
+    z: Sizes,
+    inst: Instance,
+    p: u32,
+    master: &[u8],
+    memory: &[u8],
+    part: &mut [u8],
+) -> usize
+    requires { ⌜ Room (layoutOf z) (now memory) × ((heldEnd (layoutOf z) (inst .parties) ≤ length (now memory)) × ((z .ands ≤ maxGates) × (Tree (inst .parties) (inst .height) × ((p < inst .parties) × ((length (now master) ≡ 16) × (heldBytes z (inst .parties) (inst .height) p ≤ length (now part))))))) ⌝ }
+    ensures { λ r. ⌜ r ≡ heldBytes z (inst .parties) (inst .height) p ⌝ }
+    ensures { λ _. ⌜ now (part .exit) ≡ siblingsBelow (inst .number) (inst .height) 1 p (now (master .entry)) ++ sentCorrections (inst .parties) p (correctionsHeld z (now (memory .entry))) ++ commitmentOf (inst .number) (inst .parties) p (seedsHeld z (inst .parties) (now (memory .entry))) (correctionsHeld z (now (memory .entry))) ++ drop (heldBytes z (inst .parties) (inst .height) p) (now (part .entry)) ⌝ }
+{
+    let j = inst.number;
+    let n = inst.parties;
+    let h = inst.height;
+    let k = n as usize;
+    let l = layout(z);
+    let at = corrections_at(l);
+    let rows = rows_at(l);
+    let seeds = seeds_at(l, k);
+    let leaves = leaves_at(l, k);
+    let end = at + sent_bytes(z.ands, n, p);
+    let com = commitment(j, n, p, &memory[seeds..leaves], &memory[at..rows]);
+    let first = 16 * (h as usize);
+    siblings_below(j, 1, h, p, master, &mut part[..first]);
+    let second = put(&memory[at..end], first, part);
+    put(&com, second, part)
+}
+
+// The stretch of a chosen instance: siblings, corrections unless p = n − 1, com_p, masked inputs, broadcast row p. What then stands in
+// the memory is not told.
 pub fn send(
     s: &[u8],
     z: Sizes,
@@ -123,45 +149,31 @@ pub fn send(
     witness: &[u8],
     master: &[u8],
     part: &mut [u8],
-    tapes: &mut [u8],
     memory: &mut [u8],
 )
-    requires { ⌜ Lent (now s) z (inst .parties) (inst .height) (now tapes) (now memory) × (WitnessFits z (now witness) × ((length (now master) ≡ 16) × ((p < inst .parties) × (length (now part) ≡ stretchBytes (circuitOf (now s)) (inst .parties) (hiding p))))) ⌝ }
+    requires { ⌜ Lent (now s) z (inst .parties) (inst .height) (now memory) × (WitnessFits z (now witness) × ((length (now master) ≡ 16) × ((p < inst .parties) × (length (now part) ≡ stretchBytes (circuitOf (now s)) (inst .parties) (hiding p))))) ⌝ }
     ensures { λ _. ⌜ now (part .exit) ≡ stretchOf (circuitOf (now (s .entry))) (inst .parties) (inst .number) (now (witness .entry)) (now (master .entry)) (hiding p) ⌝ }
-    ensures { λ _. ⌜ now (tapes .exit) ≡ masterTapes (circuitOf (now (s .entry))) (inst .parties) (inst .number) (now (master .entry)) ⌝ }
-    ensures { λ _. ⌜ now (memory .exit) ≡ worked (now (s .entry)) z (inst .parties) (now (witness .entry)) (masterTapes (circuitOf (now (s .entry))) (inst .parties) (inst .number) (now (master .entry))) (replicate (length (now (memory .entry))) 0) ⌝ }
 {
-    let j = inst.number;
-    let n = inst.parties;
-    let h = inst.height;
-    let size = 32 * (n as usize);
-    let a = bits::oct(z.ands);
-    let m = bits::oct(z.inputs);
-    let mut seeds = [0u8; 512];
-    let mut corrections = [0u8; 512];
-    let mut masked = [0u8; 64];
-    from_master(
+    let k = inst.parties as usize;
+    let l = layout(z);
+    let o = bits::oct(z.outputs);
+    let mut y = [0u8; 32];
+    from_master(s, z, inst, master, memory);
+    let third = send_held(z, inst, p, master, memory, part);
+    let fourth = third + bits::oct(z.inputs);
+    run_held(
         s,
         z,
-        inst,
+        k,
         witness,
-        master,
-        &mut seeds[..size],
-        &mut corrections[..a],
-        &mut masked[..m],
-        tapes,
+        &mut part[third..fourth],
+        &mut y[..o],
         memory,
     );
-    let sent = if p + 1 == n { 0 } else { a };
-    let com = commitment(j, n, p, &seeds[..size], &corrections[..a]);
-    let first = 16 * (h as usize);
-    siblings_below(j, 1, h, p, master, &mut part[..first]);
-    let second = put(&corrections[..sent], first, part);
-    let third = put(&com, second, part);
-    let fourth = put(&masked[..m], third, part);
-    pack(
+    pack_row(
         memory,
-        48 * (z.inputs + z.gates) + (p as usize),
+        l,
+        p as usize,
         z.ands + z.outputs,
         &mut part[fourth..],
     );

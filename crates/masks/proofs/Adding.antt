@@ -6,14 +6,16 @@ use Prim.Native.Nat.{ℕ, zero, suc, _+_, _*_, _/_, _%_, _^_, _≤_, _<_}
 use native.Mathlib.Numerals.{add-one}
 use native.Mathlib.Omega.{arith}
 use lib.Bits.{bitXor, xor-mod, xor-shr}
-use lib.ListN.{length, getD, set, drop}
+use lib.ListN.{length, getD, set, drop, length-drop}
 use lib.Seq.{sets, getD-drop, getD-take}
 use Rattle.bits.specs.Bits.{bitVal, testBit, bitAt}
 use Rattle.bits.specs.Bytes.{leAt, leBytes, rowOf}
 use Rattle.bits.proofs.Little.{getD-leBytes, leBytes-add, leBytes-leAt, length-leBytes, pow-bytes, sets-append}
+use Rattle.bits.proofs.Rows.{row-getD}
 use Rattle.words.specs.Steps.{at, fill}
 use Rattle.words.proofs.Fill.{fill-cong, fill-join, fill-none, fill-read, fill-turn}
 use Rattle.masks.specs.Steps.{tapeBit, cleared, added, summed, loaded}
+use Rattle.masks.proofs.Sums.{drop-summed}
 
 -- byte i of a word
 abbrev byte : ℕ → ℕ → ℕ
@@ -42,15 +44,14 @@ sets-fill (suc n) x c m =
     ∙ ap (λ (k : ℕ). sets (sets m c (leBytes n x)) (c + k) (leBytes 1 y)) (length-leBytes n x)
     ∙ ap (λ (t : List ℕ). set t (c + n) (y % 256)) (sets-fill n x c m)
 
--- 8 bytes of a row XORed into the memory as words
-pub word-added : (m row : List ℕ) (k j x y : ℕ) → ((i : ℕ) → getD m i 0 < 256) → ((i : ℕ) → getD row i 0 < 256) → k + 8 ≤ length m → j + 8 ≤ length row
-    → x ≡ leAt 8 m k → y ≡ leAt 8 row j
-    → sets m k (leBytes 8 (bitXor x y)) ≡ fill (λ i. k + i) (λ i. bitXor (at m (k + i)) (at row (j + i))) 8 m
-word-added m row k j x y small smaller h l e d =
+-- 8 bytes of a memory XORed into others of it as words
+pub word-added : (m : List ℕ) (k j x y : ℕ) → ((i : ℕ) → getD m i 0 < 256) → k + 8 ≤ length m → j + 8 ≤ length m → x ≡ leAt 8 m k → y ≡ leAt 8 m j
+    → sets m k (leBytes 8 (bitXor x y)) ≡ fill (λ i. k + i) (λ i. bitXor (at m (k + i)) (at m (j + i))) 8 m
+word-added m k j x y small h l e d =
     sets-fill 8 (bitXor x y) k m
-    ∙ fill-cong (λ i. k + i) (byte (bitXor x y)) (λ i. bitXor (at m (k + i)) (at row (j + i))) m 8
+    ∙ fill-cong (λ i. k + i) (byte (bitXor x y)) (λ i. bitXor (at m (k + i)) (at m (j + i))) m 8
     (λ i q. byte-xor x y i
-    ∙ ap₂ bitXor (ap (λ (z : ℕ). byte z i) e ∙ byte-read 8 m k i small h q) (ap (λ (z : ℕ). byte z i) d ∙ byte-read 8 row j i smaller l q))
+    ∙ ap₂ bitXor (ap (λ (z : ℕ). byte z i) e ∙ byte-read 8 m k i small h q) (ap (λ (z : ℕ). byte z i) d ∙ byte-read 8 m j i small l q))
 
 -- no byte is cleared yet
 pub clear-none : (to : ℕ) (w : List ℕ) → w ≡ cleared to 0 w
@@ -66,46 +67,63 @@ clear-turn to j w m e = fill-turn _ _ w m j (to + j) 0 e refl refl
 abbrev sum : List ℕ → ℕ → List ℕ → ℕ → ℕ
 sum row to w j = bitXor (at w (to + j)) (at row j)
 
-module _ (row : List ℕ) (to : ℕ) (w : List ℕ) where
-  -- no byte is added yet
-  pub add-none : w ≡ added row to 0 w
-  unfolding added
-  add-none = fill-none _ _ w
+-- no byte is added yet
+pub add-none : (row : List ℕ) (to : ℕ) (w : List ℕ) → w ≡ added row to 0 w
+unfolding added
+add-none row to w = fill-none _ _ w
 
+-- a row that stands in the memory from byte a on
+module _ (a to : ℕ) (w : List ℕ) where
   -- a byte that is not added yet
-  add-read : (m : List ℕ) (j i : ℕ) → m ≡ added row to j w → j ≤ i → at m (to + i) ≡ at w (to + i)
+  add-read : (m : List ℕ) (j i : ℕ) → m ≡ added (drop a w) to j w → to + j ≤ i → at m i ≡ at w i
   unfolding added
-  add-read m j i e l = fill-read _ _ w m j (to + i) e (λ u h q. omega arith)
+  add-read m j i e l = fill-read _ _ w m j i e (λ u h q. omega arith)
+
+  -- so is a byte of the row
+  row-read : (m : List ℕ) (j i : ℕ) → m ≡ added (drop a w) to j w → to + j ≤ a → at m (a + i) ≡ at (drop a w) i
+  row-read m j i e l = add-read m j (a + i) e (omega arith) ∙ sym (getD-drop a w i 0)
 
   -- one byte more
-  pub add-turn : (m : List ℕ) (j x y : ℕ) → m ≡ added row to j w → x ≡ getD m (to + j) 0 → y ≡ getD row j 0
-      → set m (to + j) (bitXor x y) ≡ added row to (j + 1) w
+  pub add-turn : (m : List ℕ) (j x y : ℕ) → m ≡ added (drop a w) to j w → to + j ≤ a → x ≡ getD m (to + j) 0 → y ≡ getD m (a + j) 0
+      → set m (to + j) (bitXor x y) ≡ added (drop a w) to (j + 1) w
   unfolding added
-  add-turn m j x y e p q =
-      fill-turn _ (sum row to w) w m j (to + j) (bitXor x y) e refl (ap₂ bitXor (p ∙ add-read m j j e (omega arith)) q)
+  add-turn m j x y e l p q =
+      fill-turn _ (sum (drop a w) to w) w m j (to + j) (bitXor x y) e refl
+      (ap₂ bitXor (p ∙ add-read m j (to + j) e (omega arith)) (q ∙ row-read m j j e l))
 
   -- one word more
-  pub add-word-turn : (m v : List ℕ) (k : ℕ) → m ≡ added row to (8 * k) w
-      → v ≡ fill (λ i. to + 8 * k + i) (λ i. bitXor (at m (to + 8 * k + i)) (at row (8 * k + i))) 8 m → v ≡ added row to (8 * (k + 1)) w
+  pub add-word-turn : (m v : List ℕ) (k : ℕ) → m ≡ added (drop a w) to (8 * k) w → to + 8 * k ≤ a
+      → v ≡ fill (λ i. to + 8 * k + i) (λ i. bitXor (at m (to + 8 * k + i)) (at m (a + 8 * k + i))) 8 m → v ≡ added (drop a w) to (8 * (k + 1)) w
   unfolding added
-  add-word-turn m v k e d =
+  add-word-turn m v k e l d =
       let pos : ℕ → ℕ = λ j. to + j in
-      let f : ℕ → ℕ = sum row to w in
+      let f : ℕ → ℕ = sum (drop a w) to w in
+      let g : ℕ → ℕ = λ i. bitXor (at m (to + 8 * k + i)) (at m (a + 8 * k + i)) in
       let i : 8 * k + 8 ≡ 8 * (k + 1) = omega arith in
-      d
-      ∙ ap (fill (λ i. to + 8 * k + i) (λ i. bitXor (at m (to + 8 * k + i)) (at row (8 * k + i))) 8) e
-      ∙ fill-join pos f (λ i. to + 8 * k + i) (λ i. bitXor (at m (to + 8 * k + i)) (at row (8 * k + i))) w (8 * k) 8 (λ z l. omega arith)
-      (λ z l.
+      d ∙ ap (fill (λ i. to + 8 * k + i) g 8) e
+      ∙ fill-join pos f (λ i. to + 8 * k + i) g w (8 * k) 8 (λ z h. omega arith)
+      (λ z h.
       let p : to + 8 * k + z ≡ to + (8 * k + z) = omega arith in
-      ap (λ (x : ℕ). bitXor x (at row (8 * k + z))) (ap (at m) p ∙ add-read m (8 * k) (8 * k + z) e (omega arith)))
+      let q : a + 8 * k + z ≡ a + (8 * k + z) = omega arith in
+      ap₂ bitXor (ap (at m) p ∙ add-read m (8 * k) (to + (8 * k + z)) e (omega arith)) (ap (at m) q ∙ row-read m (8 * k) (8 * k + z) e l))
       ∙ ap (λ (c : ℕ). fill pos f c w) i
 
--- a row in its own length
-pub row-added : (tapes row m v w : List ℕ) (len to i : ℕ) → row ≡ rowOf tapes len i → length row ≡ len → m ≡ summed tapes len to i w
-    → v ≡ added row to (length row) m → v ≡ summed tapes len to (i + 1) w
-unfolding summed
-row-added tapes row m v w len to i e l d h =
-    h ∙ ap (λ (c : ℕ). added row to c m) l ∙ ap₂ (λ (x y : List ℕ). added x to len y) e d ∙ rw add-one
+-- one row more
+pub row-added : (m v w : List ℕ) (a len to i : ℕ) → to + len ≤ a → a + (i * len + len) ≤ length w → m ≡ summed (drop a w) len to i w
+    → v ≡ added (drop (a + i * len) m) to len m → v ≡ summed (drop a w) len to (i + 1) w
+unfolding summed added
+row-added m v w a len to i l room e h =
+    let row : List ℕ = rowOf (drop a w) len i in
+    let k : ℕ = a + i * len in
+    let same : drop k m ≡ drop k w = ap (drop k) e ∙ drop-summed (drop a w) len to i w k (omega arith) in
+    let fits : i * len + len ≤ length (drop a w) = rw length-drop (omega arith) in
+    h
+    ∙ fill-cong (λ j. to + j) (sum (drop k m) to m) (sum row to m) m len
+    (λ j q.
+    let p : k + j ≡ a + (i * len + j) = omega arith in
+    ap (bitXor (at m (to + j)))
+    (ap (λ (t : List ℕ). at t j) same ∙ getD-drop k w j 0 ∙ ap (at w) p ∙ sym (row-getD (drop a w) len i j fits q ∙ getD-drop a w (i * len + j) 0)))
+    ∙ ap (added row to len) e ∙ rw add-one
 
 -- no row yet
 pub sum-none : (tapes m w : List ℕ) (len to : ℕ) → m ≡ cleared to len w → m ≡ summed tapes len to 0 w

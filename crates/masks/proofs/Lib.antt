@@ -1,5 +1,8 @@
+pub mod Parts
+pub mod Sums
 pub mod Adding
 pub mod Turns
-pub mod Sums
+pub mod Joint
 pub mod Corrects
+pub mod Kept
 pub mod Making

@@ -7,15 +7,18 @@ use Prim.Native.Nat.{ℕ, zero, suc, _+_, _*_, _/_, _%_, _≤_, _<_}
 use native.Mathlib.Nat.{zero-add}
 use native.Mathlib.Omega.{arith}
 use lib.Bits.{bitXor}
-use lib.ListN.{length}
+use lib.ListN.{length, take, drop}
+use lib.Seq.{ext-getD, getD-take, length-take-le}
 use Rattle.bits.specs.Bits.{bitVal, odd, testBit, bitAt}
 use Rattle.bits.specs.Bytes.{rowOf}
 use Rattle.bits.specs.Xor.{_⊕_, xors}
 use Rattle.bits.proofs.Bitwise.{testBit-xor}
 use Rattle.bits.proofs.Numbers.{odd-bitVal, testBit-zero}
+use Rattle.bits.proofs.Rows.{row-fits, row-getD, row-length}
 use Rattle.words.specs.Steps.{at, fill}
 use Rattle.words.proofs.Fill.{fill-at, fill-length, fill-other}
 use Rattle.masks.specs.Steps.{tapeBit, cleared, added, summed, loaded, sumBit}
+use Rattle.masks.proofs.Parts.{drop-fill}
 
 -- a bit of the bytes from `to` on
 bit-place : (m : List ℕ) (to q : ℕ) → bitAt m (tapeBit to q) ≡ testBit (at m (to + q / 8)) (q % 8)
@@ -31,7 +34,7 @@ unfolding bitAt
 bit-byte s q = refl
 
 module _ (to len : ℕ) (m : List ℕ) where
-  clear-length : length (cleared to len m) ≡ length m
+  pub clear-length : length (cleared to len m) ≡ length m
   unfolding cleared
   clear-length = fill-length _ _ m len
 
@@ -99,3 +102,33 @@ module _ (W I : ℕ) (low : I ≤ W) (m : List ℕ) (room : W ≤ length m) wher
   unfolding loaded
   load-other w h l =
       ap odd (fill-other (λ k. k) f c I w (λ u a. omega arith) ∙ ap (at c) (sym (zero-add w)) ∙ clear-at 0 W m w l (omega arith)) ∙ odd-bitVal false
+
+-- the sums are made before place j
+pub drop-summed : (tapes : List ℕ) (len to n : ℕ) (m : List ℕ) (j : ℕ) → to + len ≤ j → drop j (summed tapes len to n m) ≡ drop j m
+unfolding summed added cleared
+drop-summed tapes len to zero m j h = drop-fill _ _ m len j (λ t l. omega arith)
+drop-summed tapes len to (suc n) m j h = drop-fill _ _ (summed tapes len to n m) len j (λ t l. omega arith) ∙ drop-summed tapes len to n m j h
+
+-- so are the inputs' masks
+pub drop-loaded : (W I : ℕ) (m : List ℕ) (j : ℕ) → I ≤ W → W ≤ j → drop j (loaded W I m) ≡ drop j m
+unfolding loaded cleared
+drop-loaded W I m j l h = drop-fill _ _ (cleared 0 W m) I j (λ t q. omega arith) ∙ drop-fill _ _ m W j (λ t q. omega arith)
+
+-- a row among the first n
+row-take : (t : List ℕ) (len n i : ℕ) → i < n → n * len ≤ length t → rowOf (take (n * len) t) len i ≡ rowOf t len i
+row-take t len n i l h =
+    let fits = row-fits n len i l in
+    let size : length (take (n * len) t) ≡ n * len = length-take-le (n * len) t h in
+    let a : length (rowOf (take (n * len) t) len i) ≡ len = row-length (take (n * len) t) len i (omega (arith, fits, size)) in
+    ext-getD 0 (rowOf (take (n * len) t) len i) (rowOf t len i) (a ∙ sym (row-length t len i (omega (arith, fits, h))))
+    (λ k q.
+    let low : k < len = omega (arith, a, q) in
+    row-getD (take (n * len) t) len i k (omega (arith, fits, size)) low ∙ getD-take (n * len) t (i * len + k) 0 (omega (arith, fits, low))
+    ∙ sym (row-getD t len i k (omega (arith, fits, h)) low))
+
+-- the sum of the first i of them
+pub sum-take : (t : List ℕ) (len to n i : ℕ) (m : List ℕ) → i ≤ n → n * len ≤ length t → summed t len to i m ≡ summed (take (n * len) t) len to i m
+unfolding summed
+sum-take t len to n zero m l h = refl
+sum-take t len to n (suc i) m l h =
+    ap₂ (λ (row v : List ℕ). added row to len v) (sym (row-take t len n i l h)) (sum-take t len to n i m (omega arith) h)

@@ -7,7 +7,7 @@ use mathlib.Core.List.{List}
 use Prim.Native.Nat.{ℕ, zero, suc, _+_, _-_, _*_, _≤_}
 use lib.Bits.{bitXor, bitAnd}
 use lib.Dec.{ltb}
-use lib.ListN.{length, set}
+use lib.ListN.{length, set, take, drop}
 use Rattle.bits.specs.Bits.{oct, pack, odd, bitVal, bitAt}
 use Rattle.bits.specs.Bytes.{rowOf}
 use Rattle.bits.specs.Xor.{xors}
@@ -89,24 +89,31 @@ made s masks products (suc k) slot t m cs =
     made s masks products k (nextOf s slot) (t + andOne (gateOf s slot)) (set m (inputsOf s + slot - 1) (maskByte (masks + t) (gateOf s slot) m))
     (corrected (products + t) (gateOf s slot) t m cs)
 
--- the chain of the file s from h on, with memory for its wires and a row, and room for the corrections
-pub record Ready (s : List ℕ) (z : Sizes) (h : ℕ) (m cs : List ℕ) : Type 0 where
+-- the chain of the file s from h on, with memory for its wires and a row, and for the corrections after them, from byte `at` on
+pub record Ready (s : List ℕ) (z : Sizes) (h at : ℕ) (m : List ℕ) : Type 0 where
   pub chained : Chained s (z .inputs) (z .outputs) (z .gates) h
   pub reads : wired s (wireCount z) (z .gates) h
   pub count : ands (gatesFrom s (z .gates) h) ≡ z .ands
   pub few : z .ands ≤ z .gates
-  pub room : wireCount z + rowLength z ≤ length m
-  pub corrections : z .ands ≤ 8 * length cs
+  pub row : wireCount z + rowLength z ≤ at
+  pub room : at + oct (z .ands) ≤ length m
+  pub low : at ≤ 1073741824
 
--- a legal file s with its numbers, the tapes of n parties, and room for the corrections and in the memory
-pub record Lent (s : List ℕ) (z : Sizes) (n : ℕ) (tapes cs m : List ℕ) : Type 0 where
+-- a legal file s with its numbers, and a memory with the tape rows of n parties from byte a on, room for the corrections from byte `at`
+-- on before them, and for the wires and a row before those
+pub record Lent (s : List ℕ) (z : Sizes) (n a at : ℕ) (m : List ℕ) : Type 0 where
   pub legal : Legal s (z .inputs) (z .outputs) (z .gates)
   pub ands : z .ands ≡ ands (gatesInOrder s)
-  pub tapes-fit : length tapes ≡ n * rowLength z
-  pub corrections-fit : length cs ≡ oct (z .ands)
-  pub room : wireCount z + rowLength z ≤ length m
+  pub row : wireCount z + rowLength z ≤ at
+  pub low : at ≤ 1073741824
+  pub corrections : at + oct (z .ands) ≤ a
+  pub tapes : a + n * rowLength z ≤ length m
 
--- the memory when the corrections are made
+-- the tape rows of n parties that stand in the memory from byte a on
+abbrev pub rowsFrom : Sizes → ℕ → ℕ → List ℕ → List ℕ
+rowsFrom z n a m = take (n * rowLength z) (drop a m)
+
+-- the memory's wires and row when the corrections are made
 unfoldable pub worked : List ℕ → Sizes → ℕ → List ℕ → List ℕ → List ℕ
 worked s z n tapes m =
     walked s (masksFrom z) (z .gates) (headOf s) 0 (loaded (wireCount z) (z .inputs) (summed tapes (rowLength z) (wireCount z) n m))

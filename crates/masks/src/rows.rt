@@ -2,7 +2,7 @@
 ghost use mathlib.Core.Path.{_≡_};
 ghost use Prim.Native.Nat.{_+_, _*_, _/_, _≤_};
 ghost use lib.Bits.{bitXor};
-ghost use lib.ListN.{length};
+ghost use lib.ListN.{length, drop};
 ghost use Rattle.words.specs.Steps.{at, fill};
 ghost use Rattle.masks.specs.Steps.{cleared, added, summed};
 
@@ -18,51 +18,50 @@ pub(crate) fn clear_part(memory: &mut [u8], to: usize, len: usize)
     }
 }
 
-// XORs the 8 bytes of the row from j on into those of the memory from k on.
-fn add_word(row: &[u8], j: usize, memory: &mut [u8], k: usize)
-    requires { ⌜ (j + 8 ≤ length (now row)) × (k + 8 ≤ length (now memory)) ⌝ }
-    ensures { λ _. ⌜ now (memory .exit) ≡ fill (λ i. k + i) (λ i. bitXor (at (now (memory .entry)) (k + i)) (at (now (row .entry)) (j + i))) 8 (now (memory .entry)) ⌝ }
+// XORs the 8 bytes of the memory from j on into those from k on, which stand before them.
+fn add_word(memory: &mut [u8], j: usize, k: usize)
+    requires { ⌜ (k + 8 ≤ j) × (j + 8 ≤ length (now memory)) ⌝ }
+    ensures { λ _. ⌜ now (memory .exit) ≡ fill (λ i. k + i) (λ i. bitXor (at (now (memory .entry)) (k + i)) (at (now (memory .entry)) (j + i))) 8 (now (memory .entry)) ⌝ }
 {
-    let x = bits::read_u64(memory, k) ^ bits::read_u64(row, j);
+    let x = bits::read_u64(memory, k) ^ bits::read_u64(memory, j);
     bits::write_u64(memory, k, x);
 }
 
-// XORs the whole words of a row into the memory, from `to` on.
-fn add_words(row: &[u8], memory: &mut [u8], to: usize)
-    requires { ⌜ to + length (now row) ≤ length (now memory) ⌝ }
-    ensures { λ _. ⌜ now (memory .exit) ≡ added (now (row .entry)) to (8 * (length (now (row .entry)) / 8)) (now (memory .entry)) ⌝ }
+// XORs the whole words of a row of len bytes, from byte a of the memory on, into those from `to` on.
+fn add_words(memory: &mut [u8], a: usize, len: usize, to: usize)
+    requires { ⌜ (to + len ≤ a) × (a + len ≤ length (now memory)) ⌝ }
+    ensures { λ _. ⌜ now (memory .exit) ≡ added (drop a (now (memory .entry))) to (8 * (len / 8)) (now (memory .entry)) ⌝ }
 {
-    let words = row.len() / 8;
+    let words = len / 8;
     let mut k = 0;
     while k < words {
-        add_word(row, 8 * k, memory, to + 8 * k);
+        add_word(memory, a + 8 * k, to + 8 * k);
         k += 1;
     }
 }
 
-// XORs a row into the memory, from `to` on.
-fn add_row(row: &[u8], memory: &mut [u8], to: usize)
-    requires { ⌜ to + length (now row) ≤ length (now memory) ⌝ }
-    ensures { λ _. ⌜ now (memory .exit) ≡ added (now (row .entry)) to (length (now (row .entry))) (now (memory .entry)) ⌝ }
+// XORs a row of len bytes, from byte a of the memory on, into the bytes from `to` on.
+fn add_row(memory: &mut [u8], a: usize, len: usize, to: usize)
+    requires { ⌜ (to + len ≤ a) × (a + len ≤ length (now memory)) ⌝ }
+    ensures { λ _. ⌜ now (memory .exit) ≡ added (drop a (now (memory .entry))) to len (now (memory .entry)) ⌝ }
 {
-    add_words(row, memory, to);
-    let mut j = 8 * (row.len() / 8);
-    while j < row.len() {
-        memory[to + j] = memory[to + j] ^ row[j];
+    add_words(memory, a, len, to);
+    let mut j = 8 * (len / 8);
+    while j < len {
+        memory[to + j] = memory[to + j] ^ memory[a + j];
         j += 1;
     }
 }
 
-// Brings the XOR of the n rows of the tapes, of len bytes each, into the memory, from `to` on.
-pub fn add_rows(tapes: &[u8], len: usize, n: usize, memory: &mut [u8], to: usize)
-    requires { ⌜ (n * len ≤ length (now tapes)) × (to + len ≤ length (now memory)) ⌝ }
-    ensures { λ _. ⌜ now (memory .exit) ≡ summed (now (tapes .entry)) len to n (now (memory .entry)) ⌝ }
+// Brings the XOR of n rows of len bytes, the first from byte a of the memory on, into the bytes from `to` on.
+pub fn add_rows(memory: &mut [u8], a: usize, len: usize, n: usize, to: usize)
+    requires { ⌜ (to + len ≤ a) × (a + n * len ≤ length (now memory)) ⌝ }
+    ensures { λ _. ⌜ now (memory .exit) ≡ summed (drop a (now (memory .entry))) len to n (now (memory .entry)) ⌝ }
 {
     clear_part(memory, to, len);
     let mut i = 0;
     while i < n {
-        let row = bits::row(tapes, len, i);
-        add_row(row, memory, to);
+        add_row(memory, a + i * len, len, to);
         i += 1;
     }
 }

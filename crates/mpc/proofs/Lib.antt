@@ -1,13 +1,6 @@
-pub mod Holding
-pub mod StepBits
-pub mod WalkBits
-pub mod Correcting
-pub mod Loads
-pub mod Packs
-pub mod Agreement
 pub mod Opened
-pub mod Tested
 pub mod Asks
-pub mod Worked
+pub mod Places
+pub mod Tested
 pub mod Prepared
 pub mod Ran

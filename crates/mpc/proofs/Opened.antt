@@ -1,17 +1,12 @@
 -- A file that reads as legal: its circuit in the numbers that the code carries; and a file that is refused.
 -- Assumes nothing.
-use mathlib.Core.Path.{_≡_, refl, sym, ap, ap₂, _∙_}
-use mathlib.Core.Bool.{true}
+use mathlib.Core.Path.{_≡_, sym, ap, ap₂, _∙_}
 use mathlib.Core.List.{List, [], _∷_}
 use Prim.Native.Nat.{ℕ, _+_, _*_, _≤_}
 use native.Mathlib.Omega.{arith}
-use borrow.Author.Tests.{ltb-true}
-use lib.Dec.{ltb}
-use lib.ListN.{length, replicate, length-replicate}
-use Rattle.circuit.specs.Steps.{walks, gatesFrom, goodOutputs}
+use lib.ListN.{length}
 use Rattle.bits.specs.Bits.{oct}
 use Rattle.bits.proofs.Tabulate.{length-tabulate}
-use Rattle.bits.proofs.Tests.{and-true-left, and-true-right}
 use Rattle.refusal.specs.Refusal.{numberOf}
 use Rattle.refusal.specs.declared.Refusal.{Refusal}
 use Rattle.refusal.specs.Outcome.{refusalAt, success}
@@ -19,7 +14,7 @@ use Rattle.parties.specs.Parties.{heightOf}
 use Rattle.parties.proofs.Counts.{sizes}
 use Rattle.circuit.specs.Circuit.{Gate, xor, and, inv, ands}
 use Rattle.circuit.specs.Fields as fields
-use Rattle.circuit.specs.File.{inputsOf, outputsOf, gatesOf, headOf, outputWire, readsWritten, gatesInOrder, circuitOf, refused, legal, readCircuit}
+use Rattle.circuit.specs.File.{inputsOf, outputsOf, gatesOf, outputWire, gatesInOrder, circuitOf, refused, legal, readCircuit}
 use Rattle.circuit.specs.Operations.{readOp}
 use Rattle.circuit.specs.Answers.{readPaper}
 use Rattle.circuit.specs.declared.Sizes.{Sizes}
@@ -27,10 +22,8 @@ use Rattle.circuit.specs.declared.ReadAnswer.{ReadAnswer}
 use Rattle.circuit.specs.declared.ReadAnswer.the-variants as readAnswer
 use Rattle.circuit.proofs.Answered.{gates-count, read-legal, read-success, refusal-refused}
 use Rattle.circuit.proofs.Outcomes.{legal-passed, legal-sizes}
-use Rattle.circuit.proofs.Run.{wired-reads, goodChain-walks, gates-order}
-use Rattle.engine.specs.Steps.{wireCount, Room, Ready, Ended}
 use Rattle.plain.specs.Tapes.{andsOf, rowBytes}
-use Rattle.mpc.specs.Steps.{Known, Parties, Begun}
+use Rattle.mpc.specs.Steps.{Known, Parties}
 
 -- the numbers that the code carries, in one
 abbrev pub sized : ℕ → ℕ → ℕ → ℕ → Sizes
@@ -59,12 +52,6 @@ module _ (s : List ℕ) (z : Sizes) (r : ReadAnswer) (p : r ≡ readAnswer.Legal
 -- a party count
 pub counted : (n h : ℕ) → h ≡ heightOf n → (h ≡ 0 → ⊥) → Parties n
 counted n h e more = let z = sizes n (λ q. more (e ∙ q)) in record { some = omega (arith, z .some); few = z .few }
-
--- a clear work memory of b bytes
-pub begun : (z : Sizes) (n b : ℕ) (m : List ℕ) → Parties n → m ≡ replicate b 0 → 64 * wireCount z + 4096 ≤ b → Begun z n m
-begun z n b m p e l =
-    let q : length m ≡ b = ap length e ∙ length-replicate {A = ℕ} b 0 in
-    record { parties = p; room = omega (arith, q, l); clear = e ∙ ap (λ (j : ℕ). replicate j 0) (sym q) }
 
 -- AND gates are gates
 ands-le : (gs : List Gate) → ands gs ≤ length gs
@@ -99,39 +86,3 @@ module _ (s : List ℕ) (i o g a : ℕ) (k : Known s (sized i o g a)) where
   -- A is at most G
   pub ands-low : a ≤ g
   ands-low = omega (arith, ands-le (gatesInOrder s), gates-count s, k .legal .laid .gates, k .ands)
-
-  -- the parts of the test of wires
-  wires-parts : (readsWritten (λ w. ltb w (inputsOf s)) (gatesInOrder s) ≡ true) × (goodOutputs s (outputsOf s) ≡ true)
-  unfolding fields.goodWires
-  wires-parts =
-      let r = readsWritten (λ w. ltb w (inputsOf s)) (gatesInOrder s) in
-      (and-true-left r (goodOutputs s (outputsOf s)) (k .legal .wires), and-true-right r (goodOutputs s (outputsOf s)) (k .legal .wires))
-
-  -- what the engine's steps ask of a work memory m: for the planes
-  module _ (n : ℕ) (m : List ℕ) (parties : Parties n) (large : 64 * (i + g) + 4096 ≤ length m) where
-    pub room : Room (i + g) n m
-    room = record { wires = omega (arith, k .legal .laid .few-inputs, k .legal .laid .few-gates); some = parties .some; few = parties .few; room = large }
-
-    -- for the walk
-    pub ready : (h : ℕ) → h ≡ headOf s → Ready s (sized i o g a) h n m
-    ready h p =
-        let c : walks s g h ≡ true = ap₂ (walks s) (k .legal .laid .gates) p ∙ goodChain-walks s (k .legal .chain) in
-        let r : readsWritten (λ w. ltb w (inputsOf s)) (gatesFrom s g h) ≡ true
-        = ap (readsWritten (λ w. ltb w (inputsOf s))) (ap₂ (gatesFrom s) (k .legal .laid .gates) p ∙ gates-order s) ∙ wires-parts .0 in
-        let f : inputsOf s + gatesOf s ≤ i + g = omega (arith, k .legal .laid .inputs, k .legal .laid .gates) in
-        record {
-          memory = room;
-          chained = record { laid = k .legal .laid; chain = c };
-          reads = wired-reads s (i + g) g h (λ w. ltb w (inputsOf s)) (λ w q. omega (arith, ltb-true w (inputsOf s) q, f)) f c r;
-        }
-
-    -- for the outputs
-    pub ended : (y : List ℕ) → 4096 ≤ length y → Ended s (sized i o g a) n m y
-    ended y p =
-        record {
-          memory = room;
-          laid = k .legal .laid;
-          ands = omega (arith, ands-low);
-          outputs = ap (goodOutputs s) (k .legal .laid .outputs) ∙ wires-parts .1;
-          room = p;
-        }

@@ -1,4 +1,4 @@
--- What prepare answers and leaves: the corrections by the masks, and each refusal.
+-- What prepare answers and leaves: the corrections, and each refusal.
 -- Assumes nothing.
 use mathlib.Core.Path.{_≡_, sym, ap, ap₂, _∙_}
 use mathlib.Core.Bool.{Bool, true, false, not, _&&_}
@@ -18,20 +18,13 @@ use Rattle.circuit.specs.declared.Sizes.{Sizes}
 use Rattle.circuit.specs.declared.ReadAnswer.{ReadAnswer}
 use Rattle.circuit.specs.declared.ReadAnswer.the-variants as readAnswer
 use Rattle.circuit.proofs.Answered.{fell, held}
-use Rattle.masks.specs.Steps.{correctionsOf}
 use Rattle.plain.specs.Tapes.{andsOf, unusedRows}
 use Rattle.plain.specs.Showing.{correctionBits}
-use Rattle.packing.proofs.Prepared.{corrections-prepared}
 use Rattle.mpc.specs.Operations.{holdsRows, tapeBits, prepareLegal, prepareOp}
 use Rattle.mpc.specs.Answers.{outcome}
-use Rattle.mpc.specs.Steps.{Known, PrepareLent}
+use Rattle.mpc.specs.Steps.{Known}
 use Rattle.mpc.specs.declared.Answer.the-variants.{Done, Refused}
 use Rattle.mpc.proofs.Opened.{sized, opened-refused, opened-legal, circuit-inputs, circuit-ands}
-
--- the corrections by the masks are those of the tapes
-pub prepare-made : (s : List ℕ) (z : Sizes) (n : ℕ) (tapes out x : List ℕ) → PrepareLent s z n tapes out → x ≡ correctionsOf s z n tapes
-    → x ≡ pack (correctionBits (circuitOf s) n tapes)
-prepare-made s z n tapes out x p e = e ∙ corrections-prepared s z (p .known .legal) (p .known .ands) n tapes (p .parties .some) (p .unused)
 
 -- the answers on a legal file
 module _ (s : List ℕ) (i o g a : ℕ) (k : Known s (sized i o g a)) (n h : ℕ) (tapes out : List ℕ) (count : h ≡ heightOf n) where

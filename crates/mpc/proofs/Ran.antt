@@ -7,7 +7,7 @@ use Prim.Native.Nat.{ℕ, _+_, _*_}
 use borrow.Author.Tests.{eqb-true, not-false}
 use lib.Dec.{eqb}
 use lib.ListN.{length}
-use Rattle.bits.specs.Bits.{oct, unusedZero}
+use Rattle.bits.specs.Bits.{oct, pack, bitAt, unusedZero}
 use Rattle.bits.proofs.Tests.{and-true-left, and-true-right}
 use Rattle.refusal.specs.declared.Refusal.{Refusal}
 use Rattle.refusal.specs.declared.Refusal.the-variants.{BufferLength, UnusedBits, Parameter}
@@ -21,11 +21,33 @@ use Rattle.circuit.specs.declared.ReadAnswer.{ReadAnswer}
 use Rattle.circuit.specs.declared.ReadAnswer.the-variants as readAnswer
 use Rattle.circuit.proofs.Answered.{fell, held}
 use Rattle.plain.specs.Tapes.{andsOf, unusedRows}
+use Rattle.plain.specs.Showing.{maskedInputs, runOn, rowsOf}
+use Rattle.walk.specs.Steps.{layoutOf}
+use Rattle.packed.specs.Steps.{broadcastBytes, tapesHeld, correctionsHeld, ranMemory, rowsSent}
+use Rattle.packed.proofs.Runs.{rows-ran}
 use Rattle.mpc.specs.Operations.{ran, runLegal, runOp}
 use Rattle.mpc.specs.Answers.{outcome}
-use Rattle.mpc.specs.Steps.{Known, WitnessFits, RunLent}
+use Rattle.mpc.specs.Steps.{Known, Working, TapesFit, RunLent, withBoth}
 use Rattle.mpc.specs.declared.Answer.the-variants.{Done, Refused}
 use Rattle.mpc.proofs.Opened.{sized, opened-refused, opened-legal, circuit-inputs, circuit-outputs, circuit-ands}
+use Rattle.mpc.proofs.Places.{working-kept, memory-held, placed, both-length, both-tapes, both-corrections}
+
+-- what the run in a work memory leaves: m1 the memory with the tapes and the corrections brought in, m2 the memory after the run
+pub run-made : (s : List ℕ) (z : Sizes) (n : ℕ) (tapes corr w m : List ℕ) → Known s z → Working z n m → TapesFit z n tapes → length corr ≡ oct (z .ands)
+    → (m1 m2 masked rows y : List ℕ) → m1 ≡ withBoth z tapes corr m → masked ≡ maskedInputs (circuitOf s) n w (tapesHeld z n m1)
+    → y ≡ pack (runOn (circuitOf s) n w (tapesHeld z n m1) (bitAt (correctionsHeld z m1)) .output) → m2 ≡ ranMemory s z n w m1
+    → rows ≡ rowsSent (layoutOf z) n (broadcastBytes z) m2 → masked ∷ rows ∷ y ∷ [] ≡ ran (circuitOf s) n w tapes corr
+unfolding ran
+run-made s z n tapes corr w m k b fit fits m1 m2 masked rows y e1 em ey e2 er =
+    let c = circuitOf s in
+    let p = placed s z n k m b in
+    let t : tapesHeld z n m1 ≡ tapes = ap (tapesHeld z n) e1 ∙ both-tapes z n tapes m p fit corr fits in
+    let a : correctionsHeld z m1 ≡ corr = ap (correctionsHeld z) e1 ∙ both-corrections z n tapes m p fit corr fits in
+    let h = memory-held s z n k m1 (working-kept z n m m1 (ap length e1 ∙ both-length z n tapes m p fit corr fits) b) in
+    let rs = er ∙ ap (rowsSent (layoutOf z) n (broadcastBytes z)) e2 ∙ rows-ran s z n m1 h w in
+    ap₂ _∷_ (em ∙ ap (maskedInputs c n w) t)
+    (ap₂ (λ (x y : List ℕ). x ∷ y ∷ []) (rs ∙ ap₂ (λ (x y : List ℕ). rowsOf n (runOn c n w x (bitAt y))) t a)
+    (ey ∙ ap₂ (λ (x y : List ℕ). pack (runOn c n w x (bitAt y) .output)) t a))
 
 -- six tests that hold together
 six : (b1 b2 b3 b4 b5 b6 : Bool) → b1 && b2 && b3 && b4 && b5 && b6 ≡ true
@@ -111,14 +133,6 @@ module _ (s : List ℕ) (i o g a : ℕ) (k : Known s (sized i o g a)) (n h : ℕ
       unfolding runLegal
       run-done u p q x z =
           ap (outcome Done) z ∙ rw (count-yes n (λ z. more (count ∙ z)), held _ r (e ∙ lengths-right) t, held _ b5 unused-right u)
-
-      -- the witness is as stated
-      pub run-witness : not b5 ≡ false → WitnessFits (sized i o g a) w
-      run-witness u =
-          record {
-            size = run-lent-fits t .0;
-            unused = sym f1 ∙ and-true-left b1 b2 (sym f3 ∙ and-true-left b3 b4 (sym f5 ∙ not-false b5 u));
-          }
 
 -- the file is read first
 module _ (s : List ℕ) (n : ℕ) (w tapes corr masked rows y : List ℕ) (r : ReadAnswer) (e : readPaper r ≡ readOp s) where

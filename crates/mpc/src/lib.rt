@@ -1,8 +1,8 @@
 // A circuit run by n parties on masked values: preparing the corrections, and the run.
+pub mod holding;
 pub mod preparing;
 pub mod running;
 pub mod tests;
-pub mod working;
 
 use refusal::Refusal;
 

@@ -1,16 +1,17 @@
 // Preparing the corrections of the AND gates from the tapes.
 ghost use mathlib.Core.Path.{_≡_};
 ghost use mathlib.Core.List.{[], _∷_};
-ghost use Prim.Native.Nat.{_+_, _≤_};
+ghost use Prim.Native.Nat.{_≤_};
 ghost use lib.ListN.{length};
 ghost use Rattle.bits.specs.Bits.{pack};
 ghost use Rattle.circuit.specs.File.{circuitOf};
-ghost use Rattle.masks.specs.Steps.{wireCount, rowLength};
 ghost use Rattle.plain.specs.Showing.{correctionBits};
 ghost use Rattle.mpc.specs.Operations.{prepareLegal, prepareOp};
 ghost use Rattle.mpc.specs.Answers.{outcome};
-ghost use Rattle.mpc.specs.Steps.{Known, PrepareLent, prepared};
+ghost use Rattle.mpc.specs.Steps.{Known, TapesFit, Working, workBytes, PrepareLent, prepared};
 use crate::Answer;
+use crate::holding::give_corrections;
+use crate::holding::hold_tapes;
 use crate::tests::both;
 use crate::tests::holds;
 use crate::tests::holds_rows;
@@ -19,36 +20,42 @@ use circuit::ReadAnswer;
 use circuit::Sizes;
 use circuit::reading::read;
 use masks::chain::make_corrections;
+use planes::places::corrections_at;
+use planes::places::rows_at;
 use refusal::Refusal;
+use walk::layout;
 
-// Makes the corrections in a work memory.
-pub fn prepare_in(
-    s: &[u8],
-    z: Sizes,
-    n: usize,
-    tapes: &[u8],
-    corrections: &mut [u8],
-    memory: &mut [u8],
-)
-    requires { ⌜ PrepareLent (now s) z n (now tapes) (now corrections) × (wireCount z + rowLength z ≤ length (now memory)) ⌝ }
-    ensures { λ _. ⌜ now (corrections .exit) ≡ pack (correctionBits (circuitOf (now (s .entry))) n (now (tapes .entry))) ⌝ }
+// Brings the tapes into a work memory and makes the corrections there.
+pub fn prepare_held(s: &[u8], z: Sizes, n: usize, tapes: &[u8], memory: &mut [u8])
+    requires { ⌜ Known (now s) z × (Working z n (now memory) × TapesFit z n (now tapes)) ⌝ }
     ensures { λ _. ⌜ now (memory .exit) ≡ prepared (now (s .entry)) z n (now (tapes .entry)) (now (memory .entry)) ⌝ }
 {
-    make_corrections(s, z, n, tapes, corrections, memory);
+    let l = layout(z);
+    let at = corrections_at(l);
+    let rows = rows_at(l);
+    hold_tapes(z, n, tapes, memory);
+    make_corrections(s, z, n, rows, at, memory);
 }
 
-// The same with a work memory of its own.
-fn prepare_with(s: &[u8], z: Sizes, n: usize, tapes: &[u8], corrections: &mut [u8])
-    requires { ⌜ PrepareLent (now s) z n (now tapes) (now corrections) ⌝ }
+// Makes the corrections in a work memory.
+fn prepare_in(s: &[u8], z: Sizes, n: usize, tapes: &[u8], corrections: &mut [u8], memory: &mut [u8])
+    requires { ⌜ Known (now s) z × (Working z n (now memory) × PrepareLent (now s) z n (now tapes) (now corrections)) ⌝ }
     ensures { λ _. ⌜ now (corrections .exit) ≡ pack (correctionBits (circuitOf (now (s .entry))) n (now (tapes .entry))) ⌝ }
 {
-    let mut memory = [0u8; 5696];
-    prepare_in(s, z, n, tapes, corrections, &mut memory);
+    prepare_held(s, z, n, tapes, memory);
+    give_corrections(z, n, memory, corrections);
 }
 
 // Tests what is lent, and makes the corrections of a legal circuit.
-fn prepare_lent(s: &[u8], z: Sizes, n: u32, tapes: &[u8], corrections: &mut [u8]) -> Answer
-    requires { ⌜ Known (now s) z ⌝ }
+fn prepare_lent(
+    s: &[u8],
+    z: Sizes,
+    n: u32,
+    tapes: &[u8],
+    corrections: &mut [u8],
+    memory: &mut [u8],
+) -> Answer
+    requires { ⌜ Known (now s) z × (workBytes z ≤ length (now memory)) ⌝ }
     ensures { λ r. ⌜ outcome r (now (corrections .exit) ∷ []) ≡ prepareLegal n (now (tapes .entry)) (now (corrections .entry)) (circuitOf (now (s .entry))) ⌝ }
 {
     if parties::height(n) == 0 {
@@ -64,7 +71,7 @@ fn prepare_lent(s: &[u8], z: Sizes, n: u32, tapes: &[u8], corrections: &mut [u8]
     if !unused_rows(s, z, k, tapes) {
         return Answer::Refused(Refusal::UnusedBits);
     }
-    prepare_with(s, z, k, tapes, corrections);
+    prepare_in(s, z, k, tapes, corrections, memory);
     Answer::Done
 }
 
@@ -72,9 +79,10 @@ fn prepare_lent(s: &[u8], z: Sizes, n: u32, tapes: &[u8], corrections: &mut [u8]
 pub fn prepare(s: &[u8], n: u32, tapes: &[u8], corrections: &mut [u8]) -> Answer
     ensures { λ r. ⌜ outcome r (now (corrections .exit) ∷ []) ≡ prepareOp (now (s .entry)) n (now (tapes .entry)) (now (corrections .entry)) ⌝ }
 {
+    let mut memory = [0u8; 299008];
     let answer = read(s);
     match answer {
         ReadAnswer::Refused(k, _) => Answer::Refused(k),
-        ReadAnswer::Legal(z) => prepare_lent(s, z, n, tapes, corrections),
+        ReadAnswer::Legal(z) => prepare_lent(s, z, n, tapes, corrections, &mut memory),
     }
 }

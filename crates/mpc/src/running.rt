@@ -9,20 +9,18 @@ ghost use Rattle.bits.specs.Bits.{oct};
 ghost use Rattle.circuit.specs.File.{maxInputs, maxOutputs, maxGates, circuitOf};
 ghost use Rattle.mpc.specs.Operations.{ran, runLegal, runOp};
 ghost use Rattle.mpc.specs.Answers.{outcome};
-ghost use Rattle.mpc.specs.Steps.{Known, Parties, Begun, WitnessFits, RunLent};
+ghost use Rattle.mpc.specs.Steps.{Known, Working, workBytes, RunLent};
 use crate::Answer;
+use crate::holding::hold;
 use crate::tests::both;
 use crate::tests::holds;
 use crate::tests::holds_rows;
 use crate::tests::unused_rows;
-use crate::working::load;
-use crate::working::run_masked;
 use circuit::ReadAnswer;
 use circuit::Sizes;
 use circuit::reading::read;
-use engine::memory::pack;
-use engine::memory::pack_rows;
-use engine::memory::unpack;
+use packed::running::give_rows;
+use packed::running::run_held;
 use refusal::Refusal;
 
 // Runs the circuit in a work memory.
@@ -38,47 +36,12 @@ fn run_in(
     y: &mut [u8],
     memory: &mut [u8],
 )
-    requires { ⌜ Known (now s) z × (Begun z n (now memory) × (WitnessFits z (now witness) × RunLent z n (now tapes) (now corrections) (now masked) (now rows) (now y))) ⌝ }
+    requires { ⌜ Known (now s) z × (Working z n (now memory) × ((length (now witness) ≡ oct (z .inputs)) × RunLent z n (now tapes) (now corrections) (now masked) (now rows) (now y))) ⌝ }
     ensures { λ _. ⌜ now (masked .exit) ∷ now (rows .exit) ∷ now (y .exit) ∷ [] ≡ ran (circuitOf (now (s .entry))) n (now (witness .entry)) (now (tapes .entry)) (now (corrections .entry)) ⌝ }
 {
-    let wires = z.inputs + z.gates;
-    let broadcasts = z.ands + z.outputs;
-    let mut values = [0u8; 4096];
-    load(s, z, n, tapes, memory);
-    unpack(corrections, 0, z.ands, memory, 48 * wires + (n - 1));
-    run_masked(s, z, n, witness, false, masked, memory, &mut values);
-    pack_rows(memory, wires, n, broadcasts, bits::oct(broadcasts), rows);
-    pack(&values, 0, z.outputs, y);
-}
-
-// The same with a work memory of its own.
-fn run_with(
-    s: &[u8],
-    z: Sizes,
-    n: usize,
-    witness: &[u8],
-    tapes: &[u8],
-    corrections: &[u8],
-    masked: &mut [u8],
-    rows: &mut [u8],
-    y: &mut [u8],
-)
-    requires { ⌜ Known (now s) z × (Parties n × (WitnessFits z (now witness) × RunLent z n (now tapes) (now corrections) (now masked) (now rows) (now y))) ⌝ }
-    ensures { λ _. ⌜ now (masked .exit) ∷ now (rows .exit) ∷ now (y .exit) ∷ [] ≡ ran (circuitOf (now (s .entry))) n (now (witness .entry)) (now (tapes .entry)) (now (corrections .entry)) ⌝ }
-{
-    let mut memory = [0u8; 299008];
-    run_in(
-        s,
-        z,
-        n,
-        witness,
-        tapes,
-        corrections,
-        masked,
-        rows,
-        y,
-        &mut memory,
-    );
+    hold(z, n, tapes, corrections, memory);
+    run_held(s, z, n, witness, masked, y, memory);
+    give_rows(z, n, memory, rows);
 }
 
 // Whether the lengths of what run is lent are as stated.
@@ -120,8 +83,9 @@ fn run_lent(
     masked: &mut [u8],
     rows: &mut [u8],
     y: &mut [u8],
+    memory: &mut [u8],
 ) -> Answer
-    requires { ⌜ Known (now s) z ⌝ }
+    requires { ⌜ Known (now s) z × (workBytes z ≤ length (now memory)) ⌝ }
     ensures { λ r. ⌜ outcome r (now (masked .exit) ∷ now (rows .exit) ∷ now (y .exit) ∷ []) ≡ runLegal n (now (witness .entry)) (now (tapes .entry)) (now (corrections .entry)) (now (masked .entry)) (now (rows .entry)) (now (y .entry)) (circuitOf (now (s .entry))) ⌝ }
 {
     if parties::height(n) == 0 {
@@ -138,7 +102,18 @@ fn run_lent(
     if !both(clean, bits::unused_zero(corrections, z.ands)) {
         return Answer::Refused(Refusal::UnusedBits);
     }
-    run_with(s, z, k, witness, tapes, corrections, masked, rows, y);
+    run_in(
+        s,
+        z,
+        k,
+        witness,
+        tapes,
+        corrections,
+        masked,
+        rows,
+        y,
+        memory,
+    );
     Answer::Done
 }
 
@@ -155,9 +130,21 @@ pub fn run(
 ) -> Answer
     ensures { λ r. ⌜ outcome r (now (masked .exit) ∷ now (rows .exit) ∷ now (y .exit) ∷ []) ≡ runOp (now (s .entry)) n (now (witness .entry)) (now (tapes .entry)) (now (corrections .entry)) (now (masked .entry)) (now (rows .entry)) (now (y .entry)) ⌝ }
 {
+    let mut memory = [0u8; 299008];
     let answer = read(s);
     match answer {
         ReadAnswer::Refused(k, _) => Answer::Refused(k),
-        ReadAnswer::Legal(z) => run_lent(s, z, n, witness, tapes, corrections, masked, rows, y),
+        ReadAnswer::Legal(z) => run_lent(
+            s,
+            z,
+            n,
+            witness,
+            tapes,
+            corrections,
+            masked,
+            rows,
+            y,
+            &mut memory,
+        ),
     }
 }

@@ -33,7 +33,7 @@ pub fn holds(s: &[u8], k: usize) -> bool
 
 // Whether s has n rows for k bits each.
 pub fn holds_rows(s: &[u8], n: usize, k: usize) -> bool
-    requires { ⌜ (n ≤ 16) × (k ≤ 65536) ⌝ }
+    requires { ⌜ (n ≤ 16) × (k ≤ 4194304) ⌝ }
     ensures { λ r. ⌜ r ≡ eqb (length (now (s .entry))) (n * oct k) ⌝ }
 {
     s.len() == n * bits::oct(k)
@@ -41,7 +41,7 @@ pub fn holds_rows(s: &[u8], n: usize, k: usize) -> bool
 
 // The bits that party i of n uses of its row.
 pub fn used_bits(inputs: usize, ands: usize, n: usize, i: usize) -> usize
-    requires { ⌜ (inputs ≤ 65536) × ((ands ≤ 65536) × (i ≤ 65536)) ⌝ }
+    requires { ⌜ (inputs ≤ 4194304) × ((ands ≤ 4194304) × (i ≤ 4194304)) ⌝ }
     ensures { λ r. ⌜ r ≡ cond (eqb (suc i) n) (inputs + ands) (inputs + 2 * ands) ⌝ }
 {
     if i + 1 == n {

@@ -1,2 +1,4 @@
 pub mod Loads
+pub mod Rows
+pub mod Kept
 pub mod Runs

@@ -4,27 +4,27 @@ use mathlib.Core.Path.{_≡_, refl, sym, ap, ap₂, _∙_}
 use mathlib.Core.Bool.{Bool, cond}
 use mathlib.Core.List.{List}
 use mathlib.Core.Logic.{_⊎_, inl, inr, ⊎-elim}
-use Prim.Native.Nat.{ℕ, zero, suc, _+_, _-_, _*_, _/_, _^_, _≤_, _<_}
+use Prim.Native.Nat.{ℕ, zero, suc, _+_, _-_, _*_, _^_, _≤_, _<_}
 use native.Mathlib.Nat.{lt-of-lt-of-le}
 use native.Mathlib.Numerals.{add-one}
 use native.Mathlib.Omega.{arith}
 use borrow.Author.Tests.{eq-eqb, ne-eqb}
 use lib.Bits.{bitXor}
 use lib.Dec.{eqb}
-use lib.ListN.{length, length-set}
+use lib.ListN.{length, take, drop}
 use lib.Pow.{pow-mono, pow-pos}
 use lib.Seq.{sets}
-use Rattle.bits.specs.Bits.{testBit, fromBits, bitVal, bitAt, odd}
+use Rattle.bits.specs.Bits.{oct, testBit, fromBits, bitVal, bitAt, odd}
 use Rattle.bits.specs.Bytes.{leAt, leBytes, rowOf}
 use Rattle.bits.proofs.Numbers.{eq-or-ne, lt-or-le, fromBits-lt, odd-bitVal}
 use Rattle.bits.specs.Xor.{_⊕_}
 use Rattle.bits.proofs.Bitwise.{odd-xor}
 use Rattle.words.specs.Words.{parity, every, place, chosen}
 use Rattle.words.proofs.Columns.{chosen-lt, every-lt, word-put}
-use Rattle.words.proofs.Fill.{fill-length}
-use Rattle.planes.specs.Steps.{tapeWords, shareAt, tapeAt, maskedAt, broadcastWord, planesEnd, share, tape, masked, putShare, putTape, putMasked, cleared, clearedTapes, loadedWords, loadedGroups, loadedTapes, putBits, putParty}
+use Rattle.planes.specs.Steps.{tapeWords, tapeAt, broadcastWord, planesEnd, correctionsAt, rowsAt, share, tape, masked, putShare, putTape, putMasked, loadedTapes, loadedRows, putBits, putParty}
 use Rattle.planes.specs.declared.Layout.{Layout}
-use Rattle.planes.proofs.Views.{word-length, share-share, tape-share, masked-share, share-tape, tape-tape, masked-tape, share-masked, tape-masked, masked-masked, tape-word, tape-beyond}
+use Rattle.planes.proofs.Held.{loaded-length, loaded-held, party-length, share-length, tape-length, tape-held, masked-length, rows-loaded, party-part}
+use Rattle.planes.proofs.Views.{share-share, tape-share, masked-share, share-tape, tape-tape, masked-tape, share-masked, tape-masked, masked-masked, tape-word}
 use Rattle.packed.specs.Steps.{wordsCleared, wordsLoaded, inputsLoaded, maskedBit, sentBit}
 
 -- one turn of each loop
@@ -56,26 +56,6 @@ unfolding sentBit
 sent-turn l m i t q x v eq ex ev =
     ap odd ev ∙ odd-bitVal (testBit x i) ∙ ap (λ (k : ℕ). testBit k i) (ex ∙ ap (tape l m) eq)
 
--- the whole step
-pub words-done : (l : Layout) (n len : ℕ) (tapes cs m k v r : List ℕ) (e f : ℕ) → e ≡ broadcastWord l (l .ands) → f ≡ broadcastWord l 0
-    → k ≡ loadedTapes l n tapes len m → v ≡ wordsCleared l e (l .outputs + 7) k → r ≡ putParty l f (n - 1) cs (l .ands) v → r ≡ wordsLoaded l n tapes len cs m
-unfolding wordsLoaded
-words-done l n len tapes cs m k v r e f ee ef ek ev er =
-    er ∙ ap₂ (λ (q : ℕ) (w : List ℕ). putParty l q (n - 1) cs (l .ands) w) ef (ev ∙ ap₂ (λ (q : ℕ) (w : List ℕ). wordsCleared l q (l .outputs + 7) w) ee ek)
-
--- the length of the memory
-put-tape-length : (l : Layout) (q x : ℕ) (m : List ℕ) → length (putTape l q x m) ≡ length m
-unfolding putTape
-put-tape-length l q x m = word-length m (tapeAt l q) x
-
-put-share-length : (w x : ℕ) (m : List ℕ) → length (putShare w x m) ≡ length m
-unfolding putShare
-put-share-length w x m = word-length m (shareAt w) x
-
-put-masked-length : (l : Layout) (w x : ℕ) (m : List ℕ) → length (putMasked l w x m) ≡ length m
-unfolding putMasked
-put-masked-length l w x m = length-set m (maskedAt l w) x
-
 -- the tape words are of 64 bits
 abbrev pub Low : Layout → List ℕ → Type 0
 Low l m = (q : ℕ) → q < tapeWords l → tape l m q < 2 ^ 64
@@ -85,7 +65,12 @@ module _ (l : Layout) (q : ℕ) (m : List ℕ) (room : planesEnd l ≤ length m)
   pub cleared-length : (c : ℕ) → length (wordsCleared l q c m) ≡ length m
   unfolding wordsCleared
   cleared-length zero = refl
-  cleared-length (suc c) = put-tape-length l (q + c) 0 (wordsCleared l q c m) ∙ cleared-length c
+  cleared-length (suc c) = tape-length l (wordsCleared l q c m) (q + c) 0 ∙ cleared-length c
+
+  pub cleared-held : (c : ℕ) → q + c ≤ tapeWords l → drop (planesEnd l) (wordsCleared l q c m) ≡ drop (planesEnd l) m
+  unfolding wordsCleared
+  cleared-held zero h = refl
+  cleared-held (suc c) h = tape-held l (wordsCleared l q c m) (q + c) 0 (omega arith) ∙ cleared-held c (omega arith)
 
   pub cleared-other : (c r : ℕ) → q + c ≤ tapeWords l → r < q → tape l (wordsCleared l q c m) r ≡ tape l m r
   unfolding wordsCleared
@@ -123,10 +108,6 @@ module _ (l : Layout) (q p : ℕ) (row m : List ℕ) (room : planesEnd l ≤ len
   unfolding putParty putBits
   party-none = refl
 
-  pub party-length : (c : ℕ) → length (put c) ≡ length m
-  party-length zero = ap length party-none
-  party-length (suc c) = ap length (party-step c) ∙ put-tape-length l (q + c) (new c) (put c) ∙ party-length c
-
   new-low : (c : ℕ) → q + c < tapeWords l → tape l (put c) (q + c) ≡ tape l m (q + c) → new c < 2 ^ 64
   new-low c h e = chosen-lt 64 (place 64 p) (every 64 (bitAt row c)) (tape l (put c) (q + c)) (every-lt 64 (bitAt row c)) (rw e (low (q + c) h))
 
@@ -134,7 +115,7 @@ module _ (l : Layout) (q p : ℕ) (row m : List ℕ) (room : planesEnd l ≤ len
   party-other zero r h d = ap (λ (k : List ℕ). tape l k r) party-none
   party-other (suc c) r h d =
       ap (λ (k : List ℕ). tape l k r) (party-step c)
-      ∙ tape-tape l (put c) (omega (arith, party-length c)) (q + c) (new c) (omega arith)
+      ∙ tape-tape l (put c) (omega (arith, party-length l m q p row c)) (q + c) (new c) (omega arith)
       (new-low c (omega arith) (party-other c (q + c) (omega arith) (inr (omega arith)))) r
       ∙ rw (ne-eqb r (q + c) (⊎-elim (λ a. omega arith) (λ a. omega arith) d)) (party-other c r (omega arith) (⊎-elim (λ a. inl a) (λ a. inr (omega arith)) d))
 
@@ -143,7 +124,7 @@ module _ (l : Layout) (q p : ℕ) (row m : List ℕ) (room : planesEnd l ≤ len
   party-word (suc c) t h d =
       let same = party-other c (q + c) (omega arith) (inr (omega arith)) in
       ap (λ (k : List ℕ). tape l k (q + t)) (party-step c)
-      ∙ tape-tape l (put c) (omega (arith, party-length c)) (q + c) (new c) (omega arith) (new-low c (omega arith) same) (q + t)
+      ∙ tape-tape l (put c) (omega (arith, party-length l m q p row c)) (q + c) (new c) (omega arith) (new-low c (omega arith) same) (q + t)
       ∙ ⊎-elim
       (λ e. rw (eq-eqb (q + t) (q + c) (omega arith), e) (ap (chosen (place 64 p) (every 64 (bitAt row c))) same))
       (λ e. rw (ne-eqb (q + t) (q + c) (omega arith)) (party-word c t (omega arith) (omega arith)))
@@ -160,13 +141,13 @@ module _ (l : Layout) (q p : ℕ) (row m : List ℕ) (room : planesEnd l ≤ len
   party-share zero w h d = ap (λ (k : List ℕ). share k w) party-none
   party-share (suc c) w h d =
       ap (λ (k : List ℕ). share k w) (party-step c)
-      ∙ share-tape l (put c) (omega (arith, party-length c)) (q + c) (new c) (omega arith) w d ∙ party-share c w (omega arith) d
+      ∙ share-tape l (put c) (omega (arith, party-length l m q p row c)) (q + c) (new c) (omega arith) w d ∙ party-share c w (omega arith) d
 
   pub party-masked : (c w : ℕ) → q + c ≤ tapeWords l → masked l (put c) w ≡ masked l m w
   party-masked zero w h = ap (λ (k : List ℕ). masked l k w) party-none
   party-masked (suc c) w h =
       ap (λ (k : List ℕ). masked l k w) (party-step c)
-      ∙ masked-tape l (put c) (omega (arith, party-length c)) (q + c) (new c) (omega arith) w ∙ party-masked c w (omega arith)
+      ∙ masked-tape l (put c) (omega (arith, party-length l m q p row c)) (q + c) (new c) (omega arith) w ∙ party-masked c w (omega arith)
 
 -- inputs loaded
 module _ (l : Layout) (values m : List ℕ) (room : planesEnd l ≤ length m) (low : Low l m) where
@@ -176,13 +157,13 @@ module _ (l : Layout) (values m : List ℕ) (room : planesEnd l ≤ length m) (l
   pub inputs-length : (c : ℕ) → length (in· c) ≡ length m
   unfolding inputsLoaded
   inputs-length zero = refl
-  inputs-length (suc c) = put-masked-length l c _ _ ∙ put-share-length c _ (in· c) ∙ inputs-length c
+  inputs-length (suc c) = masked-length l (putShare c (tape l (in· c) c) (in· c)) c (bitVal (bitAt values c)) ∙ share-length l (in· c) c (tape l (in· c) c) ∙ inputs-length c
 
   pub inputs-tape : (c q : ℕ) → c ≤ l .wires → q < tapeWords l → tape l (in· c) q ≡ tape l m q
   unfolding inputsLoaded
   inputs-tape zero q h d = refl
   inputs-tape (suc c) q h d =
-      tape-masked l (putShare c (tape l (in· c) c) (in· c)) (omega (arith, inputs-length c, put-share-length c (tape l (in· c) c) (in· c))) c _ (omega arith) q d
+      tape-masked l (putShare c (tape l (in· c) c) (in· c)) (omega (arith, inputs-length c, share-length l (in· c) c (tape l (in· c) c))) c _ (omega arith) q d
       ∙ tape-share l (in· c) (omega (arith, inputs-length c)) c _ (omega arith) q ∙ inputs-tape c q (omega arith) d
 
   pub inputs-share : (c w : ℕ) → c ≤ l .wires → c ≤ tapeWords l → w < c → share (in· c) w ≡ tape l m w
@@ -190,7 +171,7 @@ module _ (l : Layout) (values m : List ℕ) (room : planesEnd l ≤ length m) (l
   inputs-share zero w h g d = absurd (omega arith)
   inputs-share (suc c) w h g d =
       let same = inputs-tape c c (omega arith) (omega arith) in
-      share-masked l (putShare c (tape l (in· c) c) (in· c)) (omega (arith, inputs-length c, put-share-length c (tape l (in· c) c) (in· c))) c _ (omega arith) w (omega arith)
+      share-masked l (putShare c (tape l (in· c) c) (in· c)) (omega (arith, inputs-length c, share-length l (in· c) c (tape l (in· c) c))) c _ (omega arith) w (omega arith)
       ∙ share-share l (in· c) (omega (arith, inputs-length c)) c (tape l (in· c) c) (omega arith) (rw same (low c (omega arith))) w
       ∙ ⊎-elim
       (λ e. rw (eq-eqb w c e, e) same)
@@ -201,27 +182,17 @@ module _ (l : Layout) (values m : List ℕ) (room : planesEnd l ≤ length m) (l
   unfolding inputsLoaded
   inputs-masked zero w h d = absurd (omega arith)
   inputs-masked (suc c) w h d =
-      masked-masked l (putShare c (tape l (in· c) c) (in· c)) (omega (arith, inputs-length c, put-share-length c (tape l (in· c) c) (in· c))) c (bitVal (bitAt values c)) (omega arith) w
+      masked-masked l (putShare c (tape l (in· c) c) (in· c)) (omega (arith, inputs-length c, share-length l (in· c) c (tape l (in· c) c))) c (bitVal (bitAt values c)) (omega arith) w
       ∙ ⊎-elim
       (λ e. rw (eq-eqb w c e, e))
       (λ e. rw (ne-eqb w c e) (masked-share l (in· c) (omega (arith, inputs-length c)) c _ (omega arith) w ∙ inputs-masked c w (omega arith) (omega arith)))
       (eq-or-ne w c)
 
--- the memory with the tapes is as long as before
-groups-length : (n : ℕ) (tapes : List ℕ) (len g to : ℕ) (m : List ℕ) → length (loadedGroups n tapes len g to m) ≡ length m
-unfolding loadedGroups loadedWords
-groups-length n tapes len zero to m = refl
-groups-length n tapes len (suc g) to m = fill-length _ _ (loadedGroups n tapes len g to m) (8 * len) ∙ groups-length n tapes len g to m
-
-tapes-length : (l : Layout) (n : ℕ) (tapes : List ℕ) (len : ℕ) (m : List ℕ) → length (loadedTapes l n tapes len m) ≡ length m
-unfolding loadedTapes clearedTapes cleared
-tapes-length l n tapes len m = groups-length n tapes len ((n + 7) / 8) (tapeAt l 0) (clearedTapes l m) ∙ fill-length _ _ m (8 * tapeWords l)
-
 -- the tape words of n parties, with the corrections as party n − 1's product shares
 module _ (l : Layout) (n len : ℕ) (tapes cs m : List ℕ) (room : planesEnd l ≤ length m) (some : 1 ≤ n) (wide : n ≤ 64) (fits : n * len ≤ length tapes)
     (low : 8 * len ≤ l .inputs + 2 * l .ands + 7) (high : l .inputs + 2 * l .ands ≤ 8 * len) where
   kept : length (loadedTapes l n tapes len m) ≡ length m
-  kept = tapes-length l n tapes len m
+  kept = loaded-length l m n tapes len
 
   abbrev first : List ℕ
   first = loadedTapes l n tapes len m
@@ -255,7 +226,7 @@ module _ (l : Layout) (n len : ℕ) (tapes cs m : List ℕ) (room : planesEnd l 
 
   pub words-length : length loaded ≡ length m
   unfolding wordsLoaded
-  words-length = party-length l (broadcastWord l 0) (n - 1) cs second (omega (arith, second-length)) second-low (l .ands) ∙ second-length
+  words-length = party-length l second (broadcastWord l 0) (n - 1) cs (l .ands) ∙ second-length
 
   -- input masks and output masks
   pub words-mask : (q : ℕ) → q < l .inputs + l .ands → tape l loaded q ≡ fromBits n (λ i. bitAt (rowOf tapes len i) q)
@@ -293,3 +264,38 @@ module _ (l : Layout) (n len : ℕ) (tapes cs m : List ℕ) (room : planesEnd l 
       (λ b. rw (words-zero q b h) (pow-pos 64))
       (lt-or-le q (l .inputs + 2 * l .ands)))
       (lt-or-le q (l .inputs + l .ands))
+
+-- the rows and the corrections that stand in the memory
+module _ (l : Layout) (n len : ℕ) (m : List ℕ) (room : planesEnd l ≤ length m) (wide : n ≤ 64) (low : 8 * len ≤ l .inputs + 2 * l .ands + 7) where
+  -- the corrections are not touched before they are put
+  abbrev before : List ℕ → List ℕ
+  before tapes = wordsCleared l (broadcastWord l (l .ands)) (l .outputs + 7) (loadedTapes l n tapes len m)
+
+  before-held : (tapes : List ℕ) → drop (correctionsAt l) (before tapes) ≡ drop (correctionsAt l) m
+  before-held tapes =
+      cleared-held l (broadcastWord l (l .ands)) (loadedTapes l n tapes len m) (omega (arith, loaded-length l m n tapes len)) (l .outputs + 7) (omega arith)
+      ∙ loaded-held l m n tapes len wide (omega arith)
+
+  -- the whole step
+  pub words-done : (k v r : List ℕ) (e : ℕ) → e ≡ broadcastWord l (l .ands) → k ≡ loadedRows l n len m → v ≡ wordsCleared l e (l .outputs + 7) k
+      → r ≡ putParty l (broadcastWord l 0) (n - 1) (drop (correctionsAt l) v) (l .ands) v
+      → r ≡ wordsLoaded l n (drop (rowsAt l) m) len (drop (correctionsAt l) m) m
+  unfolding wordsLoaded loadedRows
+  words-done k v r e ee ek ev er =
+      let same : v ≡ before (drop (rowsAt l) m) = ev ∙ ap₂ (λ (q : ℕ) (w : List ℕ). wordsCleared l q (l .outputs + 7) w) ee ek in
+      er ∙ ap (λ (w : List ℕ). putParty l (broadcastWord l 0) (n - 1) (drop (correctionsAt l) w) (l .ands) w) same
+      ∙ ap (λ (cs : List ℕ). putParty l (broadcastWord l 0) (n - 1) cs (l .ands) (before (drop (rowsAt l) m))) (before-held (drop (rowsAt l) m))
+
+  -- and only their own bytes are read
+  pub words-held : wordsLoaded l n (drop (rowsAt l) m) len (drop (correctionsAt l) m) m
+      ≡ wordsLoaded l n (take (n * len) (drop (rowsAt l) m)) len (take (oct (l .ands)) (drop (correctionsAt l) m)) m
+  unfolding wordsLoaded loadedRows
+  words-held =
+      let tapes : List ℕ = take (n * len) (drop (rowsAt l) m) in
+      let w : List ℕ = before tapes in
+      let with-cs : List ℕ → List ℕ = λ cs. putParty l (broadcastWord l 0) (n - 1) cs (l .ands) w in
+      ap (λ (k : List ℕ). putParty l (broadcastWord l 0) (n - 1) (drop (correctionsAt l) m) (l .ands) (wordsCleared l (broadcastWord l (l .ands)) (l .outputs + 7) k))
+      (rows-loaded l m n len)
+      ∙ ap with-cs (sym (before-held tapes))
+      ∙ party-part l w (broadcastWord l 0) (n - 1) (correctionsAt l) (l .ands)
+      ∙ ap (λ (k : List ℕ). with-cs (take (oct (l .ands)) k)) (before-held tapes)

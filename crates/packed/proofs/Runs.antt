@@ -1,42 +1,46 @@
--- The memory that is loaded is one that a run begins with, and the rows that are stored after the run are the run's.
+-- The memory that is loaded is one that a run begins with, and the rows that stand in it after the run are the run's; and what a work
+-- memory of 64 (I + G) + 4,096 bytes holds.
 -- Assumes nothing.
 use mathlib.Core.Path.{_≡_, refl, sym, ap, ap₂, _∙_}
-use mathlib.Core.Bool.{Bool, true, false, cond, _&&_}
-use mathlib.Core.List.{List, _++_, flatten}
+use mathlib.Core.Bool.{Bool, false, cond, _&&_}
+use mathlib.Core.List.{List, [], _∷_, flatten}
 use mathlib.Core.Logic.{⊎-elim, inl, inr}
-use Prim.Native.Nat.{ℕ, zero, suc, _+_, _-_, _*_, _^_, _≤_, _<_}
-use native.Mathlib.Nat.{le-refl, suc-mul}
+use Prim.Native.Nat.{ℕ, zero, suc, _+_, _-_, _*_, _≤_, _<_}
+use native.Mathlib.Nat.{mul-le-mul-right}
 use native.Mathlib.Omega.{arith}
 use borrow.Author.Tests.{eq-eqb, ne-eqb, lt-ltb}
 use lib.Dec.{eqb, ltb}
-use lib.ListN.{length, getD, take, drop, length-map, List·getD-eq-default}
-use lib.Seq.{take-all, take-add}
-use Rattle.bits.specs.Bits.{tabulate, oct, odd, bitVal, bitAt, testBit, fromBits, pack}
+use lib.ListN.{length, getD, drop, replicate, length-drop, length-map, length-replicate, List·getD-eq-default}
+use lib.Seq.{length-take-le}
+use Rattle.bits.specs.Bits.{tabulate, oct, odd, bitAt, testBit, fromBits, pack}
 use Rattle.bits.specs.Bytes.{rowOf}
-use Rattle.bits.specs.Xor.{_⊕_, xors}
+use Rattle.bits.specs.Xor.{_⊕_}
 use Rattle.bits.proofs.Numbers.{eq-or-ne, lt-or-le, fromBits-cong, odd-bitVal, testBit-zero}
-use Rattle.bits.proofs.Packing.{bitAt-pack, ext-bitAt, length-pack, pack-lt}
-use Rattle.bits.proofs.Rows.{bitAt-row, flatten-more, row-fits, row-inside, row-length, row-lt, rows-none}
-use Rattle.bits.proofs.Tabulate.{length-tabulate, getD-tabulate, tabulate-cong, tabulate-getD}
-use Rattle.circuit.specs.Circuit.{put, ands}
+use Rattle.bits.proofs.Packing.{bitAt-pack}
+use Rattle.bits.proofs.Tabulate.{getD-tabulate, tabulate-cong}
+use Rattle.circuit.specs.Circuit.{Gate, xor, and, inv, put, ands}
 use Rattle.circuit.specs.Fields as fields
-use Rattle.circuit.specs.File.{circuitOf}
+use Rattle.circuit.specs.File.{gatesInOrder, circuitOf}
+use Rattle.circuit.specs.Steps.{Legal}
 use Rattle.circuit.specs.declared.Sizes.{Sizes}
+use Rattle.circuit.proofs.Answered.{gates-count}
 use Rattle.plain.specs.Run.{Column, corrected, asSent, asShown, Transcript}
 use Rattle.plain.specs.Tapes.{andsOf, rowBytes, inputMasks, outputMasks, productShares}
-use Rattle.plain.specs.Showing.{maskedInput, maskedInputs, runOn, replayOf, rowBits, rowsOf}
+use Rattle.plain.specs.Showing.{maskedInput, maskedInputs, runOn, replayOf, rowBits, rowsOf, firstBits}
+use Rattle.masks.specs.Steps as masks
 use Rattle.words.specs.Words.{parity, place}
 use Rattle.words.proofs.Folds.{word-mask}
-use Rattle.planes.specs.Steps.{tapeWords, maskWord, broadcastWord, planesEnd, Room, share, tape, masked, storedRows, storedBlock, putParty}
+use Rattle.planes.specs.Steps.{tapeWords, maskWord, broadcastWord, planesEnd, correctionsAt, rowsAt, heldEnd, Room, share, tape, masked, putParty}
 use Rattle.planes.specs.declared.Layout.{Layout}
-use Rattle.planes.proofs.Stored as stored
-use Rattle.planes.proofs.Within.{block-row}
+use Rattle.planes.proofs.Held.{party-length}
 use Rattle.gates.proofs.Holding.{put-other}
 use Rattle.gates.proofs.Steps.{room-kept}
 use Rattle.walk.specs.Steps.{layoutOf, outputsRun, valuesRun, Lent}
 use Rattle.walk.proofs.Running.{blank, hides-none, hides-shown, Loaded, Ran, run-agrees}
-use Rattle.packed.specs.Steps.{wordsLoaded, inputsLoaded, maskedBit, tapeBytes, valuesLoaded, showingLoaded, Fits, Given, showingOf, sentBit}
-use Rattle.packed.proofs.Loads.{Low, words-length, words-mask, words-product, words-zero, words-low, inputs-length, inputs-tape, inputs-share, inputs-masked, party-length, party-share, party-masked, party-other, party-column}
+use Rattle.packed.specs.Steps.{wordsLoaded, inputsLoaded, maskedBit, tapeBytes, broadcastBytes, valuesLoaded, showingLoaded, tapesHeld, correctionsHeld, Held, showingOf, ranMemory, replayedMemory, sentBit, rowsSent}
+use Rattle.packed.proofs.Loads.{Low, words-length, words-mask, words-product, words-zero, words-low, inputs-length, inputs-tape, inputs-share, inputs-masked, party-share, party-masked, party-other, party-column, words-held}
+use Rattle.packed.proofs.Kept.{run-length}
+use Rattle.packed.proofs.Rows.{pack-padded, first-size, first-bit, first-all}
 
 -- no bit is set
 no-bits : (n : ℕ) → fromBits n blank ≡ 0
@@ -44,12 +48,18 @@ unfolding fromBits
 no-bits zero = refl
 no-bits (suc n) = omega (arith, no-bits n)
 
-module _ (s : List ℕ) (z : Sizes) (n : ℕ) (tapes cs m : List ℕ) (given : Given s z n tapes cs m) where
+-- a legal file with its I, O, G and A, the tapes of n parties, and a memory for the planes
+record Given (s : List ℕ) (z : Sizes) (n : ℕ) (tapes m : List ℕ) : Type 0 where
+  legal : Legal s (z .inputs) (z .outputs) (z .gates)
+  ands : z .ands ≡ ands (gatesInOrder s)
+  some : 1 ≤ n
+  few : n ≤ 64
+  room : Room (layoutOf z) m
+  tapes-fit : length tapes ≡ n * tapeBytes z
+
+module _ (s : List ℕ) (z : Sizes) (n : ℕ) (tapes cs m : List ℕ) (given : Given s z n tapes m) where
   abbrev l : Layout
   l = layoutOf z
-
-  abbrev circuit-inputs : ℕ
-  circuit-inputs = circuitOf s .inputs
 
   inputs-are : circuitOf s .inputs ≡ z .inputs
   unfolding fields.circuitOf
@@ -120,7 +130,7 @@ module _ (s : List ℕ) (z : Sizes) (n : ℕ) (tapes cs m : List ℕ) (given : G
       words-zero l n (tapeBytes z) tapes cs m (given .room .room) (given .some) (given .few) (omega (arith, given .tapes-fit)) (omega arith) (omega arith)
 
   -- the masked inputs of a witness
-  pub inputs-masked-are : (witness : List ℕ) → pack (tabulate (z .inputs) (maskedBit l witness words)) ≡ maskedInputs (circuitOf s) n witness tapes
+  inputs-masked-are : (witness : List ℕ) → pack (tabulate (z .inputs) (maskedBit l witness words)) ≡ maskedInputs (circuitOf s) n witness tapes
   unfolding maskedBit maskedInput maskedInputs
   inputs-masked-are witness =
       ap pack
@@ -135,7 +145,7 @@ module _ (s : List ℕ) (z : Sizes) (n : ℕ) (tapes cs m : List ℕ) (given : G
     abbrev values : List ℕ
     values = valuesLoaded z n tapes cs v m
 
-    pub values-length : length values ≡ length m
+    values-length : length values ≡ length m
     unfolding valuesLoaded
     values-length =
         inputs-length l v words words-room low (z .inputs)
@@ -166,11 +176,11 @@ module _ (s : List ℕ) (z : Sizes) (n : ℕ) (tapes cs m : List ℕ) (given : G
     value-zero q h d = value-tape q d ∙ word-zero q h d
 
     -- the words after the broadcasts are zero
-    pub values-zero : (q : ℕ) → broadcastWord l (z .ands + z .outputs) ≤ q → q < tapeWords l → tape l values q ≡ 0
+    values-zero : (q : ℕ) → broadcastWord l (z .ands + z .outputs) ≤ q → q < tapeWords l → tape l values q ≡ 0
     values-zero q h d = value-zero q (omega arith) d
 
     -- no party is hidden
-    pub values-loaded : (b : ℕ → Bool) → ((w : ℕ) → w < z .inputs → bitAt v w ≡ b w) → (p : ℕ) (row : ℕ → Bool) → n ≤ p → Loaded s z n p tapes (bitAt cs) row b values
+    values-loaded : (b : ℕ → Bool) → ((w : ℕ) → w < z .inputs → bitAt v w ≡ b w) → (p : ℕ) (row : ℕ → Bool) → n ≤ p → Loaded s z n p tapes (bitAt cs) row b values
     values-loaded b same p row none = record {
       shares = value-share;
       values = λ w h. value-masked w h ∙ same w h;
@@ -190,7 +200,7 @@ module _ (s : List ℕ) (z : Sizes) (n : ℕ) (tapes cs m : List ℕ) (given : G
       room-here : planesEnd l ≤ length values
       room-here = omega (arith, values-length, given .room .room)
 
-      pub showing-loaded : Loaded s z n p tapes (bitAt cs) (bitAt row) (bitAt v) shown
+      showing-loaded : Loaded s z n p tapes (bitAt cs) (bitAt row) (bitAt v) shown
       unfolding showingLoaded put
       showing-loaded =
           let q : ℕ = broadcastWord l 0 in
@@ -209,50 +219,16 @@ module _ (s : List ℕ) (z : Sizes) (n : ℕ) (tapes cs m : List ℕ) (given : G
             outputs = λ u a b. col u blank b (value-zero (broadcastWord l u) (omega arith) (omega arith) ∙ sym (no-bits n));
           }
 
-      pub showing-length : length shown ≡ length m
+      showing-length : length shown ≡ length m
       unfolding showingLoaded
-      showing-length = party-length l (broadcastWord l 0) p row values room-here values-low (z .ands + z .outputs) ∙ values-length
+      showing-length = party-length l values (broadcastWord l 0) p row (z .ands + z .outputs) ∙ values-length
 
       -- the words after the broadcasts are zero
-      pub showing-zero : (q : ℕ) → broadcastWord l (z .ands + z .outputs) ≤ q → q < tapeWords l → tape l shown q ≡ 0
+      showing-zero : (q : ℕ) → broadcastWord l (z .ands + z .outputs) ≤ q → q < tapeWords l → tape l shown q ≡ 0
       unfolding showingLoaded
       showing-zero q h d =
           party-other l (broadcastWord l 0) p row values room-here values-low (z .ands + z .outputs) q (omega arith) (inr (omega arith))
           ∙ value-zero q (omega arith) d
-
-  -- what the steps of loading ask
-  pub fits : (k : Layout) (len : ℕ) → k ≡ layoutOf z → len ≡ tapeBytes z → Fits k n tapes len cs m
-  fits k len e d =
-      rw (e, d)
-      (record {
-        room = given .room;
-        some = given .some;
-        few = given .few;
-        tapes-fit = omega (arith, given .tapes-fit);
-        low = omega arith;
-        corrections-fit = omega (arith, given .corrections-fit);
-      })
-
-  -- and what they give
-  module _ (k : Layout) (len : ℕ) (e : k ≡ layoutOf z) (d : len ≡ tapeBytes z) (a : List ℕ) (ea : a ≡ wordsLoaded k n tapes len cs m) where
-    words-are : a ≡ words
-    words-are = ea ∙ ap₂ (λ (x : Layout) (y : ℕ). wordsLoaded x n tapes y cs m) e d
-
-    pub masked-given : (witness v : List ℕ) → v ≡ pack (tabulate (z .inputs) (maskedBit k witness a)) → v ≡ maskedInputs (circuitOf s) n witness tapes
-    masked-given witness v h =
-        h ∙ ap₂ (λ (x : Layout) (y : List ℕ). pack (tabulate (z .inputs) (maskedBit x witness y))) e words-are ∙ inputs-masked-are witness
-
-    pub values-given : (v u b : List ℕ) → v ≡ u → b ≡ inputsLoaded k (z .inputs) v a → b ≡ valuesLoaded z n tapes cs u m
-    unfolding valuesLoaded
-    values-given v u b ev eb =
-        eb ∙ ap₂ (λ (x : Layout) (y : List ℕ). inputsLoaded x (z .inputs) y a) e ev ∙ ap (inputsLoaded (layoutOf z) (z .inputs) u) words-are
-
-    pub showing-given : (v row b r : List ℕ) (p q t : ℕ) → b ≡ inputsLoaded k (z .inputs) v a → q ≡ broadcastWord k 0 → t ≡ z .ands + z .outputs
-        → r ≡ putParty k q p row t b → r ≡ showingLoaded z n p tapes cs v row m
-    unfolding showingLoaded
-    showing-given v row b r p q t eb eq et er =
-        er ∙ ap₂ (λ (x y : ℕ). putParty k x p row y b) eq et
-        ∙ ap₂ (λ (x : Layout) (y : List ℕ). putParty x (broadcastWord x 0) p row (z .ands + z .outputs) y) e (values-given v v b refl eb)
 
   -- the masked inputs have the masked values
   masked-agree : (witness : List ℕ) (w : ℕ) → w < z .inputs → bitAt (maskedInputs (circuitOf s) n witness tapes) w ≡ maskedInput (circuitOf s) n witness tapes w
@@ -261,48 +237,34 @@ module _ (s : List ℕ) (z : Sizes) (n : ℕ) (tapes cs m : List ℕ) (given : G
       let f : ℕ → Bool = maskedInput (circuitOf s) n witness tapes in
       bitAt-pack (tabulate (circuitOf s .inputs) f) w ∙ getD-tabulate (circuitOf s .inputs) f w false (omega (arith, inputs-are))
 
-  pub lent : (k y : List ℕ) → length k ≡ length m → length y ≡ oct (z .outputs) → Lent s z k y
+  -- what the run is lent, with any buffer for the outputs
+  abbrev none : List ℕ
+  none = replicate (oct (z .outputs)) 0
+
+  lent : (k y : List ℕ) → length k ≡ length m → length y ≡ oct (z .outputs) → Lent s z k y
   lent k y e h = record { legal = given .legal; ands = given .ands; memory = room-kept (layoutOf z) m k e (given .room); fits = h }
 
+  lent-none : (k : List ℕ) → length k ≡ length m → Lent s z k none
+  lent-none k e = lent k none e (length-replicate {A = ℕ} (oct (z .outputs)) 0)
+
   -- the run on a witness
-  pub whole-ran : (witness y : List ℕ) → length y ≡ oct (z .outputs)
+  whole-ran : (witness : List ℕ)
       → Ran s z n (place 64 n) (valuesLoaded z n tapes cs (maskedInputs (circuitOf s) n witness tapes) m) (runOn (circuitOf s) n witness tapes (bitAt cs))
   unfolding runOn
-  whole-ran witness y h =
+  whole-ran witness =
       let v : List ℕ = maskedInputs (circuitOf s) n witness tapes in
-      let none : ℕ → Bool = λ t. false in
-      run-agrees s z (valuesLoaded z n tapes cs v m) y (lent (valuesLoaded z n tapes cs v m) y (values-length v) h) n n (given .few) tapes (bitAt cs) none
-      (maskedInput (circuitOf s) n witness tapes) (values-loaded v (maskedInput (circuitOf s) n witness tapes) (masked-agree witness) n none (omega arith))
-      asSent (hides-none n n none (omega arith))
+      let row : ℕ → Bool = λ t. false in
+      run-agrees s z (valuesLoaded z n tapes cs v m) none (lent-none (valuesLoaded z n tapes cs v m) (values-length v)) n n (given .few) tapes (bitAt cs) row
+      (maskedInput (circuitOf s) n witness tapes) (values-loaded v (maskedInput (circuitOf s) n witness tapes) (masked-agree witness) n row (omega arith))
+      asSent (hides-none n n row (omega arith))
 
   -- the replay of a showing
-  pub replay-ran : (v row y : List ℕ) (p : ℕ) → p < n → length y ≡ oct (z .outputs)
+  replay-ran : (v row : List ℕ) (p : ℕ) → p < n
       → Ran s z n (place 64 p) (showingLoaded z n p tapes cs v row m) (replayOf (circuitOf s) n p (showingOf tapes cs v row))
   unfolding replayOf
-  replay-ran v row y p hp h =
-      run-agrees s z (showingLoaded z n p tapes cs v row m) y (lent (showingLoaded z n p tapes cs v row m) y (showing-length v p row hp) h) n p (given .few) tapes (bitAt cs) (bitAt row)
+  replay-ran v row p hp =
+      run-agrees s z (showingLoaded z n p tapes cs v row m) none (lent-none (showingLoaded z n p tapes cs v row m) (showing-length v p row hp)) n p (given .few) tapes (bitAt cs) (bitAt row)
       (bitAt v) (showing-loaded v p row hp) (asShown p (bitAt row)) (hides-shown n p (bitAt row))
-
--- the inputs of a layout
-pub layout-inputs : (l k : Layout) → l ≡ k → l .inputs ≡ k .inputs
-layout-inputs l k e = ap (λ (x : Layout). x .inputs) e
-
--- n rows lie within a buffer
-pub rows-room : (n len k t : ℕ) → len ≡ k → t ≡ n * k → n * len ≤ t
-rows-room n len k t e d = rw (e, d) (le-refl (n * k))
-
--- a buffer of n rows is its rows
-rows-first : (n len : ℕ) (out : List ℕ) → length out ≡ n * len → (i : ℕ) → i ≤ n → take (i * len) out ≡ flatten (tabulate i (rowOf out len))
-rows-first n len out e zero h = rows-none len out
-rows-first n len out e (suc i) h =
-    ap (λ (k : ℕ). take k out) (suc-mul i len)
-    ∙ take-add (i * len) len out
-    ∙ ap₂ (λ (a b : List ℕ). a ++ b) (rows-first n len out e i (omega arith)) (sym (row-inside out len i (omega (arith, row-fits n len i h, e))))
-    ∙ flatten-more i (rowOf out len)
-
-pub rows-all : (n len : ℕ) (out : List ℕ) (f : ℕ → List ℕ) → length out ≡ n * len → ((i : ℕ) → i < n → rowOf out len i ≡ f i) → out ≡ flatten (tabulate n f)
-rows-all n len out f e h =
-    sym (take-all (n * len) out (omega (arith, e))) ∙ rows-first n len out e n (omega arith) ∙ ap flatten (tabulate-cong n (rowOf out len) f h)
 
 -- the rows after a run
 module _ (s : List ℕ) (z : Sizes) (n hidden : ℕ) (mem : List ℕ) (r : Transcript) (ran : Ran s z n hidden mem r)
@@ -310,12 +272,13 @@ module _ (s : List ℕ) (z : Sizes) (n hidden : ℕ) (mem : List ℕ) (r : Trans
   abbrev after : List ℕ
   after = outputsRun s z hidden mem
 
-  pub row-size : (i : ℕ) → length (rowBits r i) ≡ z .ands + z .outputs
+  row-size : (i : ℕ) → length (rowBits r i) ≡ z .ands + z .outputs
   unfolding rowBits
   row-size i = length-map (r .broadcasts) (λ (x : Column). x i) ∙ ran .count
 
   -- bit t of party i's row, zero beyond the row
-  pub sent-bit : (i t : ℕ) → i < n → t < z .ands + z .outputs + 7 → testBit (tape (layoutOf z) after (broadcastWord (layoutOf z) t)) i ≡ getD (rowBits r i) t false
+  sent-bit : (i t : ℕ) → i < n → t < z .ands + z .outputs + 7 → sentBit (layoutOf z) after i t ≡ getD (rowBits r i) t false
+  unfolding sentBit
   sent-bit i t hi h =
       ⊎-elim
       (λ a. ran .rows i t hi a)
@@ -325,50 +288,203 @@ module _ (s : List ℕ) (z : Sizes) (n hidden : ℕ) (mem : List ℕ) (r : Trans
       (lt-or-le t (z .ands + z .outputs))
 
   -- all rows
-  pub rows-stored : (rows out : List ℕ) → n ≤ 64 → ((j : ℕ) → getD after j 0 < 256) → ((j : ℕ) → getD out j 0 < 256)
-      → length rows ≡ n * oct (z .ands + z .outputs) → length out ≡ length rows
-      → out ≡ storedRows (layoutOf z) n after (oct (z .ands + z .outputs)) rows → out ≡ rowsOf n r
-  unfolding rowsOf
-  rows-stored rows out wide small low fits same e =
-      let len : ℕ = oct (z .ands + z .outputs) in
-      rows-all n len out (λ i. pack (rowBits r i)) (same ∙ fits)
+  rows-after : rowsSent (layoutOf z) n (broadcastBytes z) after ≡ rowsOf n r
+  unfolding rowsSent rowsOf
+  rows-after =
+      ap flatten
+      (tabulate-cong n _ (λ i. pack (rowBits r i))
       (λ i hi.
-      let inside : i * oct (z .ands + z .outputs) + oct (z .ands + z .outputs) ≤ length out = omega (arith, row-fits n (oct (z .ands + z .outputs)) i hi, same, fits) in
-      let size : length (rowOf out (oct (z .ands + z .outputs)) i) ≡ oct (z .ands + z .outputs) = row-length out (oct (z .ands + z .outputs)) i inside in
-      ext-bitAt (rowOf out (oct (z .ands + z .outputs)) i) (pack (rowBits r i)) (row-lt out (oct (z .ands + z .outputs)) i low) (pack-lt (rowBits r i))
-      (size ∙ ap oct (sym (row-size i)) ∙ sym (length-pack (rowBits r i)))
-      (λ t ht.
-      let short : t < 8 * oct (z .ands + z .outputs) = omega (arith, size) in
-      bitAt-row out (oct (z .ands + z .outputs)) i t inside short
-      ∙ ap (λ (x : List ℕ). bitAt x (8 * (i * oct (z .ands + z .outputs)) + t)) e
-      ∙ stored.row-bit (layoutOf z) n after (oct (z .ands + z .outputs)) rows (omega (arith, fits)) small wide i t hi short
-      ∙ sent-bit i t hi (omega arith) ∙ sym (bitAt-pack (rowBits r i) t)))
+      pack-padded (rowBits r i) (sentBit (layoutOf z) after i) (broadcastBytes z) (ap oct (sym (row-size i)))
+      (λ t h. sent-bit i t hi (omega arith))))
 
-  -- 8 rows at a time, after the planes: the row of party p of group g
-  pub block-bit : (count g p t : ℕ) → ((j : ℕ) → getD after j 0 < 256) → count ≤ 8 → g < 8
-      → planesEnd (layoutOf z) + count * oct (z .ands + z .outputs) ≤ length after → p < count → 8 * g + p < n → t < 8 * oct (z .ands + z .outputs)
-      → bitAt (storedBlock (layoutOf z) count g (oct (z .ands + z .outputs)) after) (8 * (planesEnd (layoutOf z) + p * oct (z .ands + z .outputs)) + t)
-      ≡ bitAt (pack (rowBits r (8 * g + p))) t
-  block-bit count g p t small few hg room hp hi ht =
-      block-row (layoutOf z) count g (oct (z .ands + z .outputs)) after small few hg room p t hp ht
-      ∙ sent-bit (8 * g + p) t hi (omega arith) ∙ sym (bitAt-pack (rowBits r (8 * g + p)) t)
+  -- the first k bits of one party's row
+  row-after : (i k : ℕ) → i < n
+      → pack (tabulate (8 * broadcastBytes z) (λ t. ltb t k && sentBit (layoutOf z) after i t)) ≡ pack (firstBits k (rowBits r i))
+  row-after i k hi =
+      pack-padded (firstBits k (rowBits r i)) (λ t. ltb t k && sentBit (layoutOf z) after i t) (broadcastBytes z)
+      (ap oct (sym (first-size k (rowBits r i) ∙ row-size i)))
+      (λ t h. ap (λ (b : Bool). ltb t k && b) (sent-bit i t hi (omega arith)) ∙ sym (first-bit k (rowBits r i) t))
 
-  -- one party's row
-  pub row-packed : (i : ℕ) → i < n → pack (tabulate (z .ands + z .outputs) (sentBit (layoutOf z) after i)) ≡ pack (rowBits r i)
-  unfolding sentBit
-  row-packed i hi =
-      ap pack
-      (tabulate-cong (z .ands + z .outputs) (sentBit (layoutOf z) after i) (λ t. getD (rowBits r i) t false) (λ t h. sent-bit i t hi (omega arith))
-      ∙ ap (λ (k : ℕ). tabulate k (λ t. getD (rowBits r i) t false)) (sym (row-size i)) ∙ tabulate-getD (rowBits r i) false)
+  -- the whole row
+  row-whole : (i : ℕ) → i < n
+      → pack (tabulate (8 * broadcastBytes z) (λ t. ltb t (z .ands + z .outputs) && sentBit (layoutOf z) after i t)) ≡ pack (rowBits r i)
+  row-whole i hi =
+      row-after i (z .ands + z .outputs) hi ∙ ap pack (first-all (z .ands + z .outputs) (rowBits r i) (omega (arith, row-size i)))
 
-  -- from the steps of a whole run
-  pub rows-given : (p : ℕ) → hidden ≡ place 64 p → (h len : ℕ) (k b rows out : List ℕ) (x : Layout) → h ≡ place 64 p → k ≡ mem → b ≡ outputsRun s z h k
-      → x ≡ layoutOf z → len ≡ oct (z .ands + z .outputs) → n ≤ 64 → ((j : ℕ) → getD b j 0 < 256) → ((j : ℕ) → getD out j 0 < 256)
-      → length rows ≡ n * oct (z .ands + z .outputs) → length out ≡ length rows → out ≡ storedRows x n b len rows → out ≡ rowsOf n r
-  rows-given p ep h len k b rows out x eh ek eb ex el wide small low fits same e =
-      let q : b ≡ outputsRun s z hidden mem = eb ∙ ap₂ (λ (y : ℕ) (w : List ℕ). outputsRun s z y w) (eh ∙ sym ep) ek in
-      rows-stored rows out wide (λ j. rw q at (small j)) low fits same
-      (e ∙ ap (λ (y : Layout). storedRows y n b len rows) ex ∙ ap₂ (λ (w : List ℕ) (y : ℕ). storedRows (layoutOf z) n w y rows) q el)
+-- the AND gates are some of the gates
+ands-le : (gs : List Gate) → ands gs ≤ length gs
+unfolding ands
+ands-le [] = omega arith
+ands-le (xor a b c ∷ gs) = omega (arith, ands-le gs)
+ands-le (and a b c ∷ gs) = omega (arith, ands-le gs)
+ands-le (inv a c ∷ gs) = omega (arith, ands-le gs)
 
-  pub output-given : (p : ℕ) → hidden ≡ place 64 p → (h : ℕ) (k y : List ℕ) → h ≡ place 64 p → k ≡ mem → y ≡ pack (valuesRun s z h k) → y ≡ pack (r .output)
-  output-given p ep h k y eh ek ey = ey ∙ ap₂ (λ (x : ℕ) (w : List ℕ). pack (valuesRun s z x w)) (eh ∙ sym ep) ek ∙ ap pack (ran .output)
+-- a legal file with its I, O, G and A
+module _ (s : List ℕ) (z : Sizes) (legal : Legal s (z .inputs) (z .outputs) (z .gates)) (count : z .ands ≡ ands (gatesInOrder s)) where
+  pub ands-few : z .ands ≤ z .gates
+  ands-few = omega (arith, ands-le (gatesInOrder s), gates-count s, legal .laid .gates, count)
+
+  -- what fits a work memory of 64 (I + G) + 4,096 bytes
+  module _ (n : ℕ) (m : List ℕ) (some : 1 ≤ n) (few : n ≤ 16) (room : 64 * (z .inputs + z .gates) + 4096 ≤ length m) where
+    -- all that an instance of n parties takes
+    pub room-end : heldEnd (layoutOf z) n ≤ length m
+    room-end = omega (arith, ands-few, legal .laid .few-outputs, mul-le-mul-right (tapeBytes z) few)
+
+    -- the planes with the corrections, and 8 rows of broadcasts after them
+    pub room-rows : rowsAt (layoutOf z) + 8 * broadcastBytes z ≤ length m
+    room-rows = omega (arith, ands-few, legal .laid .few-outputs)
+
+    pub room-planes : Room (layoutOf z) m
+    room-planes = record {
+      few-wires = omega (arith, legal .laid .few-inputs, legal .laid .few-gates);
+      few-words = omega (arith, ands-few, legal .laid .few-inputs, legal .laid .few-outputs, legal .laid .few-gates);
+      room = omega (arith, room-rows);
+    }
+
+    pub room-held : Held s z n m
+    room-held = record { legal = legal; ands = count; some = some; few = omega arith; room = room-planes; rows = omega (arith, room-end) }
+
+    -- and what the making of the corrections takes
+    pub room-masks : masks.Lent s z n (rowsAt (layoutOf z)) (correctionsAt (layoutOf z)) m
+    room-masks = record {
+      legal = legal;
+      ands = count;
+      row = omega arith;
+      low = omega (arith, ands-few, legal .laid .few-inputs, legal .laid .few-outputs, legal .laid .few-gates);
+      corrections = omega arith;
+      tapes = omega (arith, room-end);
+    }
+
+-- a memory that holds the tapes and the corrections
+module _ (s : List ℕ) (z : Sizes) (n : ℕ) (m : List ℕ) (held : Held s z n m) where
+  abbrev tapes : List ℕ
+  tapes = tapesHeld z n m
+
+  abbrev cs : List ℕ
+  cs = correctionsHeld z m
+
+  given : Given s z n (tapesHeld z n m) m
+  given = record {
+    legal = held .legal;
+    ands = held .ands;
+    some = held .some;
+    few = held .few;
+    room = held .room;
+    tapes-fit = length-take-le (n * tapeBytes z) (drop (rowsAt (layoutOf z)) m) (omega (arith, length-drop (rowsAt (layoutOf z)) m, held .rows));
+  }
+
+  pub lent-held : (k y : List ℕ) → length k ≡ length m → length y ≡ oct (z .outputs) → Lent s z k y
+  lent-held = lent s z n tapes cs m given
+
+  -- what the step of loading the words asks, and what the steps of loading give
+  module _ (k : Layout) (len : ℕ) (e : k ≡ layoutOf z) (d : len ≡ tapeBytes z) where
+    pub words-asked : Room k m × ((1 ≤ n) × ((n ≤ 64) × ((rowsAt k + n * len ≤ length m) × (8 * len ≤ k .inputs + 2 * k .ands + 7))))
+    words-asked = rw (e, d) (held .room, (held .some, (held .few, (held .rows, omega arith))))
+
+    module _ (a : List ℕ) (ea : a ≡ wordsLoaded k n (drop (rowsAt k) m) len (drop (correctionsAt k) m) m) where
+      words-are : a ≡ wordsLoaded (layoutOf z) n tapes (tapeBytes z) cs m
+      words-are =
+          ea ∙ ap₂ (λ (x : Layout) (y : ℕ). wordsLoaded x n (drop (rowsAt x) m) y (drop (correctionsAt x) m) m) e d
+          ∙ words-held (layoutOf z) n (tapeBytes z) m (held .room .room) (held .few) (omega arith)
+
+      pub masked-given : (witness v : List ℕ) → v ≡ pack (tabulate (z .inputs) (maskedBit k witness a)) → v ≡ maskedInputs (circuitOf s) n witness tapes
+      masked-given witness v h =
+          h ∙ ap₂ (λ (x : Layout) (y : List ℕ). pack (tabulate (z .inputs) (maskedBit x witness y))) e words-are
+          ∙ inputs-masked-are s z n tapes cs m given witness
+
+      pub values-given : (v u b : List ℕ) → v ≡ u → b ≡ inputsLoaded k (z .inputs) v a → b ≡ valuesLoaded z n tapes cs u m
+      unfolding valuesLoaded
+      values-given v u b ev eb =
+          eb ∙ ap₂ (λ (x : Layout) (y : List ℕ). inputsLoaded x (z .inputs) y a) e ev ∙ ap (inputsLoaded (layoutOf z) (z .inputs) u) words-are
+
+      pub showing-given : (v row b r : List ℕ) (p q t : ℕ) → b ≡ inputsLoaded k (z .inputs) v a → q ≡ broadcastWord k 0 → t ≡ z .ands + z .outputs
+          → r ≡ putParty k q p row t b → r ≡ showingLoaded z n p tapes cs v row m
+      unfolding showingLoaded
+      showing-given v row b r p q t eb eq et er =
+          er ∙ ap₂ (λ (x y : ℕ). putParty k x p row y b) eq et
+          ∙ ap₂ (λ (x : Layout) (y : List ℕ). putParty x (broadcastWord x 0) p row (z .ands + z .outputs) y) e (values-given v v b refl eb)
+
+  -- the run on a witness
+  module _ (witness : List ℕ) where
+    abbrev ran : Transcript
+    ran = runOn (circuitOf s) n witness tapes (bitAt cs)
+
+    abbrev begun : List ℕ
+    begun = valuesLoaded z n tapes cs (maskedInputs (circuitOf s) n witness tapes) m
+
+    run-is : Ran s z n (place 64 n) begun ran
+    run-is = whole-ran s z n tapes cs m given witness
+
+    run-zero : (q : ℕ) → broadcastWord (layoutOf z) (z .ands + z .outputs) ≤ q → q < tapeWords (layoutOf z) → tape (layoutOf z) begun q ≡ 0
+    run-zero = values-zero s z n tapes cs m given (maskedInputs (circuitOf s) n witness tapes)
+
+    -- from the steps of the run
+    module _ (h : ℕ) (k : List ℕ) (eh : h ≡ place 64 n) (ek : k ≡ begun) where
+      pub memory-ran : (b : List ℕ) → b ≡ outputsRun s z h k → b ≡ ranMemory s z n witness m
+      unfolding ranMemory
+      memory-ran b eb = eb ∙ ap₂ (outputsRun s z) eh ek
+
+      pub output-ran : (y : List ℕ) → y ≡ pack (valuesRun s z h k) → y ≡ pack (ran .output)
+      output-ran y ey = ey ∙ ap pack (ap₂ (valuesRun s z) eh ek ∙ run-is .output)
+
+    pub ran-length : length (ranMemory s z n witness m) ≡ length m
+    unfolding ranMemory
+    ran-length = run-length s z (place 64 n) begun ∙ values-length s z n tapes cs m given (maskedInputs (circuitOf s) n witness tapes)
+
+    pub ran-room : Room (layoutOf z) (ranMemory s z n witness m)
+    ran-room = room-kept (layoutOf z) m (ranMemory s z n witness m) ran-length (held .room)
+
+    -- the rows of its broadcasts
+    pub rows-ran : rowsSent (layoutOf z) n (broadcastBytes z) (ranMemory s z n witness m)
+        ≡ rowsOf n (runOn (circuitOf s) n witness (tapesHeld z n m) (bitAt (correctionsHeld z m)))
+    unfolding ranMemory
+    rows-ran = rows-after s z n (place 64 n) begun ran run-is run-zero
+
+    -- the first k bits of one of them, and all of it
+    pub row-ran : (i k : ℕ) → i < n
+        → pack (tabulate (8 * broadcastBytes z) (λ t. ltb t k && sentBit (layoutOf z) (ranMemory s z n witness m) i t))
+        ≡ pack (firstBits k (rowBits (runOn (circuitOf s) n witness (tapesHeld z n m) (bitAt (correctionsHeld z m))) i))
+    unfolding ranMemory
+    row-ran = row-after s z n (place 64 n) begun ran run-is run-zero
+
+    pub whole-row-ran : (i : ℕ) → i < n
+        → pack (tabulate (8 * broadcastBytes z) (λ t. ltb t (z .ands + z .outputs) && sentBit (layoutOf z) (ranMemory s z n witness m) i t))
+        ≡ pack (rowBits (runOn (circuitOf s) n witness (tapesHeld z n m) (bitAt (correctionsHeld z m))) i)
+    unfolding ranMemory
+    whole-row-ran = row-whole s z n (place 64 n) begun ran run-is run-zero
+
+  -- the replay of a showing with party p hidden
+  module _ (p : ℕ) (v row : List ℕ) (hp : p < n) where
+    abbrev replayed : Transcript
+    replayed = replayOf (circuitOf s) n p (showingOf tapes cs v row)
+
+    abbrev shown-begun : List ℕ
+    shown-begun = showingLoaded z n p tapes cs v row m
+
+    replay-is : Ran s z n (place 64 p) shown-begun replayed
+    replay-is = replay-ran s z n tapes cs m given v row p hp
+
+    -- from the steps of the replay
+    module _ (h : ℕ) (k : List ℕ) (eh : h ≡ place 64 p) (ek : k ≡ shown-begun) where
+      pub memory-replayed : (b : List ℕ) → b ≡ outputsRun s z h k → b ≡ replayedMemory s z n p v row m
+      unfolding replayedMemory
+      memory-replayed b eb = eb ∙ ap₂ (outputsRun s z) eh ek
+
+      pub output-replayed : (y : List ℕ) → y ≡ pack (valuesRun s z h k) → y ≡ pack (replayed .output)
+      output-replayed y ey = ey ∙ ap pack (ap₂ (valuesRun s z) eh ek ∙ replay-is .output)
+
+    pub replayed-length : length (replayedMemory s z n p v row m) ≡ length m
+    unfolding replayedMemory
+    replayed-length = run-length s z (place 64 p) shown-begun ∙ showing-length s z n tapes cs m given v p row hp
+
+    pub replayed-room : Room (layoutOf z) (replayedMemory s z n p v row m)
+    replayed-room = room-kept (layoutOf z) m (replayedMemory s z n p v row m) replayed-length (held .room)
+
+    pub rows-replayed : rowsSent (layoutOf z) n (broadcastBytes z) (replayedMemory s z n p v row m)
+        ≡ rowsOf n (replayOf (circuitOf s) n p (showingOf (tapesHeld z n m) (correctionsHeld z m) v row))
+    unfolding replayedMemory
+    rows-replayed = rows-after s z n (place 64 p) shown-begun replayed replay-is (showing-zero s z n tapes cs m given v p row hp)
+
+-- the inputs of a layout
+pub layout-inputs : (l k : Layout) → l ≡ k → l .inputs ≡ k .inputs
+layout-inputs l k e = ap (λ (x : Layout). x .inputs) e

@@ -3,20 +3,20 @@
 -- Assumes nothing.
 use mathlib.Core.Path.{_≡_}
 use mathlib.Core.Bool.{Bool}
-use mathlib.Core.List.{List}
-use Prim.Native.Nat.{ℕ, zero, suc, _+_, _-_, _*_, _≤_, _<_}
-use lib.ListN.{length}
-use Rattle.bits.specs.Bits.{oct, bitVal, testBit, bitAt}
+use mathlib.Core.List.{List, flatten}
+use Prim.Native.Nat.{ℕ, zero, suc, _+_, _-_, _*_, _≤_}
+use lib.ListN.{length, take, drop}
+use Rattle.bits.specs.Bits.{tabulate, oct, bitVal, testBit, bitAt, pack}
 use Rattle.bits.specs.Xor.{_⊕_}
 use Rattle.circuit.specs.Circuit.{ands}
-use Rattle.circuit.specs.File.{gatesInOrder}
+use Rattle.circuit.specs.File.{gatesInOrder, circuitOf}
 use Rattle.circuit.specs.Steps.{Legal}
 use Rattle.circuit.specs.declared.Sizes.{Sizes}
-use Rattle.plain.specs.Showing.{Showing}
-use Rattle.words.specs.Words.{parity}
-use Rattle.planes.specs.Steps.{Room, broadcastWord, tape, putShare, putTape, putMasked, loadedTapes, putParty}
+use Rattle.plain.specs.Showing.{maskedInputs, Showing}
+use Rattle.words.specs.Words.{parity, place}
+use Rattle.planes.specs.Steps.{Room, correctionsAt, rowsAt, seedsAt, broadcastWord, tape, putShare, putTape, putMasked, loadedTapes, putParty}
 use Rattle.planes.specs.declared.Layout.{Layout}
-use Rattle.walk.specs.Steps.{layoutOf}
+use Rattle.walk.specs.Steps.{layoutOf, outputsRun}
 
 -- count tape words from word q on are zero
 unfoldable pub wordsCleared : Layout → ℕ → ℕ → List ℕ → List ℕ
@@ -55,24 +55,21 @@ unfoldable pub showingLoaded : Sizes → ℕ → ℕ → List ℕ → List ℕ �
 showingLoaded z n p tapes corrections masked row m =
     putParty (layoutOf z) (broadcastWord (layoutOf z) 0) p row (z .ands + z .outputs) (valuesLoaded z n tapes corrections masked m)
 
--- tapes and corrections of n parties, with a memory that has room for the planes
-pub record Fits (l : Layout) (n : ℕ) (tapes : List ℕ) (len : ℕ) (corrections m : List ℕ) : Type 0 where
-  pub room : Room l m
-  pub some : 1 ≤ n
-  pub few : n ≤ 64
-  pub tapes-fit : n * len ≤ length tapes
-  pub low : 8 * len ≤ l .inputs + 2 * l .ands + 7
-  pub corrections-fit : l .ands ≤ 8 * length corrections
+-- the tape rows of n parties, and the corrections, that stand in the memory
+abbrev pub tapesHeld : Sizes → ℕ → List ℕ → List ℕ
+tapesHeld z n m = take (n * tapeBytes z) (drop (rowsAt (layoutOf z)) m)
 
--- a legal file with its I, O, G and A, and what a run of n parties takes
-pub record Given (s : List ℕ) (z : Sizes) (n : ℕ) (tapes corrections m : List ℕ) : Type 0 where
+abbrev pub correctionsHeld : Sizes → List ℕ → List ℕ
+correctionsHeld z m = take (oct (z .ands)) (drop (correctionsAt (layoutOf z)) m)
+
+-- a legal file with its I, O, G and A, and a memory that holds the planes, corrections and the tape rows of n parties
+pub record Held (s : List ℕ) (z : Sizes) (n : ℕ) (m : List ℕ) : Type 0 where
   pub legal : Legal s (z .inputs) (z .outputs) (z .gates)
   pub ands : z .ands ≡ ands (gatesInOrder s)
   pub some : 1 ≤ n
   pub few : n ≤ 64
   pub room : Room (layoutOf z) m
-  pub tapes-fit : length tapes ≡ n * tapeBytes z
-  pub corrections-fit : length corrections ≡ oct (z .ands)
+  pub rows : seedsAt (layoutOf z) n ≤ length m
 
 -- a showing of its parts
 abbrev pub showingOf : List ℕ → List ℕ → List ℕ → List ℕ → Showing
@@ -82,21 +79,21 @@ showingOf tapes corrections masked row = record { tapes = tapes; corrections = c
 abbrev pub broadcastBytes : Sizes → ℕ
 broadcastBytes z = oct (z .ands + z .outputs)
 
--- what a run on a witness is lent besides
-pub record RunLent (z : Sizes) (n : ℕ) (witness masked rows y : List ℕ) : Type 0 where
-  pub witness-fits : length witness ≡ oct (z .inputs)
-  pub masked-fits : length masked ≡ oct (z .inputs)
-  pub rows-fit : length rows ≡ n * broadcastBytes z
-  pub y-fits : length y ≡ oct (z .outputs)
+-- the memory after the run on a witness, with the tapes and the corrections that stood in it
+unfoldable pub ranMemory : List ℕ → Sizes → ℕ → List ℕ → List ℕ → List ℕ
+ranMemory s z n witness m =
+    outputsRun s z (place 64 n)
+    (valuesLoaded z n (tapesHeld z n m) (correctionsHeld z m) (maskedInputs (circuitOf s) n witness (tapesHeld z n m)) m)
 
--- what a replay with party p hidden is lent besides
-pub record ReplayLent (z : Sizes) (n p : ℕ) (masked row rows y : List ℕ) : Type 0 where
-  pub hidden : p < n
-  pub masked-fits : length masked ≡ oct (z .inputs)
-  pub row-fits : length row ≡ broadcastBytes z
-  pub rows-fit : length rows ≡ n * broadcastBytes z
-  pub y-fits : length y ≡ oct (z .outputs)
+-- the memory after the replay with party p hidden
+unfoldable pub replayedMemory : List ℕ → Sizes → ℕ → ℕ → List ℕ → List ℕ → List ℕ → List ℕ
+replayedMemory s z n p masked row m =
+    outputsRun s z (place 64 p) (showingLoaded z n p (tapesHeld z n m) (correctionsHeld z m) masked row m)
 
 -- party i's bit of broadcast t
 unfoldable pub sentBit : Layout → List ℕ → ℕ → ℕ → Bool
 sentBit l m i t = testBit (tape l m (broadcastWord l t)) i
+
+-- the broadcast rows of n parties, of len bytes each
+unfoldable pub rowsSent : Layout → ℕ → ℕ → List ℕ → List ℕ
+rowsSent l n len m = flatten (tabulate n (λ i. pack (tabulate (8 * len) (sentBit l m i))))

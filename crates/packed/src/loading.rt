@@ -1,12 +1,12 @@
 // What a run begins with, in the planes of the work memory.
 ghost use mathlib.Core.Path.{_≡_};
 ghost use Prim.Native.Nat.{_+_, _*_, _≤_};
-ghost use lib.ListN.{length};
+ghost use lib.ListN.{length, drop};
 ghost use Rattle.bits.specs.Bits.{tabulate, oct, pack};
 ghost use Rattle.circuit.specs.File.{circuitOf};
 ghost use Rattle.plain.specs.Showing.{maskedInputs};
-ghost use Rattle.planes.specs.Steps.{Room, tapeWords};
-ghost use Rattle.packed.specs.Steps.{wordsCleared, wordsLoaded, inputsLoaded, maskedBit, tapeBytes, broadcastBytes, valuesLoaded, showingLoaded, Fits, Given};
+ghost use Rattle.planes.specs.Steps.{Room, tapeWords, correctionsAt, rowsAt};
+ghost use Rattle.packed.specs.Steps.{wordsCleared, wordsLoaded, inputsLoaded, maskedBit, tapeBytes, broadcastBytes, valuesLoaded, showingLoaded, tapesHeld, correctionsHeld, Held};
 use circuit::Sizes;
 use planes::Layout;
 use planes::places::broadcast_word;
@@ -14,7 +14,8 @@ use planes::places::put_masked;
 use planes::places::put_share;
 use planes::places::put_tape;
 use planes::places::tape;
-use planes::tapes::load_tapes;
+use planes::tapes::load_rows;
+use planes::tapes::put_corrections;
 use planes::tapes::put_party;
 use walk::layout;
 
@@ -30,17 +31,16 @@ fn clear_words(l: Layout, q: usize, count: usize, memory: &mut [u8])
     }
 }
 
-// Brings the tapes of n parties into the tape words, with zero after them, and the corrections as party n − 1's product shares.
-fn load_words(l: Layout, n: usize, tapes: &[u8], len: usize, corrections: &[u8], memory: &mut [u8])
-    requires { ⌜ Fits l n (now tapes) len (now corrections) (now memory) ⌝ }
-    ensures { λ _. ⌜ now (memory .exit) ≡ wordsLoaded l n (now (tapes .entry)) len (now (corrections .entry)) (now (memory .entry)) ⌝ }
+// Brings the tape rows of n parties into the tape words, with zero after them, and the corrections as party n − 1's product shares.
+fn load_words(l: Layout, n: usize, len: usize, memory: &mut [u8])
+    requires { ⌜ Room l (now memory) × ((1 ≤ n) × ((n ≤ 64) × ((rowsAt l + n * len ≤ length (now memory)) × (8 * len ≤ l .inputs + 2 * l .ands + 7)))) ⌝ }
+    ensures { λ _. ⌜ now (memory .exit) ≡ wordsLoaded l n (drop (rowsAt l) (now (memory .entry))) len (drop (correctionsAt l) (now (memory .entry))) (now (memory .entry)) ⌝ }
 {
     let ands = l.ands;
-    load_tapes(l, tapes, len, n, memory);
+    load_rows(l, memory, len, n);
     let end = broadcast_word(l, ands);
     clear_words(l, end, l.outputs + 7, memory);
-    let first = broadcast_word(l, 0);
-    put_party(l, first, n - 1, corrections, ands, memory);
+    put_corrections(l, n - 1, memory);
 }
 
 // Gives the first count wires their tape words as shares, and the masked values of a string of bits.
@@ -89,48 +89,44 @@ pub(crate) fn broadcasts(z: Sizes) -> usize
     z.ands + z.outputs
 }
 
-// Loads the tapes and the corrections of a run on a witness, and its masked inputs, which masked takes too.
-pub fn load_witness(
+// Loads what stands in the memory for a run on a witness, and its masked inputs, which masked takes too.
+pub(crate) fn load_witness(
     s: &[u8],
     z: Sizes,
     n: usize,
-    tapes: &[u8],
-    corrections: &[u8],
     witness: &[u8],
     masked: &mut [u8],
     memory: &mut [u8],
 )
-    requires { ⌜ Given (now s) z n (now tapes) (now corrections) (now memory) × ((length (now witness) ≡ oct (z .inputs)) × (length (now masked) ≡ oct (z .inputs))) ⌝ }
-    ensures { λ _. ⌜ now (masked .exit) ≡ maskedInputs (circuitOf (now (s .entry))) n (now (witness .entry)) (now (tapes .entry)) ⌝ }
-    ensures { λ _. ⌜ now (memory .exit) ≡ valuesLoaded z n (now (tapes .entry)) (now (corrections .entry)) (maskedInputs (circuitOf (now (s .entry))) n (now (witness .entry)) (now (tapes .entry))) (now (memory .entry)) ⌝ }
+    requires { ⌜ Held (now s) z n (now memory) × ((length (now witness) ≡ oct (z .inputs)) × (length (now masked) ≡ oct (z .inputs))) ⌝ }
+    ensures { λ _. ⌜ now (masked .exit) ≡ maskedInputs (circuitOf (now (s .entry))) n (now (witness .entry)) (tapesHeld z n (now (memory .entry))) ⌝ }
+    ensures { λ _. ⌜ now (memory .exit) ≡ valuesLoaded z n (tapesHeld z n (now (memory .entry))) (correctionsHeld z (now (memory .entry))) (maskedInputs (circuitOf (now (s .entry))) n (now (witness .entry)) (tapesHeld z n (now (memory .entry)))) (now (memory .entry)) ⌝ }
 {
     let l = layout(z);
     let len = tape_bytes(z);
-    load_words(l, n, tapes, len, corrections, memory);
+    load_words(l, n, len, memory);
     mask_inputs(l, z.inputs, witness, memory, masked);
     load_inputs(l, z.inputs, masked, memory);
 }
 
-// Loads the tapes and the corrections of a showing, its masked inputs, and party p's row of broadcasts.
-pub fn load_showing(
+// Loads what stands in the memory for a replay, its masked inputs, and party p's row of broadcasts.
+pub(crate) fn load_showing(
     s: &[u8],
     z: Sizes,
     n: usize,
     p: usize,
-    tapes: &[u8],
-    corrections: &[u8],
     masked: &[u8],
     row: &[u8],
     memory: &mut [u8],
 )
-    requires { ⌜ Given (now s) z n (now tapes) (now corrections) (now memory) × ((length (now masked) ≡ oct (z .inputs)) × (length (now row) ≡ broadcastBytes z)) ⌝ }
-    ensures { λ _. ⌜ now (memory .exit) ≡ showingLoaded z n p (now (tapes .entry)) (now (corrections .entry)) (now (masked .entry)) (now (row .entry)) (now (memory .entry)) ⌝ }
+    requires { ⌜ Held (now s) z n (now memory) × ((length (now masked) ≡ oct (z .inputs)) × (length (now row) ≡ broadcastBytes z)) ⌝ }
+    ensures { λ _. ⌜ now (memory .exit) ≡ showingLoaded z n p (tapesHeld z n (now (memory .entry))) (correctionsHeld z (now (memory .entry))) (now (masked .entry)) (now (row .entry)) (now (memory .entry)) ⌝ }
 {
     let l = layout(z);
     let len = tape_bytes(z);
     let first = broadcast_word(l, 0);
     let sent = broadcasts(z);
-    load_words(l, n, tapes, len, corrections, memory);
+    load_words(l, n, len, memory);
     load_inputs(l, z.inputs, masked, memory);
     put_party(l, first, p, row, sent, memory);
 }

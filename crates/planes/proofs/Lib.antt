@@ -1,4 +1,5 @@
 pub mod Turning
 pub mod Views
 pub mod Stored
+pub mod Held
 pub mod Within

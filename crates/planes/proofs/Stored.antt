@@ -4,10 +4,9 @@ use mathlib.Core.Path.{_≡_, refl, sym, ap, _∙_}
 use mathlib.Core.Bool.{Bool, cond}
 use mathlib.Core.List.{List}
 use mathlib.Core.Logic.{_⊎_, ⊎-elim, _≢_, inl, inr}
-use Prim.Native.Nat.{ℕ, zero, suc, _+_, _-_, _*_, _/_, _%_, _^_, _≤_, _<_}
+use Prim.Native.Nat.{ℕ, zero, suc, _+_, _*_, _/_, _%_, _^_, _≤_, _<_}
 use native.Mathlib.Nat.{add-mul, lt-of-lt-of-le, eq-or-lt-of-le, le-of-suc-le-suc, mul-assoc, mul-le-mul-right, suc-mul}
 use native.Mathlib.Omega.{arith}
-use borrow.Author.Tests.{lt-ltb, le-ltb}
 use lib.Dec.{eqb}
 use lib.ListN.{length, getD}
 use Rattle.bits.specs.Bits.{testBit, fromBits, bitAt}
@@ -22,8 +21,8 @@ use Rattle.words.proofs.Fill.{fill-at, fill-length, fill-other}
 use Rattle.words.proofs.Turns.{blocks-bit}
 use Rattle.planes.specs.Steps.{tapeWords, tapeAt, broadcastWord, planesEnd, tape, rowsIn, storedWords, storedGroups, storedRows, putBits, putParty}
 use Rattle.planes.specs.declared.Layout.{Layout}
-use Rattle.planes.proofs.Turning.{group-within, leAt-blocks, rows-few, rows-in}
-use Rattle.planes.proofs.Views.{word-length, word-same, word-other}
+use Rattle.planes.proofs.Turning.{group-within, leAt-blocks, rows-few, rows-in, rows-left}
+use Rattle.planes.proofs.Views.{byte-other, word-length, word-same, word-other}
 
 -- row p's bytes end before row u's, where p is before u
 row-before : (len p u : ℕ) → p < u → p * len + len ≤ u * len
@@ -68,12 +67,6 @@ module _ (n : ℕ) (m : List ℕ) (from a len : ℕ) (rows : List ℕ) where
       fill-other (λ u. a + c + u * len) f r n (a + k + p * len) (λ u x q. apart len p u k c (omega arith) (omega arith) (omega arith) (omega arith))
       ∙ stored-at c k p (omega arith) lt hp room)
       (eq-or-lt-of-le (le-of-suc-le-suc l))
-
--- the rows of a group are rows of the n parties
-rows-left : (n g : ℕ) → 8 * g ≤ n → 8 * g + rowsIn n g ≤ n
-unfolding rowsIn
-rows-left n g h =
-    ⊎-elim (λ (q : n - 8 * g < 8). rw (lt-ltb (n - 8 * g) 8 q) (omega arith)) (λ (q : 8 ≤ n - 8 * g). rw (le-ltb (n - 8 * g) 8 q) (omega arith)) (lt-or-le (n - 8 * g) 8)
 
 -- the groups of rows of n parties
 module _ (n : ℕ) (m : List ℕ) (from len : ℕ) (rows : List ℕ) (room : n * len ≤ length rows) where
@@ -134,12 +127,20 @@ row-bit l n m len rows room small wide i t hi ht =
     stored-bit n m (tapeAt l (broadcastWord l 0)) len rows room small wide i t hi ht ∙ ap (λ (x : ℕ). testBit (leAt 8 m x) i) e
 
 -- a row put at the places of hidden
-module _ (to hidden : ℕ) (row m : List ℕ) (small : (j : ℕ) → getD m j 0 < 256) where
-  put-length : (c : ℕ) → length (putBits to hidden row c m) ≡ length m
+module _ (to hidden : ℕ) (row m : List ℕ) where
+  pub put-length : (c : ℕ) → length (putBits to hidden row c m) ≡ length m
   unfolding putBits
   put-length zero = refl
   put-length (suc c) = word-length (putBits to hidden row c m) (to + 8 * c) _ ∙ put-length c
 
+  -- a byte after the words
+  pub put-byte : (c j : ℕ) → to + 8 * c ≤ j → getD (putBits to hidden row c m) j 0 ≡ getD m j 0
+  unfolding putBits
+  put-byte zero j h = refl
+  put-byte (suc c) j h = byte-other (putBits to hidden row c m) (to + 8 * c) _ j (inr (omega arith)) ∙ put-byte c j (omega arith)
+
+-- in a memory of bytes
+module _ (to hidden : ℕ) (row m : List ℕ) (small : (j : ℕ) → getD m j 0 < 256) where
   -- a word elsewhere
   pub put-other : (c j : ℕ) → (j + 8 ≤ to) ⊎ (to + 8 * c ≤ j) → leAt 8 (putBits to hidden row c m) j ≡ leAt 8 m j
   unfolding putBits
@@ -160,7 +161,7 @@ module _ (to hidden : ℕ) (row m : List ℕ) (small : (j : ℕ) → getD m j 0 
       let low : x < 2 ^ 64 = chosen-lt 64 hidden (every 64 (bitAt row c)) (leAt 8 k (to + 8 * c)) (every-lt 64 (bitAt row c))
       (rw old (leAt-lt 8 m (to + 8 * c) small)) in
       ⊎-elim
-      (λ e. rw e (word-same k (to + 8 * c) x (omega (arith, put-length c)) low ∙ ap (chosen hidden (every 64 (bitAt row c))) old))
+      (λ e. rw e (word-same k (to + 8 * c) x (omega (arith, put-length to hidden row m c)) low ∙ ap (chosen hidden (every 64 (bitAt row c))) old))
       (λ lt. word-other k (to + 8 * c) x (to + 8 * t) (inl (omega arith)) ∙ put-word c t lt (omega arith))
       (eq-or-lt-of-le (le-of-suc-le-suc l))
 

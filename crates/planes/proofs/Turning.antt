@@ -5,7 +5,7 @@ use mathlib.Core.Bool.{Bool, cond}
 use mathlib.Core.List.{List}
 use mathlib.Core.Logic.{⊎-elim, _≢_}
 use Prim.Native.Nat.{ℕ, zero, suc, _+_, _-_, _*_, _/_, _%_, _^_, _≤_, _<_}
-use native.Mathlib.Nat.{add-comm, add-mul, lt-of-lt-of-le, mul-assoc, mul-comm, mul-le-mul-right, suc-mul}
+use native.Mathlib.Nat.{add-comm, add-mul, lt-of-lt-of-le, mul-assoc, mul-comm, mul-le-mul-right}
 use native.Mathlib.Numerals.{add-one}
 use native.Mathlib.Omega.{arith}
 use borrow.Author.Tests.{lt-ltb, le-ltb}
@@ -14,11 +14,10 @@ use lib.ListN.{length, getD, set}
 use lib.Seq.{sets}
 use lib.Pow.{pow-mono, pow-pos}
 use Rattle.bits.specs.Bits.{bitVal, odd, testBit, fromBits, bitAt}
-use Rattle.bits.specs.Bytes.{leAt, leBytes, rowOf}
+use Rattle.bits.specs.Bytes.{leAt, leBytes}
 use Rattle.bits.proofs.Little.{leAt-last, leAt-zero, pow-bytes}
 use Rattle.bits.proofs.Numbers.{eq-or-ne, ext-bits, fromBits-cong, fromBits-lt, lt-or-le, odd-bitVal, testBit-fromBits, testBit-high, testBit-zero}
 use Rattle.bits.proofs.Packing.{bitAt-byte}
-use Rattle.bits.proofs.Rows.{bitAt-row}
 use Rattle.words.specs.Words.{every, place, chosen}
 use Rattle.words.specs.Steps.{at, fill, turned}
 use Rattle.words.proofs.Fill.{fill-at, fill-cong, fill-join, fill-length, fill-none, fill-other, fill-turn}
@@ -114,6 +113,12 @@ unfolding rowsIn
 rows-few n b =
     ⊎-elim (λ (q : n - 8 * b < 8). rw (lt-ltb (n - 8 * b) 8 q) (omega arith)) (λ (q : 8 ≤ n - 8 * b). rw (le-ltb (n - 8 * b) 8 q) (omega arith)) (lt-or-le (n - 8 * b) 8)
 
+-- the rows of a group are rows of the n parties
+pub rows-left : (n g : ℕ) → 8 * g ≤ n → 8 * g + rowsIn n g ≤ n
+unfolding rowsIn
+rows-left n g h =
+    ⊎-elim (λ (q : n - 8 * g < 8). rw (lt-ltb (n - 8 * g) 8 q) (omega arith)) (λ (q : 8 ≤ n - 8 * g). rw (le-ltb (n - 8 * g) 8 q) (omega arith)) (lt-or-le (n - 8 * g) 8)
+
 -- bit q of the row of party i
 abbrev pub rowBit : List ℕ → ℕ → ℕ → ℕ → Bool
 rowBit s len q i = bitAt s (8 * (i * len) + q)
@@ -123,7 +128,7 @@ abbrev pub groupByte : ℕ → List ℕ → ℕ → ℕ → ℕ → ℕ
 groupByte n s len q b = fromBits (rowsIn n b) (λ p. bitAt s (8 * (b * (8 * len) + p * len) + q))
 
 module _ (n : ℕ) (s : List ℕ) (len to : ℕ) (m : List ℕ) where
-  tapes-length : (g : ℕ) → length (loadedGroups n s len g to m) ≡ length m
+  pub tapes-length : (g : ℕ) → length (loadedGroups n s len g to m) ≡ length m
   unfolding loadedGroups loadedWords
   tapes-length zero = refl
   tapes-length (suc g) = fill-length _ _ (loadedGroups n s len g to m) (8 * len) ∙ tapes-length g
@@ -253,21 +258,6 @@ pub party-put : (l : Layout) (q p to hidden : ℕ) (row : List ℕ) (count : ℕ
     → v ≡ putBits to hidden row count m → v ≡ putParty l q p row count m
 unfolding putParty
 party-put l q p to hidden row count m v e d f = f ∙ ap₂ (λ (x y : ℕ). putBits x y row count m) e d
-
--- a block of 8 rows, asked for as a part of the tapes
-pub block-loaded : (n : ℕ) (s row m v : List ℕ) (len to g : ℕ) → g * (8 * len) + 8 * len ≤ length s → row ≡ rowOf s (8 * len) g → rowsIn n g ≡ 8
-    → v ≡ loadedWords 8 row 0 len len to m → v ≡ loadedWords (rowsIn n g) s (g * (8 * len)) len len to m
-unfolding loadedWords
-block-loaded n s row m v len to g room e h d =
-    d
-    ∙ fill-cong (λ q. to + 8 * q) _ (λ q. fromBits 8 (λ p. bitAt s (8 * (g * (8 * len) + p * len) + q))) m (8 * len)
-    (λ q l. fromBits-cong 8 (λ p. bitAt row (8 * (0 + p * len) + q)) (λ p. bitAt s (8 * (g * (8 * len) + p * len) + q))
-    (λ p u.
-    let i : 8 * (g * (8 * len)) + (8 * (0 + p * len) + q) ≡ 8 * (g * (8 * len) + p * len) + q = omega arith in
-    ap (λ (x : List ℕ). bitAt x (8 * (0 + p * len) + q)) e
-    ∙ bitAt-row s (8 * len) g (8 * (0 + p * len) + q) room (omega (arith, mul-le-mul-right len u, suc-mul p len))
-    ∙ ap (bitAt s) i))
-    ∙ ap (λ (r : ℕ). fill (λ q. to + 8 * q) (λ q. fromBits r (λ p. bitAt s (8 * (g * (8 * len) + p * len) + q))) (8 * len) m) (sym h)
 
 -- word q of the loaded tapes of n parties is the column of bits q of their rows, where the plane was zero
 pub group-word : (n : ℕ) (s : List ℕ) (len to : ℕ) (m : List ℕ) (q : ℕ) → n ≤ 64 → q < 8 * len → to + 64 * len ≤ length m

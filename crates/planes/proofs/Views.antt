@@ -38,7 +38,7 @@ module _ (m : List ℕ) (k x : ℕ) where
       let l = length-leBytes 8 x in leAt-sets-other 8 (leBytes 8 x) m k j (⊎-elim (λ q. inl q) (λ q. inr (omega arith)) h)
 
   -- a byte elsewhere
-  byte-other : (j : ℕ) → (j < k) ⊎ (k + 8 ≤ j) → getD (sets m k (leBytes 8 x)) j 0 ≡ getD m j 0
+  pub byte-other : (j : ℕ) → (j < k) ⊎ (k + 8 ≤ j) → getD (sets m k (leBytes 8 x)) j 0 ≡ getD m j 0
   byte-other j h =
       let l = length-leBytes 8 x in getD-sets-other 0 (leBytes 8 x) m k j (⊎-elim (λ q. inl q) (λ q. inr (omega arith)) h)
 
@@ -51,6 +51,11 @@ leAt-none : (n : ℕ) (s : List ℕ) (k : ℕ) → ((i : ℕ) → i < n → getD
 leAt-none zero s k h = leAt-zero s k
 leAt-none (suc n) s k h =
     leAt-last n s k ∙ ap₂ (λ (x y : ℕ). x + y * 256 ^ n) (leAt-none n s k (λ i l. h i (omega arith))) (h n (omega arith)) ∙ omega arith
+
+-- clearing keeps the length
+pub clear-length : (l : Layout) (m : List ℕ) → length (clearedTapes l m) ≡ length m
+unfolding clearedTapes cleared
+clear-length l m = fill-length _ _ m (8 * tapeWords l)
 
 -- the planes of a memory that holds them
 module _ (l : Layout) (m : List ℕ) (room : planesEnd l ≤ length m) where
@@ -110,10 +115,6 @@ module _ (l : Layout) (m : List ℕ) (room : planesEnd l ≤ length m) where
 
   -- the tapes of n parties loaded: tape word q has bit q of each row
   module _ (n : ℕ) (s : List ℕ) (len : ℕ) (wide : n ≤ 64) (fits : n * len ≤ length s) (low : 8 * len ≤ tapeWords l) where
-    clear-length : length (clearedTapes l m) ≡ length m
-    unfolding clearedTapes cleared
-    clear-length = fill-length _ _ m (8 * tapeWords l)
-
     clear-all : (k : ℕ) → k < 8 * tapeWords l → getD (clearedTapes l m) (tapeAt l 0 + k) 0 ≡ 0
     unfolding clearedTapes cleared
     clear-all k h = fill-at (λ j. tapeAt l 0 + j) (λ j. 0) m (8 * tapeWords l) k h (omega arith) (λ u a b. omega arith)
@@ -123,7 +124,7 @@ module _ (l : Layout) (m : List ℕ) (room : planesEnd l ≤ length m) where
     tape-word q h =
         let e : tapeAt l q ≡ tapeAt l 0 + 8 * q = omega arith in
         ap (leAt 8 _) e
-        ∙ group-word n s len (tapeAt l 0) (clearedTapes l m) q wide h (omega (arith, clear-length)) (λ k d. clear-all k (omega arith))
+        ∙ group-word n s len (tapeAt l 0) (clearedTapes l m) q wide h (omega (arith, clear-length l m)) (λ k d. clear-all k (omega arith))
         ∙ fromBits-cong n _ (λ i. bitAt (rowOf s len i) q) (λ i k. sym (bitAt-row s len i q (omega (arith, row-fits n len i k)) h))
 
     -- and the words beyond the rows are zero

@@ -1,15 +1,17 @@
 -- What only the contracts of steps use: no definition of the paper stands here.
 -- The work memory for W wires, I inputs, A AND gates and O output wires, in planes one after the other: a word of shares for each wire; a
 -- word for each bit q of the tape rows, bit i of it for party i; a byte for each wire, its masked value. Of the tape words the first I are
--- input masks, then A output masks, then A product shares in whose place the broadcasts come, then the O output broadcasts.
+-- input masks, then A output masks, then A product shares in whose place the broadcasts come, then the O output broadcasts. After the
+-- planes stand the corrections, a bit for each AND gate, and rows, first of the tapes, later of the broadcasts; then, for n parties, seeds
+-- and leaves.
 -- Assumes nothing.
 use mathlib.Core.Bool.{cond}
 use mathlib.Core.List.{List}
 use Prim.Native.Nat.{ℕ, zero, suc, _+_, _-_, _*_, _/_, _≤_}
 use lib.Dec.{ltb}
-use lib.ListN.{length, set}
+use lib.ListN.{length, set, drop}
 use lib.Seq.{sets}
-use Rattle.bits.specs.Bits.{testBit, fromBits, bitAt}
+use Rattle.bits.specs.Bits.{oct, testBit, fromBits, bitAt}
 use Rattle.bits.specs.Bytes.{leAt, leBytes}
 use Rattle.words.specs.Words.{every, place, chosen}
 use Rattle.words.specs.Steps.{at, fill}
@@ -31,6 +33,22 @@ maskedAt l w = 8 * l .wires + 8 * tapeWords l + w
 
 abbrev pub planesEnd : Layout → ℕ
 planesEnd l = maskedAt l (l .wires)
+
+-- the place of the corrections; of the rows; and, after n tape rows, of n seeds with r and of n leaves; and the end of them all
+abbrev pub correctionsAt : Layout → ℕ
+correctionsAt l = planesEnd l
+
+abbrev pub rowsAt : Layout → ℕ
+rowsAt l = correctionsAt l + oct (l .ands)
+
+abbrev pub seedsAt : Layout → ℕ → ℕ
+seedsAt l n = rowsAt l + n * oct (l .inputs + 2 * l .ands)
+
+abbrev pub leavesAt : Layout → ℕ → ℕ
+leavesAt l n = seedsAt l n + 32 * n
+
+abbrev pub heldEnd : Layout → ℕ → ℕ
+heldEnd l n = leavesAt l n + 16 * n
 
 -- the tape word of the output mask of AND gate t, and of broadcast t
 abbrev pub maskWord : Layout → ℕ → ℕ
@@ -90,9 +108,9 @@ loadedGroups n s len (suc g) to m = loadedWords (rowsIn n g) s (g * (8 * len)) l
 unfoldable pub loadedTapes : Layout → ℕ → List ℕ → ℕ → List ℕ → List ℕ
 loadedTapes l n s len m = loadedGroups n s len ((n + 7) / 8) (tapeAt l 0) (clearedTapes l m)
 
--- the n rows of group g, of len bytes each, which stand after the planes, in the tape words
-unfoldable pub loadedBlock : Layout → ℕ → ℕ → ℕ → List ℕ → List ℕ
-loadedBlock l len n g m = loadedWords n m (planesEnd l) len len (tapeAt l 0 + g) m
+-- the tape rows of n parties, of len bytes each, which stand in the memory, in the tape words, which were cleared
+unfoldable pub loadedRows : Layout → ℕ → ℕ → List ℕ → List ℕ
+loadedRows l n len m = loadedTapes l n (drop (rowsAt l) m) len m
 
 -- count bytes of each of n rows of len bytes, from byte a on: byte k of row p has bit p of the words 8 k .. 8 k + 7, of which the bytes at
 -- every 8th place of m from `from` on are taken
@@ -110,9 +128,9 @@ storedGroups n m from len (suc g) rows = storedWords (rowsIn n g) m (from + g) l
 unfoldable pub storedRows : Layout → ℕ → List ℕ → ℕ → List ℕ → List ℕ
 storedRows l n m len rows = storedGroups n m (tapeAt l (broadcastWord l 0)) len ((n + 7) / 8) rows
 
--- the broadcast rows of the n parties of group g, after the planes
+-- the broadcast rows of the n parties of group g, in the place of the rows
 unfoldable pub storedBlock : Layout → ℕ → ℕ → ℕ → List ℕ → List ℕ
-storedBlock l n g len m = storedWords n m (tapeAt l (broadcastWord l 0) + g) len (planesEnd l) len m
+storedBlock l n g len m = storedWords n m (tapeAt l (broadcastWord l 0) + g) len (rowsAt l) len m
 
 -- at the places of hidden the words from `to` on have the bits of the row, count in all
 unfoldable pub putBits : ℕ → ℕ → List ℕ → ℕ → List ℕ → List ℕ

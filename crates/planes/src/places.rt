@@ -1,7 +1,7 @@
 // The places of the work memory, which no other crate knows.
 ghost use mathlib.Core.Path.{_≡_};
 ghost use Prim.Native.Nat.{_≤_, _<_};
-ghost use Rattle.planes.specs.Steps.{tapeWords, tapeAt, maskedAt, planesEnd, maskWord, broadcastWord, Room, share, tape, masked, putShare, putTape, putMasked};
+ghost use Rattle.planes.specs.Steps.{tapeWords, tapeAt, maskedAt, planesEnd, correctionsAt, rowsAt, seedsAt, leavesAt, maskWord, broadcastWord, Room, share, tape, masked, putShare, putTape, putMasked};
 use crate::Layout;
 
 // The number of tape words.
@@ -51,6 +51,38 @@ pub fn planes_end(l: Layout) -> usize
 {
     let w = l.wires;
     masked_at(l, w)
+}
+
+// The place of the corrections: after the planes.
+pub fn corrections_at(l: Layout) -> usize
+    requires { ⌜ (l .wires ≤ 1048576) × (tapeWords l ≤ 4194304) ⌝ }
+    ensures { λ r. ⌜ r ≡ correctionsAt l ⌝ }
+{
+    planes_end(l)
+}
+
+// The place of the rows: after the corrections.
+pub fn rows_at(l: Layout) -> usize
+    requires { ⌜ (l .wires ≤ 1048576) × (tapeWords l ≤ 4194304) ⌝ }
+    ensures { λ r. ⌜ r ≡ rowsAt l ⌝ }
+{
+    corrections_at(l) + bits::oct(l.ands)
+}
+
+// The place of the seeds of n parties: after their tape rows.
+pub fn seeds_at(l: Layout, n: usize) -> usize
+    requires { ⌜ (l .wires ≤ 1048576) × ((tapeWords l ≤ 4194304) × (n ≤ 64)) ⌝ }
+    ensures { λ r. ⌜ r ≡ seedsAt l n ⌝ }
+{
+    rows_at(l) + n * bits::oct(l.inputs + 2 * l.ands)
+}
+
+// The place of the leaves of n parties: after their seeds.
+pub fn leaves_at(l: Layout, n: usize) -> usize
+    requires { ⌜ (l .wires ≤ 1048576) × ((tapeWords l ≤ 4194304) × (n ≤ 64)) ⌝ }
+    ensures { λ r. ⌜ r ≡ leavesAt l n ⌝ }
+{
+    seeds_at(l, n) + 32 * n
 }
 
 // The shares of wire w.

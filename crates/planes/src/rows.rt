@@ -2,9 +2,9 @@
 ghost use mathlib.Core.Path.{_≡_};
 ghost use Prim.Native.Nat.{_+_, _*_, _/_, _≤_, _<_};
 ghost use lib.ListN.{length};
-ghost use Rattle.planes.specs.Steps.{tapeWords, broadcastWord, planesEnd, Room, storedWords, storedGroups, storedRows, storedBlock};
+ghost use Rattle.planes.specs.Steps.{tapeWords, broadcastWord, rowsAt, Room, storedWords, storedGroups, storedRows, storedBlock};
 use crate::Layout;
-use crate::places::planes_end;
+use crate::places::rows_at;
 use crate::places::tape_at;
 use crate::tapes::rows_in;
 use words::transpose::turn;
@@ -56,12 +56,12 @@ fn store_within(memory: &mut [u8], from: usize, n: usize, a: usize, len: usize)
     }
 }
 
-// Brings the broadcast words of group g into its n rows of len bytes, which stand after the planes.
+// Brings the broadcast words of group g into its n rows of len bytes, in the place of the rows.
 pub fn store_block(l: Layout, memory: &mut [u8], n: usize, g: usize, len: usize)
-    requires { ⌜ Room l (now memory) × ((n ≤ 8) × ((g < 8) × ((broadcastWord l 0 + 8 * len ≤ tapeWords l) × (planesEnd l + n * len ≤ length (now memory))))) ⌝ }
+    requires { ⌜ Room l (now memory) × ((n ≤ 8) × ((g < 8) × ((broadcastWord l 0 + 8 * len ≤ tapeWords l) × (rowsAt l + n * len ≤ length (now memory))))) ⌝ }
     ensures { λ _. ⌜ now (memory .exit) ≡ storedBlock l n g len (now (memory .entry)) ⌝ }
 {
     let from = tape_at(l, l.inputs + l.ands);
-    let a = planes_end(l);
+    let a = rows_at(l);
     store_within(memory, from + g, n, a, len);
 }

@@ -1,17 +1,20 @@
 // The tapes of all parties as words, by blocks of 8 rows.
 ghost use mathlib.Core.Path.{_≡_};
 ghost use Prim.Native.Nat.{_+_, _*_, _/_, _≤_, _<_};
-ghost use lib.ListN.{length};
-ghost use Rattle.planes.specs.Steps.{tapeWords, planesEnd, Room, cleared, clearedTapes, loadedWords, rowsIn, loadedGroups, loadedTapes, loadedBlock, putBits, putParty};
+ghost use lib.ListN.{length, drop};
+ghost use Rattle.words.specs.Steps.{turned};
+ghost use Rattle.planes.specs.Steps.{tapeWords, correctionsAt, rowsAt, broadcastWord, Room, cleared, clearedTapes, loadedWords, rowsIn, loadedGroups, loadedRows, putBits, putParty};
 use crate::Layout;
-use crate::places::planes_end;
+use crate::places::corrections_at;
+use crate::places::rows_at;
 use crate::places::tape_at;
 use crate::places::tape_words;
 use words::chosen;
 use words::every;
 use words::place;
-use words::transpose::turn;
-use words::transpose::turn_within;
+use words::transpose::gather;
+use words::transpose::scatter;
+use words::transpose::transpose8;
 
 // Sets count bytes of the memory to zero, from `to` on.
 fn clear_part(memory: &mut [u8], to: usize, count: usize)
@@ -25,21 +28,32 @@ fn clear_part(memory: &mut [u8], to: usize, count: usize)
     }
 }
 
-// Brings n rows of len bytes, n at most 8, the first from byte a of s on, into words: bit q of the rows to the byte of the memory at
-// to + 8 q.
-fn load_words(s: &[u8], a: usize, len: usize, n: usize, memory: &mut [u8], to: usize)
-    requires { ⌜ (n ≤ 8) × ((a + n * len ≤ length (now s)) × (to + 64 * len ≤ length (now memory) + 7)) ⌝ }
-    ensures { λ _. ⌜ now (memory .exit) ≡ loadedWords n (now (s .entry)) a len len to (now (memory .entry)) ⌝ }
+// Brings byte k of each of n rows of len bytes of the memory, n at most 8, which are one part of it from byte a on, into 8 words: bit t of
+// the bytes to the byte at to + 64 k + 8 t.
+fn turn_rows(memory: &mut [u8], a: usize, len: usize, n: usize, k: usize, to: usize)
+    requires { ⌜ (n ≤ 8) × ((k < len) × ((a + n * len ≤ length (now memory)) × (to + 64 * k + 56 < length (now memory)))) ⌝ }
+    ensures { λ _. ⌜ now (memory .exit) ≡ turned n 8 (now (memory .entry)) (a + k) len (to + 64 * k) 8 (now (memory .entry)) ⌝ }
+{
+    let rows = bits::row(&memory[a..], n * len, 0);
+    let x = gather(rows, k, len, n);
+    scatter(transpose8(x), memory, to + 64 * k, 8, 8);
+}
+
+// Brings n rows of len bytes of the memory, n at most 8, the first from byte a on, into words before them: bit q of the rows to the byte
+// at to + 8 q.
+fn load_words(memory: &mut [u8], a: usize, len: usize, n: usize, to: usize)
+    requires { ⌜ (n ≤ 8) × ((a + n * len ≤ length (now memory)) × (to + 64 * len ≤ a + 7)) ⌝ }
+    ensures { λ _. ⌜ now (memory .exit) ≡ loadedWords n (now (memory .entry)) a len len to (now (memory .entry)) ⌝ }
 {
     let mut k = 0;
     while k < len {
-        turn(s, a + k, len, n, memory, to + 64 * k, 8, 8);
+        turn_rows(memory, a, len, n, k, to);
         k += 1;
     }
 }
 
 // The parties of group g: 8, or those that are left of n.
-pub(crate) fn rows_in(n: usize, g: usize) -> usize
+pub fn rows_in(n: usize, g: usize) -> usize
     requires { ⌜ 8 * g < n ⌝ }
     ensures { λ r. ⌜ (r ≡ rowsIn n g) × ((r ≤ 8) × (8 * g + r ≤ n)) ⌝ }
 {
@@ -47,28 +61,15 @@ pub(crate) fn rows_in(n: usize, g: usize) -> usize
     if left < 8 { left } else { 8 }
 }
 
-// Brings the rows of group g into the words from `to` on; a whole block of 8 rows is one part of the tapes.
-fn load_group(tapes: &[u8], len: usize, n: usize, g: usize, memory: &mut [u8], to: usize)
-    requires { ⌜ (8 * g < n) × ((n ≤ 64) × ((n * len ≤ length (now tapes)) × (to + 64 * len ≤ length (now memory)))) ⌝ }
-    ensures { λ _. ⌜ now (memory .exit) ≡ loadedWords (rowsIn n g) (now (tapes .entry)) (g * (8 * len)) len len (to + g) (now (memory .entry)) ⌝ }
-{
-    let count = rows_in(n, g);
-    if count < 8 {
-        load_words(tapes, g * (8 * len), len, count, memory, to + g);
-        return;
-    }
-    let rows = bits::row(tapes, 8 * len, g);
-    load_words(rows, 0, len, 8, memory, to + g);
-}
-
-// Brings the rows of n parties into the words from `to` on.
-fn load_groups(tapes: &[u8], len: usize, n: usize, memory: &mut [u8], to: usize)
-    requires { ⌜ (n ≤ 64) × ((n * len ≤ length (now tapes)) × (to + 64 * len ≤ length (now memory))) ⌝ }
-    ensures { λ _. ⌜ now (memory .exit) ≡ loadedGroups n (now (tapes .entry)) len ((n + 7) / 8) to (now (memory .entry)) ⌝ }
+// Brings the rows of n parties, the first from byte a of the memory on, into the words from `to` on, a group at a time.
+fn load_groups(memory: &mut [u8], a: usize, len: usize, n: usize, to: usize)
+    requires { ⌜ (n ≤ 64) × ((a + n * len ≤ length (now memory)) × (to + 64 * len ≤ a)) ⌝ }
+    ensures { λ _. ⌜ now (memory .exit) ≡ loadedGroups n (drop a (now (memory .entry))) len ((n + 7) / 8) to (now (memory .entry)) ⌝ }
 {
     let mut g = 0;
     while 8 * g < n {
-        load_group(tapes, len, n, g, memory, to);
+        let count = rows_in(n, g);
+        load_words(memory, a + g * (8 * len), len, count, to + g);
         g += 1;
     }
 }
@@ -82,14 +83,15 @@ pub fn clear_tapes(l: Layout, memory: &mut [u8])
     clear_part(memory, to, 8 * tape_words(l));
 }
 
-// Brings the tape rows of n parties, of len bytes each, into the tape words, which are cleared before.
-pub fn load_tapes(l: Layout, tapes: &[u8], len: usize, n: usize, memory: &mut [u8])
-    requires { ⌜ Room l (now memory) × ((n ≤ 64) × ((n * len ≤ length (now tapes)) × (8 * len ≤ tapeWords l))) ⌝ }
-    ensures { λ _. ⌜ now (memory .exit) ≡ loadedTapes l n (now (tapes .entry)) len (now (memory .entry)) ⌝ }
+// Brings the tape rows of n parties, of len bytes each, which stand in the memory, into the tape words, which are cleared before.
+pub fn load_rows(l: Layout, memory: &mut [u8], len: usize, n: usize)
+    requires { ⌜ Room l (now memory) × ((n ≤ 64) × ((rowsAt l + n * len ≤ length (now memory)) × (8 * len ≤ tapeWords l))) ⌝ }
+    ensures { λ _. ⌜ now (memory .exit) ≡ loadedRows l n len (now (memory .entry)) ⌝ }
 {
     clear_tapes(l, memory);
     let to = tape_at(l, 0);
-    load_groups(tapes, len, n, memory, to);
+    let a = rows_at(l);
+    load_groups(memory, a, len, n, to);
 }
 
 // Puts the bits of a row at the places of hidden in the words from `to` on: no branch tells them.
@@ -116,24 +118,27 @@ pub fn put_party(l: Layout, q: usize, p: usize, row: &[u8], count: usize, memory
     put_bits(memory, to, place(p), row, count);
 }
 
-// Brings n rows of len bytes of the memory, n at most 8, the first from byte a on, into the words from `to` on, as load_words does.
-fn load_within(memory: &mut [u8], a: usize, len: usize, n: usize, to: usize)
-    requires { ⌜ (n ≤ 8) × ((a + n * len ≤ length (now memory)) × (to + 64 * len ≤ a + 7)) ⌝ }
-    ensures { λ _. ⌜ now (memory .exit) ≡ loadedWords n (now (memory .entry)) a len len to (now (memory .entry)) ⌝ }
+// Puts the bits of a row that stands in the memory from byte a on at the places of hidden in the words from `to` on.
+fn put_held_bits(memory: &mut [u8], to: usize, hidden: u64, a: usize, count: usize)
+    requires { ⌜ (a ≤ 1073741824) × ((to + 8 * count ≤ a) × (8 * a + count ≤ 8 * length (now memory))) ⌝ }
+    ensures { λ _. ⌜ now (memory .exit) ≡ putBits to hidden (drop a (now (memory .entry))) count (now (memory .entry)) ⌝ }
 {
-    let mut k = 0;
-    while k < len {
-        turn_within(memory, a + k, len, n, to + 64 * k, 8, 8);
-        k += 1;
+    let mut t = 0;
+    while t < count {
+        let old = bits::read_u64(memory, to + 8 * t);
+        let new = every(bits::bit(memory, 8 * a + t));
+        let x = chosen(hidden, new, old);
+        bits::write_u64(memory, to + 8 * t, x);
+        t += 1;
     }
 }
 
-// Brings group g's n rows of len bytes, which stand after the planes, into the tape words.
-pub fn load_block(l: Layout, memory: &mut [u8], len: usize, n: usize, g: usize)
-    requires { ⌜ Room l (now memory) × ((n ≤ 8) × ((g < 8) × ((8 * len ≤ tapeWords l) × (planesEnd l + n * len ≤ length (now memory))))) ⌝ }
-    ensures { λ _. ⌜ now (memory .exit) ≡ loadedBlock l len n g (now (memory .entry)) ⌝ }
+// Puts the corrections, which stand in the memory, as party p's product shares.
+pub fn put_corrections(l: Layout, p: usize, memory: &mut [u8])
+    requires { ⌜ Room l (now memory) × (rowsAt l ≤ length (now memory)) ⌝ }
+    ensures { λ _. ⌜ now (memory .exit) ≡ putParty l (broadcastWord l 0) p (drop (correctionsAt l) (now (memory .entry))) (l .ands) (now (memory .entry)) ⌝ }
 {
-    let to = tape_at(l, 0);
-    let a = planes_end(l);
-    load_within(memory, a, len, n, to + g);
+    let to = tape_at(l, l.inputs + l.ands);
+    let a = corrections_at(l);
+    put_held_bits(memory, to, place(p), a, l.ands);
 }

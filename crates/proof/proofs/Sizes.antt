@@ -46,7 +46,7 @@ module _ (s : List ℕ) (i o g a : ℕ) (k : Known s (sized i o g a)) where
       → 16 * h + v + 32 + (x + y) ≡ stretchBytes (circuitOf s) n (askOf n p)
   size-hiding n h p v x y tree few other sent e f =
       let z : stretchBytes (circuitOf s) n (hiding p) ≡ 16 * h + v + 32 + oct i + oct (a + o) =
-      stretch-size s i o g a n h p v k tree (omega arith) sent in
+      stretch-size s (sized i o g a) n h p k tree ∙ ap (λ (x : ℕ). 16 * h + x + 32 + oct i + oct (a + o)) (sym sent) in
       let q : stretchBytes (circuitOf s) n (askOf n p) ≡ stretchBytes (circuitOf s) n (hiding p) = ap (stretchBytes (circuitOf s) n) (ask-hiding n p other) in
       omega arith
 

@@ -324,9 +324,3 @@ module _ (s : List ℕ) (sizes : Sizes) (M tau n h : ℕ) (w y message nodes B :
               let inside : size ≤ length B
               = omega (arith, es, ap (proofBytes c M n) asks-right, challenge-fits c M tau n hs bound (t .counts) (tree .parties), t .room) in
               omega (arith, ap length proof-made, length-append (proofFrom c M tau n w bound nodes) (drop size B), length-drop size B, buffer-kept l)
-
--- buffers as long as those of an instance are lent as well
-pub lent-again : (s : List ℕ) (i o g a n h : ℕ) (tapes memory t m : List ℕ) → Lent s (sized i o g a) n h tapes memory → length t ≡ length tapes
-    → length m ≡ length memory → Lent s (sized i o g a) n h t m
-lent-again s i o g a n h tapes memory t m l e f =
-    record { known = l .known; tree = l .tree; tapes-fit = e ∙ l .tapes-fit; room = omega (arith, f, l .room) }

@@ -48,10 +48,10 @@ commitments-more : (M N : List ℕ) → allCommitmentsInput M ++ N ≡ allCommit
 unfolding allCommitmentsInput
 commitments-more M N = append-assoc (9 ∷ []) M N
 
--- buffers of the same lengths serve as well
-pub lent-kept : (s : List ℕ) (i o g a n h : ℕ) (tapes memory t m : List ℕ) → Lent s (sized i o g a) n h tapes memory → length t ≡ length tapes
-    → length m ≡ length memory → Lent s (sized i o g a) n h t m
-lent-kept s i o g a n h tapes memory t m l p q = record { known = l .known; tree = l .tree; tapes-fit = p ∙ l .tapes-fit; room = rw q (l .room) }
+-- a memory of the same length serves as well
+pub lent-kept : (s : List ℕ) (i o g a n h : ℕ) (memory m : List ℕ) → Lent s (sized i o g a) n h memory → length m ≡ length memory
+    → Lent s (sized i o g a) n h m
+lent-kept s i o g a n h memory m l q = record { known = l .known; tree = l .tree; room = rw q (l .room) }
 
 -- h'_j has 32 bytes
 pub length-online : (c : Circuit) (n j : ℕ) (witness master : List ℕ) → length (masterOnline c n j witness master) ≡ 32

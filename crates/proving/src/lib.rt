@@ -1,11 +1,12 @@
 // The operation prove.
 ghost use mathlib.Core.Path.{_≡_};
 ghost use mathlib.Core.Bool.{_&&_};
-ghost use Prim.Native.Nat.{_≤_};
+ghost use Prim.Native.Nat.{_+_, _*_, _≤_};
 ghost use lib.Dec.{eqb, leb};
 ghost use lib.ListN.{length};
 ghost use Rattle.bits.specs.Bits.{oct};
 ghost use Rattle.circuit.specs.File.{readCircuit, legal, circuitOf};
+ghost use Rattle.masks.specs.Steps.{wireCount};
 ghost use Rattle.mpc.specs.Steps.{Known, WitnessFits};
 ghost use Rattle.choice.specs.Challenge.{maxInstances};
 ghost use Rattle.seeds.specs.Operations.{maxMessage};
@@ -28,7 +29,7 @@ use proof::HEADER_BYTES;
 use refusal::Refusal;
 use seeds::MAX_MESSAGE;
 use seeds::counts;
-use writing::prove_with;
+use writing::prove_in;
 
 // What prove answers.
 pub enum Answer {
@@ -95,8 +96,9 @@ fn prove_lent(
     tau: u32,
     n: u32,
     buffer: &mut [u8],
+    memory: &mut [u8],
 ) -> Answer
-    requires { ⌜ (readCircuit (now s) ≡ legal (circuitOf (now s))) × Known (now s) z ⌝ }
+    requires { ⌜ (readCircuit (now s) ≡ legal (circuitOf (now s))) × (Known (now s) z × (64 * wireCount z + 4096 ≤ length (now memory))) ⌝ }
     ensures { λ r. ⌜ outcome r (now (buffer .exit)) ≡ proveLegal (now (s .entry)) (now (witness .entry)) (now (y .entry)) (now (message .entry)) (now (root .entry)) m tau n (now (buffer .entry)) (circuitOf (now (s .entry))) ⌝ }
 {
     let h = parties::height(n);
@@ -121,7 +123,39 @@ fn prove_lent(
     if !gives(s, z, witness, y) {
         return Answer::Refused(Refusal::Output);
     }
-    Answer::Written(prove_with(s, z, k, witness, y, message, root, buffer))
+    Answer::Written(prove_in(s, z, k, witness, y, message, root, buffer, memory))
+}
+
+// The same with a work memory of its own.
+fn prove_own(
+    s: &[u8],
+    z: Sizes,
+    witness: &[u8],
+    y: &[u8],
+    message: &[u8],
+    root: &[u8],
+    m: u32,
+    tau: u32,
+    n: u32,
+    buffer: &mut [u8],
+) -> Answer
+    requires { ⌜ (readCircuit (now s) ≡ legal (circuitOf (now s))) × Known (now s) z ⌝ }
+    ensures { λ r. ⌜ outcome r (now (buffer .exit)) ≡ proveLegal (now (s .entry)) (now (witness .entry)) (now (y .entry)) (now (message .entry)) (now (root .entry)) m tau n (now (buffer .entry)) (circuitOf (now (s .entry))) ⌝ }
+{
+    let mut memory = [0u8; 299008];
+    prove_lent(
+        s,
+        z,
+        witness,
+        y,
+        message,
+        root,
+        m,
+        tau,
+        n,
+        buffer,
+        &mut memory,
+    )
 }
 
 // Proves that the circuit gives y on the witness: writes a proof into the buffer and answers its length, or refuses and leaves the
@@ -142,6 +176,6 @@ pub fn prove(
     let answer = read(s);
     match answer {
         ReadAnswer::Refused(k, _) => Answer::Refused(k),
-        ReadAnswer::Legal(z) => prove_lent(s, z, witness, y, message, root, m, tau, n, buffer),
+        ReadAnswer::Legal(z) => prove_own(s, z, witness, y, message, root, m, tau, n, buffer),
     }
 }

@@ -41,10 +41,9 @@ pub(crate) fn first(
     witness: &[u8],
     nodes: &[u8],
     onlines: &mut [u8],
-    tapes: &mut [u8],
     memory: &mut [u8],
 ) -> [u8; 32]
-    requires { ⌜ Lent (now s) z (k .parties) (k .height) (now tapes) (now memory) × (WitnessFits z (now witness) × ((k .instances ≤ maxInstances) × ((length (now nodes) ≡ 16 * 2 ^ suc (height (k .instances))) × (length (now onlines) ≡ 32 * k .instances)))) ⌝ }
+    requires { ⌜ Lent (now s) z (k .parties) (k .height) (now memory) × (WitnessFits z (now witness) × ((k .instances ≤ maxInstances) × ((length (now nodes) ≡ 16 * 2 ^ suc (height (k .instances))) × (length (now onlines) ≡ 32 * k .instances)))) ⌝ }
     ensures { λ r. ⌜ r ≡ firstMessage (circuitOf (now (s .entry))) (k .instances) (k .parties) (now (witness .entry)) (masterIn (now (nodes .entry))) ⌝ }
     ensures { λ _. ⌜ now (onlines .exit) ≡ onlinesOf (circuitOf (now (s .entry))) (k .instances) (k .parties) (now (witness .entry)) (masterIn (now (nodes .entry))) ⌝ }
 {
@@ -60,7 +59,7 @@ pub(crate) fn first(
             parties: n,
             height: h,
         };
-        let d = digests(s, z, inst, witness, master(nodes, i), tapes, memory);
+        let d = digests(s, z, inst, witness, master(nodes, i), memory);
         all = all.absorb(SHA3_256_RATE, &d.commitments);
         let a = 32 * (j as usize);
         let e = a + 32;
@@ -81,17 +80,16 @@ pub(crate) fn stretch(
     seed: &[u8],
     online: &[u8],
     part: &mut [u8],
-    tapes: &mut [u8],
     memory: &mut [u8],
 )
-    requires { ⌜ Lent (now s) z (inst .parties) (inst .height) (now tapes) (now memory) × (WitnessFits z (now witness) × ((p ≤ inst .parties) × ((length (now seed) ≡ 16) × ((now online ≡ masterOnline (circuitOf (now s)) (inst .parties) (inst .number) (now witness) (now seed)) × (length (now part) ≡ stretchBytes (circuitOf (now s)) (inst .parties) (askOf (inst .parties) p)))))) ⌝ }
+    requires { ⌜ Lent (now s) z (inst .parties) (inst .height) (now memory) × (WitnessFits z (now witness) × ((p ≤ inst .parties) × ((length (now seed) ≡ 16) × ((now online ≡ masterOnline (circuitOf (now s)) (inst .parties) (inst .number) (now witness) (now seed)) × (length (now part) ≡ stretchBytes (circuitOf (now s)) (inst .parties) (askOf (inst .parties) p)))))) ⌝ }
     ensures { λ _. ⌜ now (part .exit) ≡ stretchOf (circuitOf (now (s .entry))) (inst .parties) (inst .number) (now (witness .entry)) (now (seed .entry)) (askOf (inst .parties) p) ⌝ }
 {
     let n = inst.parties;
     if p == n {
         copy(online, part);
     } else {
-        send(s, z, inst, p, witness, seed, part, tapes, memory);
+        send(s, z, inst, p, witness, seed, part, memory);
     }
 }
 
@@ -105,10 +103,9 @@ pub(crate) fn respond(
     witness: &[u8],
     nodes: &[u8],
     part: &mut [u8],
-    tapes: &mut [u8],
     memory: &mut [u8],
 )
-    requires { ⌜ Lent (now s) z (k .parties) (k .height) (now tapes) (now memory) × (WitnessFits z (now witness) × Response (now s) (k .instances) (k .parties) (now witness) (now nodes) (now table) opened (now part)) ⌝ }
+    requires { ⌜ Lent (now s) z (k .parties) (k .height) (now memory) × (WitnessFits z (now witness) × Response (now s) (k .instances) (k .parties) (now witness) (now nodes) (now table) opened (now part)) ⌝ }
     ensures { λ _. ⌜ now (part .exit) ≡ take opened (now (part .entry)) ++ responseOf (circuitOf (now (s .entry))) (k .instances) (k .parties) (now (witness .entry)) (masterIn (now (nodes .entry))) (asksIn (k .parties) (now (table .entry))) ⌝ }
 {
     let m = k.instances;
@@ -138,7 +135,6 @@ pub(crate) fn respond(
             master(nodes, j),
             &online,
             &mut part[start..end],
-            tapes,
             memory,
         );
         end = start;
@@ -154,10 +150,9 @@ pub(crate) fn answer(
     witness: &[u8],
     nodes: &[u8],
     part: &mut [u8],
-    tapes: &mut [u8],
     memory: &mut [u8],
 ) -> usize
-    requires { ⌜ Lent (now s) z (k .parties) (k .height) (now tapes) (now memory) × (WitnessFits z (now witness) × Answering (now s) (k .instances) (k .parties) (now witness) (now nodes) (now table) (now part)) ⌝ }
+    requires { ⌜ Lent (now s) z (k .parties) (k .height) (now memory) × (WitnessFits z (now witness) × Answering (now s) (k .instances) (k .parties) (now witness) (now nodes) (now table) (now part)) ⌝ }
     ensures { λ r. ⌜ r ≡ proofBytes (circuitOf (now (s .entry))) (k .instances) (k .parties) (asksIn (k .parties) (now (table .entry))) ⌝ }
     ensures { λ r. ⌜ now (part .exit) ≡ openedRows (k .instances) (asksIn (k .parties) (now (table .entry))) (now (nodes .entry)) ++ (responseOf (circuitOf (now (s .entry))) (k .instances) (k .parties) (now (witness .entry)) (masterIn (now (nodes .entry))) (asksIn (k .parties) (now (table .entry))) ++ drop (r - headerBytes) (now (part .entry))) ⌝ }
 {
@@ -175,7 +170,6 @@ pub(crate) fn answer(
         witness,
         nodes,
         &mut part[..end],
-        tapes,
         memory,
     );
     gather(&marks[..rows], nodes, &mut part[..opened]);

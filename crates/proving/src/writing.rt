@@ -6,7 +6,7 @@ ghost use lib.ListN.{length, drop};
 ghost use Rattle.circuit.specs.File.{circuitOf};
 ghost use Rattle.mpc.specs.Steps.{Known};
 ghost use Rattle.cover.specs.Masters.{height as «height-of»};
-ghost use Rattle.instance.specs.Steps.{Tree, Lent};
+ghost use Rattle.instance.specs.Steps.{Lent};
 ghost use Rattle.proof.specs.File.{headerBytes, headerOf};
 ghost use Rattle.proof.specs.Protocol.{statementOf};
 ghost use Rattle.proof.specs.Prove.{proofOf};
@@ -44,10 +44,9 @@ pub(crate) fn prove_from(
     message: &[u8],
     nodes: &[u8],
     buffer: &mut [u8],
-    tapes: &mut [u8],
     memory: &mut [u8],
 ) -> usize
-    requires { ⌜ Lent (now s) z (k .parties) (k .height) (now tapes) (now memory) × (Tested (now s) z (k .instances) (k .chosen) (k .parties) (now witness) (now y) (now message) (now buffer) × (length (now nodes) ≡ 16 * 2 ^ suc («height-of» (k .instances)))) ⌝ }
+    requires { ⌜ Lent (now s) z (k .parties) (k .height) (now memory) × (Tested (now s) z (k .instances) (k .chosen) (k .parties) (now witness) (now y) (now message) (now buffer) × (length (now nodes) ≡ 16 * 2 ^ suc («height-of» (k .instances)))) ⌝ }
     ensures { λ r. ⌜ r ≡ length (proofFrom (circuitOf (now (s .entry))) (k .instances) (k .chosen) (k .parties) (now (witness .entry)) (statementOf (k .instances) (k .chosen) (k .parties) (now (s .entry)) (now (y .entry)) (now (message .entry))) (now (nodes .entry))) ⌝ }
     ensures { λ r. ⌜ now (buffer .exit) ≡ proofFrom (circuitOf (now (s .entry))) (k .instances) (k .chosen) (k .parties) (now (witness .entry)) (statementOf (k .instances) (k .chosen) (k .parties) (now (s .entry)) (now (y .entry)) (now (message .entry))) (now (nodes .entry)) ++ drop r (now (buffer .entry)) ⌝ }
 {
@@ -60,7 +59,6 @@ pub(crate) fn prove_from(
         witness,
         nodes,
         &mut buffer[HEADER_BYTES..kept],
-        tapes,
         memory,
     );
     head(
@@ -80,7 +78,6 @@ pub(crate) fn prove_from(
         witness,
         nodes,
         &mut buffer[HEADER_BYTES..],
-        tapes,
         memory,
     )
 }
@@ -95,10 +92,9 @@ pub(crate) fn prove_in(
     message: &[u8],
     root: &[u8],
     buffer: &mut [u8],
-    tapes: &mut [u8],
     memory: &mut [u8],
 ) -> usize
-    requires { ⌜ Lent (now s) z (k .parties) (k .height) (now tapes) (now memory) × (Tested (now s) z (k .instances) (k .chosen) (k .parties) (now witness) (now y) (now message) (now buffer) × (length (now root) ≡ 16)) ⌝ }
+    requires { ⌜ Lent (now s) z (k .parties) (k .height) (now memory) × (Tested (now s) z (k .instances) (k .chosen) (k .parties) (now witness) (now y) (now message) (now buffer) × (length (now root) ≡ 16)) ⌝ }
     ensures { λ r. ⌜ r ≡ length (proofOf (circuitOf (now (s .entry))) (k .instances) (k .chosen) (k .parties) (now (witness .entry)) (statementOf (k .instances) (k .chosen) (k .parties) (now (s .entry)) (now (y .entry)) (now (message .entry))) (now (root .entry))) ⌝ }
     ensures { λ r. ⌜ now (buffer .exit) ≡ proofOf (circuitOf (now (s .entry))) (k .instances) (k .chosen) (k .parties) (now (witness .entry)) (statementOf (k .instances) (k .chosen) (k .parties) (now (s .entry)) (now (y .entry)) (now (message .entry))) (now (root .entry)) ++ drop r (now (buffer .entry)) ⌝ }
 {
@@ -106,53 +102,5 @@ pub(crate) fn prove_in(
     let len = 16 * row_count(m);
     let mut nodes = [0u8; 16384];
     grow(65535, height(m), root, &mut nodes[..len]);
-    prove_from(
-        s,
-        z,
-        k,
-        witness,
-        y,
-        message,
-        &nodes[..len],
-        buffer,
-        tapes,
-        memory,
-    )
-}
-
-// The same with a work memory of its own.
-pub(crate) fn prove_with(
-    s: &[u8],
-    z: Sizes,
-    k: Counts,
-    witness: &[u8],
-    y: &[u8],
-    message: &[u8],
-    root: &[u8],
-    buffer: &mut [u8],
-) -> usize
-    requires { ⌜ Known (now s) z × (Tree (k .parties) (k .height) × (Tested (now s) z (k .instances) (k .chosen) (k .parties) (now witness) (now y) (now message) (now buffer) × (length (now root) ≡ 16))) ⌝ }
-    ensures { λ r. ⌜ r ≡ length (proofOf (circuitOf (now (s .entry))) (k .instances) (k .chosen) (k .parties) (now (witness .entry)) (statementOf (k .instances) (k .chosen) (k .parties) (now (s .entry)) (now (y .entry)) (now (message .entry))) (now (root .entry))) ⌝ }
-    ensures { λ r. ⌜ now (buffer .exit) ≡ proofOf (circuitOf (now (s .entry))) (k .instances) (k .chosen) (k .parties) (now (witness .entry)) (statementOf (k .instances) (k .chosen) (k .parties) (now (s .entry)) (now (y .entry)) (now (message .entry))) (now (root .entry)) ++ drop r (now (buffer .entry)) ⌝ }
-{
-    let inputs = z.inputs;
-    let gates = z.gates;
-    let ands = z.ands;
-    let n = k.parties as usize;
-    let mut tapes = [0u8; 17408];
-    let mut memory = [0u8; 299008];
-    let t = n * bits::oct(inputs + 2 * ands);
-    let w = 64 * (inputs + gates) + 4096;
-    prove_in(
-        s,
-        z,
-        k,
-        witness,
-        y,
-        message,
-        root,
-        buffer,
-        &mut tapes[..t],
-        &mut memory[..w],
-    )
+    prove_from(s, z, k, witness, y, message, &nodes[..len], buffer, memory)
 }

@@ -8,7 +8,7 @@ use native.Mathlib.Omega.{arith}
 use native.Mathlib.Numerals.{add-one}
 use borrow.Author.Tests.{lt-ltb, le-ltb, eqb-true}
 use lib.Dec.{eqb}
-use lib.ListN.{length, take, replicate, length-append, length-replicate}
+use lib.ListN.{length, take, length-append}
 use lib.Seq.{take-at}
 use Rattle.bits.specs.Bits.{oct, pack, unusedZero}
 use Rattle.bits.specs.Bytes.{sameBytes, rowOf}
@@ -24,15 +24,17 @@ use Rattle.circuit.specs.declared.Sizes.{Sizes}
 use Rattle.circuit.specs.declared.ReadAnswer.{ReadAnswer}
 use Rattle.circuit.specs.declared.ReadAnswer.the-variants as readAnswer
 use Rattle.circuit.proofs.Answered.{fell, held}
-use Rattle.engine.specs.Steps.{packed, packedRows}
 use Rattle.plain.specs.Tapes.{andsOf, tapeRow, unusedRows}
 use Rattle.plain.specs.Showing.{Showing, rowsOf, replayOf}
+use Rattle.walk.specs.Steps.{layoutOf}
+use Rattle.packed.specs.Steps.{broadcastBytes, tapesHeld, correctionsHeld, showingOf, replayedMemory, rowsSent}
+use Rattle.packed.proofs.Runs.{rows-replayed}
 use Rattle.mpc.specs.Operations.{holdsRows, holdsShowing, broadcastBits, unusedShowing, replayLegal, replayOp}
 use Rattle.mpc.specs.Answers.{outcome}
-use Rattle.mpc.specs.Steps.{Known, Begun, ShowingFits, replayed, replayedValues}
+use Rattle.mpc.specs.Steps.{Known, Working, TapesFit, ShowingFits, withBoth}
 use Rattle.mpc.specs.declared.Answer.the-variants.{Done, Refused}
-use Rattle.mpc.proofs.Worked.{replayed-rows, replayed-output}
 use Rattle.mpc.proofs.Opened.{sized, opened-refused, opened-legal, circuit-inputs, circuit-outputs, circuit-ands, circuit-row}
+use Rattle.mpc.proofs.Places.{working-kept, memory-held, placed, both-length, both-tapes, both-corrections}
 
 -- six tests, one after the other
 pub all-six : (a b c d e f a' b' c' d' e' f' p q r s t : Bool) → a ≡ a' → b ≡ b' → c ≡ c' → d ≡ d' → e ≡ e' → f ≡ f'
@@ -61,29 +63,31 @@ module _ (k : ℕ) (z w : List ℕ) (l : length z ≡ k) where
   pub prefix-same : (y x : List ℕ) (r : Bool) → z ≡ x → r ≡ sameBytes (take k (z ++ w)) y → r ≡ sameBytes x y
   prefix-same y x r e h = h ∙ ap (λ (t : List ℕ). sameBytes t y) (take-at z w k l ∙ e)
 
--- the values' array
-pub values-length : (z : List ℕ) → length z ≡ length (replicate {A = ℕ} 4096 0) → length z ≡ 4096
-values-length z e = e ∙ length-replicate {A = ℕ} 4096 0
+-- the rows given where good
+module _ (good : Bool) (given rows : List ℕ) where
+  pub given-good : good ≡ true → (x : List ℕ) → x ≡ given → x ≡ cond good given rows
+  given-good t x e = e ∙ sym (ap (λ (j : Bool). cond j given rows) t)
 
--- the rows packed where good
-module _ (good : Bool) (w : ℕ) (m : List ℕ) (n broadcasts : ℕ) (rows : List ℕ) where
-  pub packed-good : good ≡ true → (len : ℕ) (x : List ℕ) → len ≡ oct broadcasts → x ≡ packedRows w m n broadcasts len
-      → x ≡ cond good (packedRows w m n broadcasts (oct broadcasts)) rows
-  packed-good t len x e z = z ∙ ap (packedRows w m n broadcasts) e ∙ sym (ap (λ (j : Bool). cond j (packedRows w m n broadcasts (oct broadcasts)) rows) t)
+  pub given-not : good ≡ false → rows ≡ cond good given rows
+  given-not t = sym (ap (λ (j : Bool). cond j given rows) t)
 
-  pub packed-not : good ≡ false → rows ≡ cond good (packedRows w m n broadcasts (oct broadcasts)) rows
-  packed-not t = sym (ap (λ (j : Bool). cond j (packedRows w m n broadcasts (oct broadcasts)) rows) t)
-
--- the answer, and the rows x that are left, as a work memory m that was clear gives them
-pub replayed-right : (s : List ℕ) (i o g a n p : ℕ) (tapes corr masked row m : List ℕ) → Known s (sized i o g a) → Begun (sized i o g a) n m → p < n
-    → unusedZero i masked ≡ true → (values y m1 x rows : List ℕ) (r : Bool) → let v : Showing = record { tapes = tapes; corrections = corr; maskedInputs = masked; row = row } in
-    values ≡ replayedValues s (sized i o g a) n p v m (replicate 4096 0) → r ≡ sameBytes (packed values 0 o (oct o)) y → m1 ≡ replayed s (sized i o g a) n p v m
-    → x ≡ cond r (packedRows (i + g) m1 n (a + o) (oct (a + o))) rows
+-- the answer, and the rows x that are left: m1 the memory with the tapes and the corrections brought in, m2 the memory after the replay
+pub replayed-right : (s : List ℕ) (z : Sizes) (n p : ℕ) (tapes corr masked row m : List ℕ) → Known s z → Working z n m → p < n → TapesFit z n tapes
+    → length corr ≡ oct (z .ands) → (m1 m2 part y x rows : List ℕ) (r : Bool)
+    → let v : Showing = record { tapes = tapes; corrections = corr; maskedInputs = masked; row = row } in m1 ≡ withBoth z tapes corr m
+    → part ≡ pack (replayOf (circuitOf s) n p (showingOf (tapesHeld z n m1) (correctionsHeld z m1) masked row) .output)
+    → r ≡ sameBytes part y → m2 ≡ replayedMemory s z n p masked row m1 → x ≡ cond r (rowsSent (layoutOf z) n (broadcastBytes z) m2) rows
     → (r ≡ sameBytes (pack (replayOf (circuitOf s) n p v .output)) y) × (x ≡ cond r (rowsOf n (replayOf (circuitOf s) n p v)) rows)
-replayed-right s i o g a n p tapes corr masked row m k b l unused values y m1 x rows r e t f z = (
-  t ∙ ap (λ (j : List ℕ). sameBytes j y) (replayed-output s i o g a n tapes m k b p corr masked row l unused values e),
-  z ∙ ap (λ (j : List ℕ). cond r j rows) (replayed-rows s i o g a n tapes m k b p corr masked row l unused m1 f),
-)
+replayed-right s z n p tapes corr masked row m k b hp fit fits m1 m2 part y x rows r e1 ep er e2 ex =
+    let c = circuitOf s in
+    let w = placed s z n k m b in
+    let t : tapesHeld z n m1 ≡ tapes = ap (tapesHeld z n) e1 ∙ both-tapes z n tapes m w fit corr fits in
+    let a : correctionsHeld z m1 ≡ corr = ap (correctionsHeld z) e1 ∙ both-corrections z n tapes m w fit corr fits in
+    let h = memory-held s z n k m1 (working-kept z n m m1 (ap length e1 ∙ both-length z n tapes m w fit corr fits) b) in
+    let rs = ap (rowsSent (layoutOf z) n (broadcastBytes z)) e2 ∙ rows-replayed s z n m1 h p masked row hp in (
+      er ∙ ap (λ (j : List ℕ). sameBytes j y) (ep ∙ ap₂ (λ (i j : List ℕ). pack (replayOf c n p (showingOf i j masked row) .output)) t a),
+      ex ∙ ap (λ (j : List ℕ). cond r j rows) (rs ∙ ap₂ (λ (i j : List ℕ). rowsOf n (replayOf c n p (showingOf i j masked row))) t a),
+    )
 
 -- the lengths in the numbers that the code carries
 abbrev lengthsHold : ℕ → ℕ → ℕ → ℕ → List ℕ → List ℕ → List ℕ → List ℕ → List ℕ → List ℕ → Bool
@@ -127,15 +131,6 @@ module _ (s : List ℕ) (i o g a : ℕ) (k : Known s (sized i o g a)) (n p : ℕ
       (hy ∙ ap (unusedZero 0) (e ∙ ap (λ (j : ℕ). rowOf tapes j p) (l ∙ sym (circuit-row s i o g a k))))
       (hz ∙ ap₂ (λ (j : ℕ) (m : Bool). not (eqb j n) || m) (add-one p) hd)
       h1 h2 h3 h4 h5
-
-  -- the masked inputs' unused bits
-  pub masked-unused : (u v d : Bool) → u ≡ unusedShowing (circuitOf s) n p lent → d ≡ u && v → not d ≡ false → unusedZero i masked ≡ true
-  unfolding unusedShowing
-  masked-unused u v d e h t =
-      let c = circuitOf s in
-      let z = six-true (unusedRows c n tapes n) (unusedZero (andsOf c) corr) (unusedZero (c .inputs) masked) (unusedZero (broadcastBits c) row)
-      (unusedZero 0 (tapeRow c tapes p)) (not (eqb (suc p) n) || unusedZero 0 corr) (sym e ∙ and-true-left u v (held _ d h t)) in
-      ap (λ (j : ℕ). unusedZero j masked) (sym (circuit-inputs s i o g a k)) ∙ z .1 .1 .0
 
   -- the answers
   module _ (h : ℕ) (y rows : List ℕ) (count : h ≡ heightOf n) where

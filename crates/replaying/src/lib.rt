@@ -1,50 +1,41 @@
 // Replaying an opened run: the hidden party's broadcasts are those of its row as lent.
 ghost use mathlib.Core.Path.{_≡_};
-ghost use mathlib.Core.Bool.{cond, true, _&&_};
+ghost use mathlib.Core.Bool.{cond, _&&_};
 ghost use mathlib.Core.List.{[], _∷_};
 ghost use Prim.Native.Nat.{_+_, _*_, _≤_, _<_};
 ghost use lib.Dec.{eqb};
 ghost use lib.ListN.{length};
-ghost use Rattle.bits.specs.Bits.{oct, pack, unusedZero};
+ghost use Rattle.bits.specs.Bits.{oct, pack};
 ghost use Rattle.bits.specs.Bytes.{sameBytes};
 ghost use Rattle.circuit.specs.File.{maxInputs, maxOutputs, maxGates, circuitOf};
-ghost use Rattle.engine.specs.Steps.{Room, packed, packedRows};
 ghost use Rattle.plain.specs.Showing.{rowsOf, replayOf};
+ghost use Rattle.planes.specs.Steps.{Room};
+ghost use Rattle.walk.specs.Steps.{layoutOf};
+ghost use Rattle.packed.specs.Steps.{broadcastBytes, rowsSent};
 ghost use Rattle.mpc.specs.Operations.{unusedShowing, replayLegal, replayOp};
 ghost use Rattle.mpc.specs.Answers.{outcome};
-ghost use Rattle.mpc.specs.Steps.{Known, Parties, Begun, ShowingFits};
+ghost use Rattle.mpc.specs.Steps.{Known, Working, workBytes, ShowingFits};
 use circuit::ReadAnswer;
 use circuit::Sizes;
 use circuit::reading::read;
-use engine::memory::pack;
-use engine::memory::pack_rows;
 use mpc::Answer;
+use mpc::holding::hold;
 use mpc::tests::both;
 use mpc::tests::either;
 use mpc::tests::holds;
 use mpc::tests::holds_rows;
 use mpc::tests::unused_rows;
-use mpc::working::run_opened;
+use packed::running::give_rows;
+use packed::running::replay_held;
 use refusal::Refusal;
 
-// Whether y is the first bits at every 16th byte of the values, packed.
-pub fn outputs_are(values: &[u8], outputs: usize, y: &[u8]) -> bool
-    requires { ⌜ (outputs ≤ maxOutputs) × (16 * outputs ≤ length (now values)) ⌝ }
-    ensures { λ r. ⌜ r ≡ sameBytes (packed (now (values .entry)) 0 outputs (oct outputs)) (now (y .entry)) ⌝ }
-{
-    let mut out = [0u8; 32];
-    let size = bits::oct(outputs);
-    pack(values, 0, outputs, &mut out[..size]);
-    bits::same(&out[..size], y)
-}
-
-// Packs the broadcast rows of n parties where good; else leaves them as they were.
-fn pack_if(good: bool, memory: &[u8], wires: usize, n: usize, broadcasts: usize, rows: &mut [u8])
-    requires { ⌜ Room wires n (now memory) × ((broadcasts ≤ wires + maxOutputs) × (length (now rows) ≡ n * oct broadcasts)) ⌝ }
-    ensures { λ _. ⌜ now (rows .exit) ≡ cond good (packedRows wires (now (memory .entry)) n broadcasts (oct broadcasts)) (now (rows .entry)) ⌝ }
+// Fills the broadcast rows of n parties where good; else leaves them as they were.
+fn give_if(good: bool, z: Sizes, n: usize, memory: &[u8], rows: &mut [u8])
+    requires { ⌜ Room (layoutOf z) (now memory) × ((n ≤ 64) × (length (now rows) ≡ n * broadcastBytes z)) ⌝ }
+    ensures { λ _. ⌜ now (rows .exit) ≡ cond good (rowsSent (layoutOf z) n (broadcastBytes z) (now (memory .entry))) (now (rows .entry)) ⌝ }
 {
     if good {
-        pack_rows(memory, wires, n, broadcasts, bits::oct(broadcasts), rows);
+        give_rows(z, n, memory, rows);
     }
 }
 
@@ -62,59 +53,16 @@ fn replay_in(
     rows: &mut [u8],
     memory: &mut [u8],
 ) -> bool
-    requires { ⌜ Known (now s) z × (Begun z n (now memory) × ((p < n) × ((unusedZero (z .inputs) (now masked) ≡ true) × (ShowingFits z n (now tapes) (now corrections) (now masked) (now row) × (length (now rows) ≡ n * oct (z .ands + z .outputs)))))) ⌝ }
+    requires { ⌜ Known (now s) z × (Working z n (now memory) × ((p < n) × (ShowingFits z n (now tapes) (now corrections) (now masked) (now row) × (length (now rows) ≡ n * oct (z .ands + z .outputs))))) ⌝ }
     ensures { λ r. ⌜ (r ≡ sameBytes (pack (replayOf (circuitOf (now (s .entry))) n p (record { tapes = now (tapes .entry); corrections = now (corrections .entry); maskedInputs = now (masked .entry); row = now (row .entry) }) .output)) (now (y .entry))) × (now (rows .exit) ≡ cond r (rowsOf n (replayOf (circuitOf (now (s .entry))) n p (record { tapes = now (tapes .entry); corrections = now (corrections .entry); maskedInputs = now (masked .entry); row = now (row .entry) }))) (now (rows .entry))) ⌝ }
 {
-    let wires = z.inputs + z.gates;
-    let broadcasts = z.ands + z.outputs;
-    let mut values = [0u8; 4096];
-    run_opened(
-        s,
-        z,
-        n,
-        p,
-        tapes,
-        corrections,
-        masked,
-        row,
-        &mut values,
-        memory,
-    );
-    let good = outputs_are(&values, z.outputs, y);
-    pack_if(good, memory, wires, n, broadcasts, rows);
+    let mut part = [0u8; 32];
+    let size = bits::oct(z.outputs);
+    hold(z, n, tapes, corrections, memory);
+    replay_held(s, z, n, p, masked, row, &mut part[..size], memory);
+    let good = bits::same(&part[..size], y);
+    give_if(good, z, n, memory, rows);
     good
-}
-
-// The same with a work memory of its own.
-fn replay_with(
-    s: &[u8],
-    z: Sizes,
-    n: usize,
-    p: usize,
-    tapes: &[u8],
-    corrections: &[u8],
-    masked: &[u8],
-    row: &[u8],
-    y: &[u8],
-    rows: &mut [u8],
-) -> bool
-    requires { ⌜ Known (now s) z × (Parties n × ((p < n) × ((unusedZero (z .inputs) (now masked) ≡ true) × (ShowingFits z n (now tapes) (now corrections) (now masked) (now row) × (length (now rows) ≡ n * oct (z .ands + z .outputs)))))) ⌝ }
-    ensures { λ r. ⌜ (r ≡ sameBytes (pack (replayOf (circuitOf (now (s .entry))) n p (record { tapes = now (tapes .entry); corrections = now (corrections .entry); maskedInputs = now (masked .entry); row = now (row .entry) }) .output)) (now (y .entry))) × (now (rows .exit) ≡ cond r (rowsOf n (replayOf (circuitOf (now (s .entry))) n p (record { tapes = now (tapes .entry); corrections = now (corrections .entry); maskedInputs = now (masked .entry); row = now (row .entry) }))) (now (rows .entry))) ⌝ }
-{
-    let mut memory = [0u8; 299008];
-    replay_in(
-        s,
-        z,
-        n,
-        p,
-        tapes,
-        corrections,
-        masked,
-        row,
-        y,
-        rows,
-        &mut memory,
-    )
 }
 
 // Whether the lengths of what replay is lent are as stated.
@@ -185,8 +133,9 @@ fn replay_lent(
     row: &[u8],
     y: &[u8],
     rows: &mut [u8],
+    memory: &mut [u8],
 ) -> Answer
-    requires { ⌜ Known (now s) z ⌝ }
+    requires { ⌜ Known (now s) z × (workBytes z ≤ length (now memory)) ⌝ }
     ensures { λ r. ⌜ outcome r (now (rows .exit) ∷ []) ≡ replayLegal n p (record { tapes = now (tapes .entry); corrections = now (corrections .entry); maskedInputs = now (masked .entry); row = now (row .entry) }) (now (y .entry)) (now (rows .entry)) (circuitOf (now (s .entry))) ⌝ }
 {
     if parties::height(n) == 0 {
@@ -206,7 +155,8 @@ fn replay_lent(
     ) {
         return Answer::Refused(Refusal::UnusedBits);
     }
-    if replay_with(s, z, k, q, tapes, corrections, masked, row, y, rows) {
+    let good = replay_in(s, z, k, q, tapes, corrections, masked, row, y, rows, memory);
+    if good {
         Answer::Done
     } else {
         Answer::Refused(Refusal::Output)
@@ -227,9 +177,22 @@ pub fn replay(
 ) -> Answer
     ensures { λ r. ⌜ outcome r (now (rows .exit) ∷ []) ≡ replayOp (now (s .entry)) n p (record { tapes = now (tapes .entry); corrections = now (corrections .entry); maskedInputs = now (masked .entry); row = now (row .entry) }) (now (y .entry)) (now (rows .entry)) ⌝ }
 {
+    let mut memory = [0u8; 299008];
     let answer = read(s);
     match answer {
         ReadAnswer::Refused(k, _) => Answer::Refused(k),
-        ReadAnswer::Legal(z) => replay_lent(s, z, n, p, tapes, corrections, masked, row, y, rows),
+        ReadAnswer::Legal(z) => replay_lent(
+            s,
+            z,
+            n,
+            p,
+            tapes,
+            corrections,
+            masked,
+            row,
+            y,
+            rows,
+            &mut memory,
+        ),
     }
 }

@@ -1,91 +1,45 @@
 -- What show makes and answers: the bits that a cut shows, the hidden row, the four parts, and each refusal.
 -- Assumes nothing.
-use mathlib.Core.Path.{_≡_, refl, sym, ap, ap₂, _∙_}
+use mathlib.Core.Path.{_≡_, sym, ap, ap₂, _∙_, fun-ext}
 use mathlib.Core.Bool.{Bool, true, false, not, cond, _&&_}
 use mathlib.Core.List.{List, [], _∷_, _++_}
-use Prim.Native.Nat.{ℕ, zero, suc, _+_, _-_, _*_, _≤_, _<_}
+use Prim.Native.Nat.{ℕ, suc, _+_, _*_, _≤_, _<_}
 use native.Mathlib.Omega.{arith}
 use native.Mathlib.Numerals.{add-one}
-use borrow.Author.Tests.{lt-ltb, le-ltb, ltb-true, leb-true, eqb-true, eq-eqb, ne-eqb}
+use borrow.Author.Tests.{ltb-true, leb-true, eqb-true, eq-eqb, ne-eqb}
 use lib.Dec.{eqb, leb, ltb}
-use lib.ListN.{length, take, drop, replicate, getD, set, length-replicate}
-use Rattle.circuit.specs.Steps.{gatesFrom, Chained, walks, gateAt}
-use lib.Seq.{take-suc, take-suc-set, take-all}
-use Rattle.bits.specs.Bits.{tabulate, oct, pack, unusedZero}
-use Rattle.bits.proofs.Tabulate.{length-tabulate}
+use lib.ListN.{length, take, drop, replicate}
+use Rattle.bits.specs.Bits.{tabulate, oct, bitAt, pack, unusedZero}
+use Rattle.bits.proofs.Packing.{bitAt-pack}
 use Rattle.bits.proofs.Tests.{and-true-left, and-true-right}
 use Rattle.refusal.specs.declared.Refusal.{Refusal}
 use Rattle.refusal.specs.declared.Refusal.the-variants.{BufferLength, UnusedBits, Parameter, Index}
 use Rattle.parties.specs.Parties.{heightOf}
 use Rattle.parties.proofs.Counts.{count-yes, count-no}
-use Rattle.circuit.specs.Circuit.{ands, Circuit, Gate, xor, and, inv}
-use Rattle.circuit.specs.Fields as fields
-use Rattle.circuit.specs.FieldSteps as steps
-use Rattle.circuit.specs.File.{outputsOf, gatesOf, headOf, outputWire, nextOf, gatesInOrder, circuitOf, Reading}
+use Rattle.circuit.specs.Circuit.{Circuit}
+use Rattle.circuit.specs.File.{circuitOf, Reading}
 use Rattle.circuit.specs.Operations.{readOp, onLegal, holds}
 use Rattle.circuit.specs.Answers.{readPaper}
 use Rattle.circuit.specs.declared.Sizes.{Sizes}
 use Rattle.circuit.specs.declared.ReadAnswer.{ReadAnswer}
 use Rattle.circuit.specs.declared.ReadAnswer.the-variants as readAnswer
-use Rattle.circuit.proofs.Answered.{gates-count, fell, held}
-use Rattle.circuit.proofs.Run.{goodChain-walks, gates-order}
-use Rattle.engine.specs.Steps.{packed}
+use Rattle.circuit.proofs.Answered.{fell, held}
+use Rattle.plain.specs.Run.{Transcript}
 use Rattle.plain.specs.Tapes.{andsOf, unusedRows, withRow}
 use Rattle.plain.specs.Showing as shown
-use Rattle.plain.specs.Showing.{correctionBits, honestRun, rowBits, shownBits, firstBits, Showing, hidden, showing}
+use Rattle.plain.specs.Showing.{correctionBits, runOn, honestRun, rowBits, shownBits, firstBits, Showing, hidden, showing}
+use Rattle.planes.specs.Steps.{Room, tapeWords, broadcastWord}
+use Rattle.planes.specs.declared.Layout.{Layout}
+use Rattle.walk.specs.Steps.{layoutOf}
+use Rattle.packed.specs.Steps.{Held, broadcastBytes, tapesHeld, correctionsHeld, ranMemory, sentBit}
+use Rattle.packed.proofs.Runs.{row-ran}
 use Rattle.mpc.specs.Operations.{holdsRows, tapeBits, partsOf, holdsShowing, showLegal, showOp}
 use Rattle.mpc.specs.Answers.{outcome}
-use Rattle.mpc.specs.Steps.{Known, Begun, WitnessFits, TapesFit, ShowingFits, worked}
+use Rattle.mpc.specs.Steps.{Known, Working, TapesFit, ShowLent, ShowingFits, prepared}
 use Rattle.mpc.specs.declared.Answer.the-variants.{Done, Refused}
-use Rattle.mpc.proofs.Worked.{worked-corrections, worked-row}
 use Rattle.mpc.proofs.Opened.{sized, opened-refused, opened-legal, circuit-inputs, circuit-outputs, circuit-gates, circuit-ands, circuit-row}
-
--- the first k gates of the chain
-take-gates : (s : List ℕ) (k g h : ℕ) → k ≤ g → take k (gatesFrom s g h) ≡ gatesFrom s k h
-unfolding steps.gatesFrom fields.chainFrom
-take-gates s zero g h l = refl
-take-gates s (suc k) zero h l = absurd (omega arith)
-take-gates s (suc k) (suc g) h l = ap (λ (gs : List Gate). gateAt s h ∷ gs) (take-gates s k g (nextOf s h) (omega arith))
-
--- the first gates have at most as many AND gates as all
-ands-take : (k : ℕ) (gs : List Gate) → ands (take k gs) ≤ ands gs
-unfolding ands
-ands-take zero gs = omega arith
-ands-take (suc k) [] = omega arith
-ands-take (suc k) (xor a b c ∷ gs) = ands-take k gs
-ands-take (suc k) (and a b c ∷ gs) = omega (arith, ands-take k gs)
-ands-take (suc k) (inv a c ∷ gs) = ands-take k gs
-
--- the chain of a legal file
-pub chained : (s : List ℕ) (i o g a : ℕ) → Known s (sized i o g a) → (h : ℕ) → h ≡ headOf s → Chained s i o g h
-chained s i o g a k h p = record { laid = k .legal .laid; chain = ap₂ (walks s) (k .legal .laid .gates) p ∙ goodChain-walks s (k .legal .chain) }
-
--- a legal file, with a cut
-module _ (s : List ℕ) (i o g a : ℕ) (f : Known s (sized i o g a)) (k : ℕ) where
-  -- below G, the AND gates passed
-  pub shown-below : (h r : ℕ) → h ≡ headOf s → k < g → r ≡ ands (gatesFrom s k h) → r ≡ shownBits (circuitOf s) k
-  unfolding shownBits fields.circuitOf
-  shown-below h r p l e =
-      let q : take k (gatesInOrder s) ≡ gatesFrom s k h
-      = ap (take k) (sym (gates-order s)) ∙ take-gates s k (gatesOf s) (headOf s) (omega (arith, f .legal .laid .gates)) ∙ ap (gatesFrom s k) (sym p) in
-      let t : ltb k (length (gatesInOrder s)) ≡ true = lt-ltb k (length (gatesInOrder s)) (omega (arith, gates-count s, f .legal .laid .gates)) in
-      rw (t, q) e
-
-  -- else all of them, and the outputs
-  pub shown-all : g ≤ k → a + o ≡ shownBits (circuitOf s) k
-  unfolding shownBits fields.circuitOf
-  shown-all l =
-      let t : ltb k (length (gatesInOrder s)) ≡ false = le-ltb k (length (gatesInOrder s)) (omega (arith, gates-count s, f .legal .laid .gates)) in
-      rw (t, length-tabulate (outputsOf s) (outputWire s)) (ap₂ _+_ (f .ands) (f .legal .laid .outputs))
-
-  -- at most all
-  pub shown-few : shownBits (circuitOf s) k ≤ a + o
-  unfolding shownBits fields.circuitOf
-  shown-few = pick (ltb k (length (gatesInOrder s)))
-    where
-      pick : (b : Bool) → cond b (ands (take k (gatesInOrder s))) (ands (gatesInOrder s) + length (tabulate (outputsOf s) (outputWire s))) ≤ a + o
-      pick true = omega (arith, ands-take k (gatesInOrder s), f .ands)
-      pick false = omega (arith, length-tabulate (outputsOf s) (outputWire s), f .ands, f .legal .laid .outputs)
+use Rattle.mpc.proofs.Places.{working-kept, memory-held, prepared-length, prepared-tapes, prepared-corrections}
+use Rattle.showing.proofs.Shown.{shown-few}
 
 -- the corrections, where they are the hidden party's
 pub corrections-hidden : (p n : ℕ) (y x z : List ℕ) → p + 1 ≡ n → y ≡ x → y ≡ cond (eqb (suc p) n) x z
@@ -95,28 +49,60 @@ corrections-hidden p n y x z e q = rw (eq-eqb (suc p) n (sym (add-one p) ∙ e))
 pub corrections-shown : (p n : ℕ) (y x z : List ℕ) → (p + 1 ≡ n → ⊥) → y ≡ z → y ≡ cond (eqb (suc p) n) x z
 corrections-shown p n y x z e q = rw (ne-eqb (suc p) n (λ t. e (add-one p ∙ t))) q
 
--- a run as it leaves a work memory m that was clear in m1
-module _ (s : List ℕ) (i o g a : ℕ) (k : Known s (sized i o g a)) (n : ℕ) (w tapes m m1 : List ℕ) (b : Begun (sized i o g a) n m) (unused : unusedZero i w ≡ true)
-    (e : m1 ≡ worked s (sized i o g a) n w tapes m) where
-  -- the bits of row p that the cut shows
-  pub row-made : (p cut r : ℕ) (out x : List ℕ) → p < n → r ≡ shownBits (circuitOf s) cut → length out ≡ oct (a + o)
-      → x ≡ packed m1 (48 * (i + g) + p) r (length out)
-      → x ≡ pack (firstBits (shownBits (circuitOf s) cut) (rowBits (honestRun (circuitOf s) n w tapes) p))
-  row-made p cut r out x hp t u q =
-      q ∙ ap₂ (λ (y : List ℕ) (j : ℕ). packed y (48 * (i + g) + p) r j) e u
-      ∙ ap (λ (j : ℕ). packed (worked s (sized i o g a) n w tapes m) (48 * (i + g) + p) j (oct (a + o))) t
-      ∙ worked-row s i o g a n tapes m k b w unused p (shownBits (circuitOf s) cut) hp (shown-few s i o g a k cut)
+-- what pack_row asks, for the bits that a cut shows
+pub row-asks : (s : List ℕ) (z : Sizes) (cut r p : ℕ) (l : Layout) (m row : List ℕ) → Known s z → r ≡ shownBits (circuitOf s) cut → l ≡ layoutOf z
+    → Room (layoutOf z) m → p < 64 → length row ≡ broadcastBytes z
+    → Room l m × ((p < 64) × ((broadcastWord l r ≤ tapeWords l) × (oct r ≤ length row)))
+row-asks s z cut r p l m row k e el room hp fit =
+    let few = shown-few s (z .inputs) (z .outputs) (z .gates) (z .ands) k cut in
+    rw el (room, (hp, (omega (arith, e, few), omega (arith, e, few, fit))))
+
+-- the row as pack_row leaves it
+pub row-packed : (s : List ℕ) (z : Sizes) (cut r p : ℕ) (l : Layout) (m row x : List ℕ) → r ≡ shownBits (circuitOf s) cut → l ≡ layoutOf z
+    → length row ≡ broadcastBytes z → x ≡ pack (tabulate (8 * length row) (λ t. ltb t r && sentBit l m p t))
+    → x ≡ pack (tabulate (8 * broadcastBytes z) (λ t. ltb t (shownBits (circuitOf s) cut) && sentBit (layoutOf z) m p t))
+row-packed s z cut r p l m row x e el fit q =
+    q ∙ ap₂ (λ (i j : ℕ). pack (tabulate (8 * i) (λ t. ltb t j && sentBit l m p t))) fit e
+    ∙ ap (λ (i : Layout). pack (tabulate (8 * broadcastBytes z) (λ t. ltb t (shownBits (circuitOf s) cut) && sentBit i m p t))) el
+
+-- the run with the corrections of the tapes, packed, is the honest one
+honest-is : (c : Circuit) (n : ℕ) (w tapes : List ℕ) → runOn c n w tapes (bitAt (pack (correctionBits c n tapes))) ≡ honestRun c n w tapes
+unfolding honestRun
+honest-is c n w tapes = ap (runOn c n w tapes) (fun-ext (λ t. bitAt-pack (correctionBits c n tapes) t))
+
+-- m1 the memory with the tapes brought in and the corrections made, and m2 after the run
+module _ (s : List ℕ) (z : Sizes) (n : ℕ) (w tapes m m1 m2 : List ℕ) (k : Known s z) (b : Working z n m) (fit : TapesFit z n tapes)
+    (unused : unusedRows (circuitOf s) n tapes n ≡ true) (e1 : m1 ≡ prepared s z n tapes m) (e2 : m2 ≡ ranMemory s z n w m1) where
+  tapes-there : tapesHeld z n m1 ≡ tapes
+  tapes-there = ap (tapesHeld z n) e1 ∙ prepared-tapes s z n tapes m k b fit
+
+  corrections-there : correctionsHeld z m1 ≡ pack (correctionBits (circuitOf s) n tapes)
+  corrections-there = ap (correctionsHeld z) e1 ∙ prepared-corrections s z n tapes m k b fit unused
+
+  here : Held s z n m1
+  here = memory-held s z n k m1 (working-kept z n m m1 (ap length e1 ∙ prepared-length s z n tapes m k b fit) b)
 
   -- the corrections
-  pub corrections-made : (p : ℕ) (out x : List ℕ) → length out ≡ oct a
-      → x ≡ cond (eqb (suc p) n) (replicate (length out) 0) (packed m1 (16 * (i + g) + 1) a (length out))
+  pub corrections-made : (p : ℕ) (x : List ℕ) → x ≡ cond (eqb (suc p) n) (replicate (oct (z .ands)) 0) (correctionsHeld z m1)
       → x ≡ cond (eqb (suc p) n) (replicate (oct (andsOf (circuitOf s))) 0) (pack (correctionBits (circuitOf s) n tapes))
-  corrections-made p out x t q =
-      let y : replicate {A = ℕ} (length out) 0 ≡ replicate (oct (andsOf (circuitOf s))) 0
-      = ap (λ (j : ℕ). replicate j 0) (t ∙ ap oct (sym (circuit-ands s i o g a k))) in
-      let z : packed m1 (16 * (i + g) + 1) a (length out) ≡ pack (correctionBits (circuitOf s) n tapes)
-      = ap₂ (λ (u : List ℕ) (j : ℕ). packed u (16 * (i + g) + 1) a j) e t ∙ worked-corrections s i o g a n tapes m k b w unused in
-      q ∙ ap₂ (cond (eqb (suc p) n)) y z
+  corrections-made p x q =
+      let a = sym (circuit-ands s (z .inputs) (z .outputs) (z .gates) (z .ands) k) in
+      q ∙ ap₂ (λ (j : ℕ) (y : List ℕ). cond (eqb (suc p) n) (replicate (oct j) 0) y) a corrections-there
+
+  -- the masked inputs
+  pub masked-made : (x : List ℕ) → x ≡ shown.maskedInputs (circuitOf s) n w (tapesHeld z n m1) → x ≡ shown.maskedInputs (circuitOf s) n w tapes
+  masked-made x q = q ∙ ap (shown.maskedInputs (circuitOf s) n w) tapes-there
+
+  -- the bits of row p that the cut shows
+  pub row-made : (p cut : ℕ) (x : List ℕ) → p < n
+      → x ≡ pack (tabulate (8 * broadcastBytes z) (λ t. ltb t (shownBits (circuitOf s) cut) && sentBit (layoutOf z) m2 p t))
+      → x ≡ pack (firstBits (shownBits (circuitOf s) cut) (rowBits (honestRun (circuitOf s) n w tapes) p))
+  row-made p cut x hp q =
+      let c = circuitOf s in
+      q ∙ ap (λ (y : List ℕ). pack (tabulate (8 * broadcastBytes z) (λ t. ltb t (shownBits c cut) && sentBit (layoutOf z) y p t))) e2
+      ∙ row-ran s z n m1 here w p (shownBits c cut) hp
+      ∙ ap (λ (r : Transcript). pack (firstBits (shownBits c cut) (rowBits r p)))
+      (ap₂ (λ (x y : List ℕ). runOn c n w x (bitAt y)) tapes-there corrections-there ∙ honest-is c n w tapes)
 
 -- the tapes with row p hidden
 pub hidden-made : (s : List ℕ) (i o g a : ℕ) → Known s (sized i o g a) → (len p : ℕ) (tapes x : List ℕ) → len ≡ oct (i + 2 * a)
@@ -158,17 +144,14 @@ module _ (i o g a n : ℕ) (w tapes b c m u : List ℕ) (r : Bool) (e : r ≡ le
   outs : eqb (length b) (n * oct (i + 2 * a)) && eqb (length c) (oct a) && eqb (length m) (oct i) && eqb (length u) (oct (a + o)) ≡ true
   outs = and-true-right (eqb (length w) (oct i) && eqb (length tapes) (n * oct (i + 2 * a))) _ six
 
-  -- the witness
-  pub witness-tested : (x y z : Bool) → x ≡ unusedZero i w → z ≡ x && y → not z ≡ false → WitnessFits (sized i o g a) w
-  witness-tested x y z p q v =
+  -- the witness and the tapes
+  pub inputs-tested : (s : List ℕ) (x y v : Bool) → y ≡ unusedRows (circuitOf s) n tapes n → v ≡ x && y → not v ≡ false → ShowLent s (sized i o g a) n w tapes
+  inputs-tested s x y v p q h =
       record {
-        size = eqb-true (length w) (oct i) (and-true-left _ (eqb (length tapes) (n * oct (i + 2 * a))) ins);
-        unused = sym p ∙ and-true-left x y (held (x && y) z q v);
+        witness-fits = eqb-true (length w) (oct i) (and-true-left _ (eqb (length tapes) (n * oct (i + 2 * a))) ins);
+        tapes-fit = eqb-true (length tapes) (n * oct (i + 2 * a)) (and-true-right (eqb (length w) (oct i)) _ ins);
+        unused = sym p ∙ and-true-right x y (held (x && y) v q h);
       }
-
-  -- the tapes
-  pub tapes-tested : TapesFit (sized i o g a) n tapes
-  tapes-tested = eqb-true (length tapes) (n * oct (i + 2 * a)) (and-true-right (eqb (length w) (oct i)) _ ins)
 
   -- the parts
   pub parts-tested : ShowingFits (sized i o g a) n b c m u

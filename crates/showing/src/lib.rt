@@ -1,42 +1,37 @@
 // Showing a run with one party hidden, cut after some of its gates.
+mod cuts;
+
 ghost use mathlib.Core.Path.{_≡_};
 ghost use mathlib.Core.Bool.{cond, _&&_};
 ghost use mathlib.Core.List.{[], _∷_, _++_};
 ghost use Prim.Native.Nat.{suc, _+_, _*_, _≤_, _<_};
-ghost use lib.Dec.{eqb};
+ghost use lib.Dec.{eqb, ltb};
 ghost use lib.ListN.{length, take, drop, replicate};
-ghost use Rattle.bits.specs.Bits.{oct};
-ghost use Rattle.circuit.specs.File.{maxInputs, maxOutputs, maxGates, headOf, circuitOf};
-ghost use Rattle.circuit.specs.Steps.{maxWires};
-ghost use Rattle.engine.specs.Steps.{packed};
-ghost use Rattle.plain.specs.Showing.{shownBits, showing};
+ghost use Rattle.bits.specs.Bits.{tabulate, oct, pack};
+ghost use Rattle.circuit.specs.File.{maxInputs, maxOutputs, maxGates, circuitOf};
+ghost use Rattle.plain.specs.Showing.{maskedInputs, shownBits, showing};
+ghost use Rattle.planes.specs.Steps.{Room};
+ghost use Rattle.walk.specs.Steps.{layoutOf};
+ghost use Rattle.packed.specs.Steps.{broadcastBytes, tapesHeld, correctionsHeld, ranMemory, sentBit};
 ghost use Rattle.mpc.specs.Operations.{partsOf, showLegal, showOp};
 ghost use Rattle.mpc.specs.Answers.{outcome};
-ghost use Rattle.mpc.specs.Steps.{Known, Parties, Begun, WitnessFits, TapesFit, ShowingFits};
+ghost use Rattle.mpc.specs.Steps.{Known, Working, Placed, workBytes, ShowLent, ShowingFits};
+use crate::cuts::shown_bits;
 use bits::clear;
 use circuit::ReadAnswer;
 use circuit::Sizes;
 use circuit::reading::read;
-use engine::chain::ands_passed;
-use engine::memory::pack;
 use mpc::Answer;
+use mpc::holding::give_corrections;
+use mpc::preparing::prepare_held;
 use mpc::tests::both;
 use mpc::tests::holds;
 use mpc::tests::holds_rows;
 use mpc::tests::unused_rows;
-use mpc::working::run_honest;
+use packed::running::pack_row;
+use packed::running::run_held;
 use refusal::Refusal;
-
-// The bits of a broadcast row that a cut shows.
-fn shown_bits(s: &[u8], z: Sizes, head: usize, cut: usize) -> usize
-    requires { ⌜ Known (now s) z × ((head ≡ headOf (now s)) × (cut ≤ z .gates)) ⌝ }
-    ensures { λ r. ⌜ r ≡ shownBits (circuitOf (now (s .entry))) cut ⌝ }
-{
-    if cut < z.gates {
-        return ands_passed(s, z, head, cut);
-    }
-    z.ands + z.outputs
-}
+use walk::layout;
 
 // Copies the tapes with row p all zero.
 fn hide_row(tapes: &[u8], len: usize, p: usize, out: &mut [u8])
@@ -53,16 +48,38 @@ fn hide_row(tapes: &[u8], len: usize, p: usize, out: &mut [u8])
     clear(&mut out[a..e]);
 }
 
-// Shows the corrections, or zeros where they are the hidden party's.
-fn show_corrections(memory: &[u8], wires: usize, ands: usize, n: usize, p: usize, out: &mut [u8])
-    requires { ⌜ (p < n) × ((n ≤ 16) × ((wires ≤ maxWires) × ((ands ≤ wires) × ((length (now out) ≤ 4096) × (64 * wires + 4096 ≤ length (now memory)))))) ⌝ }
-    ensures { λ _. ⌜ now (out .exit) ≡ cond (eqb (suc p) n) (replicate (length (now (out .entry))) 0) (packed (now (memory .entry)) (16 * wires + 1) ands (length (now (out .entry)))) ⌝ }
+// Shows the corrections that stand in the memory, or zeros where they are the hidden party's.
+fn show_corrections(z: Sizes, n: usize, p: usize, memory: &[u8], out: &mut [u8])
+    requires { ⌜ Placed z n (now memory) × ((p < n) × (length (now out) ≡ oct (z .ands))) ⌝ }
+    ensures { λ _. ⌜ now (out .exit) ≡ cond (eqb (suc p) n) (replicate (oct (z .ands)) 0) (correctionsHeld z (now (memory .entry))) ⌝ }
 {
     if p + 1 == n {
         clear(out);
     } else {
-        pack(memory, 16 * wires + 1, ands, out);
+        give_corrections(z, n, memory, out);
     }
+}
+
+// Runs the circuit on a witness, with the tapes and the corrections that stand in the memory; its outputs are not shown.
+fn run_honest(s: &[u8], z: Sizes, n: usize, witness: &[u8], masked: &mut [u8], memory: &mut [u8])
+    requires { ⌜ Known (now s) z × (Working z n (now memory) × ((length (now witness) ≡ oct (z .inputs)) × (length (now masked) ≡ oct (z .inputs)))) ⌝ }
+    ensures { λ _. ⌜ now (masked .exit) ≡ maskedInputs (circuitOf (now (s .entry))) n (now (witness .entry)) (tapesHeld z n (now (memory .entry))) ⌝ }
+    ensures { λ _. ⌜ now (memory .exit) ≡ ranMemory (now (s .entry)) z n (now (witness .entry)) (now (memory .entry)) ⌝ }
+{
+    let mut y = [0u8; 32];
+    let size = bits::oct(z.outputs);
+    run_held(s, z, n, witness, masked, &mut y[..size], memory);
+}
+
+// Shows the bits of party p's row of broadcasts that the cut shows.
+fn show_row(s: &[u8], z: Sizes, p: usize, cut: usize, memory: &[u8], row: &mut [u8])
+    requires { ⌜ Known (now s) z × (Room (layoutOf z) (now memory) × ((p < 64) × ((cut ≤ z .gates) × (length (now row) ≡ broadcastBytes z)))) ⌝ }
+    ensures { λ _. ⌜ now (row .exit) ≡ pack (tabulate (8 * broadcastBytes z) (λ t. ltb t (shownBits (circuitOf (now (s .entry))) cut) && sentBit (layoutOf z) (now (memory .entry)) p t)) ⌝ }
+{
+    let l = layout(z);
+    let head = circuit::records::head(s);
+    let shown = shown_bits(s, z, head, cut);
+    pack_row(memory, l, p, shown, row);
 }
 
 // Runs the circuit in a work memory and fills the cut's four parts.
@@ -80,51 +97,15 @@ fn show_in(
     row: &mut [u8],
     memory: &mut [u8],
 )
-    requires { ⌜ Known (now s) z × (Begun z n (now memory) × ((p < n) × ((cut ≤ z .gates) × (WitnessFits z (now witness) × (TapesFit z n (now tapes) × ShowingFits z n (now blanked) (now corrections) (now masked) (now row)))))) ⌝ }
+    requires { ⌜ Known (now s) z × (Working z n (now memory) × ((p < n) × ((cut ≤ z .gates) × (ShowLent (now s) z n (now witness) (now tapes) × ShowingFits z n (now blanked) (now corrections) (now masked) (now row))))) ⌝ }
     ensures { λ _. ⌜ now (blanked .exit) ∷ now (corrections .exit) ∷ now (masked .exit) ∷ now (row .exit) ∷ [] ≡ partsOf (showing (circuitOf (now (s .entry))) n p cut (now (witness .entry)) (now (tapes .entry))) ⌝ }
 {
-    let head = circuit::records::head(s);
-    let wires = z.inputs + z.gates;
     let len = bits::oct(z.inputs + 2 * z.ands);
-    run_honest(s, z, n, witness, tapes, masked, memory);
-    let shown = shown_bits(s, z, head, cut);
-    pack(memory, 48 * wires + p, shown, row);
-    show_corrections(memory, wires, z.ands, n, p, corrections);
+    prepare_held(s, z, n, tapes, memory);
+    show_corrections(z, n, p, memory, corrections);
+    run_honest(s, z, n, witness, masked, memory);
+    show_row(s, z, p, cut, memory, row);
     hide_row(tapes, len, p, blanked);
-}
-
-// The same with a work memory of its own.
-fn show_with(
-    s: &[u8],
-    z: Sizes,
-    n: usize,
-    p: usize,
-    cut: usize,
-    witness: &[u8],
-    tapes: &[u8],
-    blanked: &mut [u8],
-    corrections: &mut [u8],
-    masked: &mut [u8],
-    row: &mut [u8],
-)
-    requires { ⌜ Known (now s) z × (Parties n × ((p < n) × ((cut ≤ z .gates) × (WitnessFits z (now witness) × (TapesFit z n (now tapes) × ShowingFits z n (now blanked) (now corrections) (now masked) (now row)))))) ⌝ }
-    ensures { λ _. ⌜ now (blanked .exit) ∷ now (corrections .exit) ∷ now (masked .exit) ∷ now (row .exit) ∷ [] ≡ partsOf (showing (circuitOf (now (s .entry))) n p cut (now (witness .entry)) (now (tapes .entry))) ⌝ }
-{
-    let mut memory = [0u8; 299008];
-    show_in(
-        s,
-        z,
-        n,
-        p,
-        cut,
-        witness,
-        tapes,
-        blanked,
-        corrections,
-        masked,
-        row,
-        &mut memory,
-    );
 }
 
 // Whether the lengths of what show is lent are as stated.
@@ -168,8 +149,9 @@ fn show_lent(
     corrections: &mut [u8],
     masked: &mut [u8],
     row: &mut [u8],
+    memory: &mut [u8],
 ) -> Answer
-    requires { ⌜ Known (now s) z ⌝ }
+    requires { ⌜ Known (now s) z × (workBytes z ≤ length (now memory)) ⌝ }
     ensures { λ r. ⌜ outcome r (now (blanked .exit) ∷ now (corrections .exit) ∷ now (masked .exit) ∷ now (row .exit) ∷ []) ≡ showLegal n p cut (now (witness .entry)) (now (tapes .entry)) (record { tapes = now (blanked .entry); corrections = now (corrections .entry); maskedInputs = now (masked .entry); row = now (row .entry) }) (circuitOf (now (s .entry))) ⌝ }
 {
     if parties::height(n) == 0 {
@@ -189,7 +171,7 @@ fn show_lent(
     ) {
         return Answer::Refused(Refusal::UnusedBits);
     }
-    show_with(
+    show_in(
         s,
         z,
         k,
@@ -201,6 +183,7 @@ fn show_lent(
         corrections,
         masked,
         row,
+        memory,
     );
     Answer::Done
 }
@@ -220,6 +203,7 @@ pub fn show(
 ) -> Answer
     ensures { λ r. ⌜ outcome r (now (blanked .exit) ∷ now (corrections .exit) ∷ now (masked .exit) ∷ now (row .exit) ∷ []) ≡ showOp (now (s .entry)) n p cut (now (witness .entry)) (now (tapes .entry)) (record { tapes = now (blanked .entry); corrections = now (corrections .entry); maskedInputs = now (masked .entry); row = now (row .entry) }) ⌝ }
 {
+    let mut memory = [0u8; 299008];
     let answer = read(s);
     match answer {
         ReadAnswer::Refused(k, _) => Answer::Refused(k),
@@ -235,6 +219,7 @@ pub fn show(
             corrections,
             masked,
             row,
+            &mut memory,
         ),
     }
 }

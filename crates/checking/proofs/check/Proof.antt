@@ -16,14 +16,14 @@ enum-known-answer c = search needs
 enum-known-answer-2 : tie.Need-enum-known-answer-2
 enum-known-answer-2 c = search needs
 
-check-lent-requires : tie.Need-check-lent-requires
-check-lent-requires c κs = (opened-legal _ _ _ (c .before .answer2 .given .1) (c .before .before .before .read .ensures), opened _ _ _ (c .before .answer2 .given .1) (c .before .before .before .read .ensures))
+check-own-requires : tie.Need-check-own-requires
+check-own-requires c κs = (opened-legal _ _ _ (c .before .answer2 .given .1) (c .before .before .before .read .ensures), opened _ _ _ (c .before .answer2 .given .1) (c .before .before .before .read .ensures))
 
 returns : tie.Need-returns
 returns c = check-refused _ _ _ _ _ (c .before .before .before .read .ensures) _ (c .before .answer .given .1)
 
 returns-2 : tie.Need-returns-2
-returns-2 c = c .check-lent .ensures ∙ check-read _ _ _ _ _ (c .before .before .before .before .read .ensures) _ (c .before .before .answer2 .given .1)
+returns-2 c = c .check-own .ensures ∙ check-read _ _ _ _ _ (c .before .before .before .before .read .ensures) _ (c .before .before .answer2 .given .1)
 
 pub check-spec : {M : Type 1} → statement M
 check-spec =
@@ -32,6 +32,6 @@ check-spec =
     read-requires
     enum-known-answer
     enum-known-answer-2
-    check-lent-requires
+    check-own-requires
     returns
     returns-2)

@@ -1,103 +1,78 @@
 -- `instance::checking::replay` meets its contract.
 -- Assumes nothing.
-use mathlib.Core.Path.{refl, sym, ap, _∙_}
-use Prim.Native.Nat.{_+_, _*_}
+use mathlib.Core.Path.{refl, sym, _∙_}
+use Prim.Native.Nat.{ℕ, _+_, _*_}
 use native.Mathlib.Omega.{arith}
-use lib.ListN.{length, drop, replicate}
-use Rattle.bits.specs.Bits.{oct}
+use lib.ListN.{length-replicate}
 use Rattle.bits.proofs.Copies.{prefix-length}
-use Rattle.plain.specs.Showing.{Showing}
-use Rattle.mpc.specs.Steps.{replayed}
+use Rattle.planes.specs.Steps.{correctionsAt}
+use Rattle.packed.specs.Steps.{broadcastBytes}
 use Rattle.mpc.proofs.Opened.{ands-low}
-use Rattle.instance.proofs.Trees.{tree-parties, tree-low}
-use Rattle.instance.proofs.Checks.{stretch-size, sent-small, masked-unused, part-length, rest-length}
-use Rattle.instance.proofs.Replays.{kept-prefix, prefix-inside, prefix-taken, commitments-made, lent-shown, output-made, rows-made}
+use Rattle.instance.proofs.Trees.{tree-low}
+use Rattle.instance.proofs.Rooms.{few-parties, lent-kept, lent-end, lent-rows, lent-planes, lent-held, lent-wires, places-low, places-few, place-is, seeds-inside, seeds-size}
+use Rattle.instance.proofs.Sent.{few-output, front-inside, front-back, front-taken}
+use Rattle.instance.proofs.Checks.{stretch-size, sent-small, part-length, rest-length}
+use Rattle.instance.proofs.Replays.{commitments-opened, output-made, rows-made}
 use Rattle.instance.proofs.checking.replay.Statement.{statement}
 use Rattle.instance.proofs.checking.replay.Tie as tie
 
 cast-k : tie.Need-cast-k
-cast-k c =
-    let p = c .before .before .before .before .before .pre in
-    let x = c .before .before .before .before .before .args in
-    omega (arith, tree-parties _ _ (p .0 .tree) .few)
+cast-k c = omega (arith, few-parties _ _ _ _ _ (c .before .before .before .before .pre .0))
 
-mul-size : tie.Need-mul-size
-mul-size c =
-    let p = c .before .before .before .before .before .pre in
-    let x = c .before .before .before .before .before .args in
-    omega (arith, tree-parties _ _ (p .0 .tree) .few)
+layout-requires : tie.Need-layout-requires
+layout-requires c κs = lent-wires _ _ _ _ _ (c .before .before .before .before .pre .0)
+
+corrections-at-requires : tie.Need-corrections-at-requires
+corrections-at-requires c κs = places-low _ _ _ _ _ (c .before .before .before .before .before .pre .0) _ (c .layout .ensures)
+
+seeds-at-requires : tie.Need-seeds-at-requires
+seeds-at-requires c κs = places-few _ _ _ _ _ (c .before .before .before .before .before .before .pre .0) _ (c .before .layout .ensures)
+
+leaves-at-requires : tie.Need-leaves-at-requires
+leaves-at-requires c κs = places-few _ _ _ _ _ (c .before .before .before .before .before .before .before .pre .0) _ (c .before .before .layout .ensures)
+
+sent-bytes-requires : tie.Need-sent-bytes-requires
+sent-bytes-requires c κs =
+    let p = c .before .before .before .before .before .before .before .before .pre in
+    (omega (arith, ands-low _ _ _ _ _ (p .0 .known), p .0 .known .legal .laid .few-gates), p .1 .0)
+
+cast-second : tie.Need-cast-second
+cast-second c = omega (arith, tree-low _ _ (c .before .before .before .before .before .before .before .before .before .before .pre .0 .tree))
+
+mul-second : tie.Need-mul-second
+mul-second c = omega (arith, tree-low _ _ (c .before .before .before .before .before .before .before .before .before .before .pre .0 .tree))
+
+add-second : tie.Need-add-second
+add-second c =
+    let p = c .before .before .before .before .before .before .before .before .before .before .pre in
+    omega (arith, tree-low _ _ (p .0 .tree), sent-small _ _ _ _ _ (p .0 .known) _ _ _ (p .0 .tree) (c .before .before .before .before .before .before .before .before .before .before .args .part .now) (p .1 .1 .0) _ (c .before .sent-bytes .ensures), ands-low _ _ _ _ _ (p .0 .known), p .0 .known .legal .laid .few-gates)
+
+add-third : tie.Need-add-third
+add-third c =
+    let p = c .before .before .before .before .before .before .before .before .before .before .pre in
+    omega (arith, tree-low _ _ (p .0 .tree), sent-small _ _ _ _ _ (p .0 .known) _ _ _ (p .0 .tree) (c .before .before .before .before .before .before .before .before .before .before .args .part .now) (p .1 .1 .0) _ (c .before .sent-bytes .ensures), ands-low _ _ _ _ _ (p .0 .known), p .0 .known .legal .laid .few-gates)
 
 oct-requires : tie.Need-oct-requires
 oct-requires c κs = tt
 
-sent-bytes-requires : tie.Need-sent-bytes-requires
-sent-bytes-requires c κs =
-    let p = c .before .before .before .before .before .before .pre in
-    let x = c .before .before .before .before .before .before .args in
-    (omega (arith, ands-low _ _ _ _ _ (p .0 .known), p .0 .known .legal .laid .few-gates), p .1 .0)
-
-cast-first : tie.Need-cast-first
-cast-first c =
-    let p = c .before .before .before .before .before .before .before .pre in
-    let x = c .before .before .before .before .before .before .before .args in
-    omega (arith, tree-low _ _ (p .0 .tree))
-
-mul-first : tie.Need-mul-first
-mul-first c =
-    let p = c .before .before .before .before .before .before .before .pre in
-    let x = c .before .before .before .before .before .before .before .args in
-    omega (arith, tree-low _ _ (p .0 .tree))
-
-add-second : tie.Need-add-second
-add-second c =
-    let p = c .before .before .before .before .before .before .before .pre in
-    let x = c .before .before .before .before .before .before .before .args in
-    omega (arith, tree-low _ _ (p .0 .tree), sent-small _ _ _ _ _ (p .0 .known) (x .inst .parties) (x .inst .height) (x .p) (p .0 .tree) (x .part .now) (p .1 .1 .0) (c .sent-bytes .result) (c .sent-bytes .ensures), ands-low _ _ _ _ _ (p .0 .known), p .0 .known .legal .laid .few-gates, p .0 .known .legal .laid .few-inputs)
-
-add-third : tie.Need-add-third
-add-third c =
-    let p = c .before .before .before .before .before .before .before .pre in
-    let x = c .before .before .before .before .before .before .before .args in
-    omega (arith, tree-low _ _ (p .0 .tree), sent-small _ _ _ _ _ (p .0 .known) (x .inst .parties) (x .inst .height) (x .p) (p .0 .tree) (x .part .now) (p .1 .1 .0) (c .sent-bytes .result) (c .sent-bytes .ensures), ands-low _ _ _ _ _ (p .0 .known), p .0 .known .legal .laid .few-gates, p .0 .known .legal .laid .few-inputs)
+add-fourth : tie.Need-add-fourth
+add-fourth c =
+    let p = c .before .before .before .before .before .before .before .before .before .before .before .pre in
+    omega (arith, tree-low _ _ (p .0 .tree), sent-small _ _ _ _ _ (p .0 .known) _ _ _ (p .0 .tree) (c .before .before .before .before .before .before .before .before .before .before .before .args .part .now) (p .1 .1 .0) _ (c .before .before .sent-bytes .ensures), ands-low _ _ _ _ _ (p .0 .known), p .0 .known .legal .laid .few-gates, c .oct .ensures, p .0 .known .legal .laid .few-inputs)
 
 oct-requires-2 : tie.Need-oct-requires-2
 oct-requires-2 c κs = tt
 
-add-fourth : tie.Need-add-fourth
-add-fourth c =
-    let p = c .before .before .before .before .before .before .before .before .pre in
-    let x = c .before .before .before .before .before .before .before .before .args in
-    omega (arith, tree-low _ _ (p .0 .tree), sent-small _ _ _ _ _ (p .0 .known) (x .inst .parties) (x .inst .height) (x .p) (p .0 .tree) (x .part .now) (p .1 .1 .0) (c .before .sent-bytes .result) (c .before .sent-bytes .ensures), ands-low _ _ _ _ _ (p .0 .known), p .0 .known .legal .laid .few-gates, p .0 .known .legal .laid .few-inputs, c .oct2 .ensures)
-
-array-borrow-prefix-seeds : tie.Need-array-borrow-prefix-seeds
-array-borrow-prefix-seeds c =
-    let p = c .before .before .before .before .before .before .before .before .pre in
-    let x = c .before .before .before .before .before .before .before .before .args in
-    omega (arith, tree-parties _ _ (p .0 .tree) .few)
-
-slice-aggregate-reopen-parties : tie.Need-slice-aggregate-reopen-parties
-slice-aggregate-reopen-parties c =
-    let p = c .before .before .before .before .before .before .before .before .before .pre in
-    let x = c .before .before .before .before .before .before .before .before .before .args in
-    sym (prefix-length (32 * x .inst .parties) 512 (omega (arith, tree-parties _ _ (p .0 .tree) .few)))
-
-array-borrow-prefix-corrections : tie.Need-array-borrow-prefix-corrections
-array-borrow-prefix-corrections c =
-    let p = c .before .before .before .before .before .before .before .before .before .pre in
-    let x = c .before .before .before .before .before .before .before .before .before .args in
-    omega (arith, c .before .before .before .oct .ensures, ands-low _ _ _ _ _ (p .0 .known), p .0 .known .legal .laid .few-gates)
-
-slice-aggregate-reopen-parties-2 : tie.Need-slice-aggregate-reopen-parties-2
-slice-aggregate-reopen-parties-2 c =
-    let p = c .before .before .before .before .before .before .before .before .before .before .pre in
-    let x = c .before .before .before .before .before .before .before .before .before .before .args in
-    sym (prefix-length (c .before .before .before .before .oct .result) 512 (omega (arith, c .before .before .before .before .oct .ensures, ands-low _ _ _ _ _ (p .0 .known), p .0 .known .legal .laid .few-gates)))
-
 reopen-parties-requires : tie.Need-reopen-parties-requires
 reopen-parties-requires c κs =
-    let p = c .before .before .before .before .before .before .before .before .before .before .before .pre in
-    let x = c .before .before .before .before .before .before .before .before .before .before .before .args in
-    (p .0 .known, (p .0 .tree, (p .1 .0, (p .1 .1 .0, (prefix-length (32 * x .inst .parties) 512 (omega (arith, tree-parties _ _ (p .0 .tree) .few)), (prefix-length (c .before .before .before .before .before .oct .result) 512 (omega (arith, c .before .before .before .before .before .oct .ensures, ands-low _ _ _ _ _ (p .0 .known), p .0 .known .legal .laid .few-gates)) ∙ c .before .before .before .before .before .oct .ensures, p .0 .tapes-fit))))))
+    let p = c .before .before .before .before .before .before .before .before .before .before .before .before .before .pre in
+    (p .0, (p .1 .0, p .1 .1 .0))
+
+add-end : tie.Need-add-end
+add-end c =
+    let p = c .before .before .before .before .before .before .before .before .before .before .before .before .before .before .before .before .pre in
+    let l = places-low _ _ _ _ _ (p .0) _ (c .before .before .before .before .before .before .before .before .before .before .before .layout .ensures) in
+    omega (arith, l, c .before .before .before .before .before .before .before .before .before .before .corrections-at .ensures, tree-low _ _ (p .0 .tree), sent-small _ _ _ _ _ (p .0 .known) _ _ _ (p .0 .tree) (c .before .before .before .before .before .before .before .before .before .before .before .before .before .before .before .before .args .part .now) (p .1 .1 .0) _ (c .before .before .before .before .before .before .before .sent-bytes .ensures), ands-low _ _ _ _ _ (p .0 .known), p .0 .known .legal .laid .few-gates)
 
 sub-commit : tie.Need-sub-commit
 sub-commit c = omega arith
@@ -108,106 +83,113 @@ part-commit-start c = omega arith
 part-commit-end : tie.Need-part-commit-end
 part-commit-end c =
     let p = c .before .before .before .before .before .before .before .before .before .before .before .before .before .before .before .before .pre in
-    let x = c .before .before .before .before .before .before .before .before .before .before .before .before .before .before .before .before .args in
-    omega (arith, stretch-size _ _ _ _ _ (p .0 .known) (x .inst .parties) (x .inst .height) (x .p) (p .0 .tree) (x .part .now) (p .1 .1 .0) (c .before .before .before .before .before .before .before .before .before .sent-bytes .result) (c .before .before .before .before .before .before .before .before .before .sent-bytes .ensures))
+    omega (arith, stretch-size _ _ _ _ _ (p .0 .known) _ _ _ (p .0 .tree) (c .before .before .before .before .before .before .before .before .before .before .before .before .before .before .before .before .args .part .now) (p .1 .1 .0) _ (c .before .before .before .before .before .before .before .sent-bytes .ensures))
 
-array-share-prefix-seeds : tie.Need-array-share-prefix-seeds
-array-share-prefix-seeds c =
-    let p = c .before .before .before .before .before .before .before .before .before .before .before .before .before .before .before .before .before .pre in
-    let x = c .before .before .before .before .before .before .before .before .before .before .before .before .before .before .before .before .before .args in
-    prefix-inside (32 * x .inst .parties) (32 * x .inst .parties) (c .before .before .before .before .before .reopen-parties .last .1 .1 .1 .1 .1 .0) (drop (32 * x .inst .parties) (replicate 512 0)) (kept-prefix (32 * x .inst .parties) 512 (c .before .before .before .before .before .reopen-parties .last .1 .1 .1 .1 .1 .0) (omega (arith, tree-parties _ _ (p .0 .tree) .few)) (c .before .before .before .before .before .reopen-parties .kept .1 .1 .1 .1 .1 .0)) (omega arith)
+sub-commit-2 : tie.Need-sub-commit-2
+sub-commit-2 c = seeds-inside _ _ _ (c .before .before .before .before .before .before .before .before .before .before .before .before .layout .ensures) (c .before .before .before .reopen-parties .last .1 .1 .1 .1 .1 .0) (lent-end _ _ _ _ _ (lent-kept _ _ _ _ _ (c .before .before .before .before .before .before .before .before .before .before .before .before .before .before .before .before .before .pre .0) (c .before .before .before .reopen-parties .last .1 .1 .1 .1 .1 .0) (c .before .before .before .reopen-parties .kept .1 .1 .1 .1 .1 .0))) _ _ (c .before .before .before .before .before .before .before .before .before .before .seeds-at .ensures) (c .before .before .before .before .before .before .before .before .before .leaves-at .ensures) .0
 
-slice-aggregate-commit : tie.Need-slice-aggregate-commit
-slice-aggregate-commit c =
-    let p = c .before .before .before .before .before .before .before .before .before .before .before .before .before .before .before .before .before .before .pre in
-    let x = c .before .before .before .before .before .before .before .before .before .before .before .before .before .before .before .before .before .before .args in
-    prefix-taken (32 * x .inst .parties) (32 * x .inst .parties) (c .before .before .before .before .before .before .reopen-parties .last .1 .1 .1 .1 .1 .0) (drop (32 * x .inst .parties) (replicate 512 0)) (kept-prefix (32 * x .inst .parties) 512 (c .before .before .before .before .before .before .reopen-parties .last .1 .1 .1 .1 .1 .0) (omega (arith, tree-parties _ _ (p .0 .tree) .few)) (c .before .before .before .before .before .before .reopen-parties .kept .1 .1 .1 .1 .1 .0)) (omega arith)
+part-commit-start-2 : tie.Need-part-commit-start-2
+part-commit-start-2 c = seeds-inside _ _ _ (c .before .before .before .before .before .before .before .before .before .before .before .before .before .layout .ensures) (c .before .before .before .before .reopen-parties .last .1 .1 .1 .1 .1 .0) (lent-end _ _ _ _ _ (lent-kept _ _ _ _ _ (c .before .before .before .before .before .before .before .before .before .before .before .before .before .before .before .before .before .before .pre .0) (c .before .before .before .before .reopen-parties .last .1 .1 .1 .1 .1 .0) (c .before .before .before .before .reopen-parties .kept .1 .1 .1 .1 .1 .0))) _ _ (c .before .before .before .before .before .before .before .before .before .before .before .seeds-at .ensures) (c .before .before .before .before .before .before .before .before .before .before .leaves-at .ensures) .0
 
-array-share-prefix-corrections : tie.Need-array-share-prefix-corrections
-array-share-prefix-corrections c =
-    let p = c .before .before .before .before .before .before .before .before .before .before .before .before .before .before .before .before .before .before .pre in
-    let x = c .before .before .before .before .before .before .before .before .before .before .before .before .before .before .before .before .before .before .args in
-    prefix-inside (c .before .before .before .before .before .before .before .before .before .before .before .sent-bytes .result) (c .before .before .before .before .before .before .before .before .before .before .before .before .oct .result) (c .before .before .before .before .before .before .reopen-parties .last .1 .1 .1 .1 .1 .1 .0) (drop (c .before .before .before .before .before .before .before .before .before .before .before .before .oct .result) (replicate 512 0)) (kept-prefix (c .before .before .before .before .before .before .before .before .before .before .before .before .oct .result) 512 (c .before .before .before .before .before .before .reopen-parties .last .1 .1 .1 .1 .1 .1 .0) (omega (arith, c .before .before .before .before .before .before .before .before .before .before .before .before .oct .ensures, ands-low _ _ _ _ _ (p .0 .known), p .0 .known .legal .laid .few-gates)) (c .before .before .before .before .before .before .reopen-parties .kept .1 .1 .1 .1 .1 .1 .0)) (omega (arith, sent-small _ _ _ _ _ (p .0 .known) (x .inst .parties) (x .inst .height) (x .p) (p .0 .tree) (x .part .now) (p .1 .1 .0) (c .before .before .before .before .before .before .before .before .before .before .before .sent-bytes .result) (c .before .before .before .before .before .before .before .before .before .before .before .sent-bytes .ensures), c .before .before .before .before .before .before .before .before .before .before .before .before .oct .ensures))
+part-commit-end-2 : tie.Need-part-commit-end-2
+part-commit-end-2 c = seeds-inside _ _ _ (c .before .before .before .before .before .before .before .before .before .before .before .before .before .layout .ensures) (c .before .before .before .before .reopen-parties .last .1 .1 .1 .1 .1 .0) (lent-end _ _ _ _ _ (lent-kept _ _ _ _ _ (c .before .before .before .before .before .before .before .before .before .before .before .before .before .before .before .before .before .before .pre .0) (c .before .before .before .before .reopen-parties .last .1 .1 .1 .1 .1 .0) (c .before .before .before .before .reopen-parties .kept .1 .1 .1 .1 .1 .0))) _ _ (c .before .before .before .before .before .before .before .before .before .before .before .seeds-at .ensures) (c .before .before .before .before .before .before .before .before .before .before .leaves-at .ensures) .1
 
-slice-aggregate-commit-2 : tie.Need-slice-aggregate-commit-2
-slice-aggregate-commit-2 c =
+sub-commit-3 : tie.Need-sub-commit-3
+sub-commit-3 c = omega arith
+
+part-commit-start-3 : tie.Need-part-commit-start-3
+part-commit-start-3 c = omega arith
+
+part-commit-end-3 : tie.Need-part-commit-end-3
+part-commit-end-3 c =
     let p = c .before .before .before .before .before .before .before .before .before .before .before .before .before .before .before .before .before .before .before .pre in
     let x = c .before .before .before .before .before .before .before .before .before .before .before .before .before .before .before .before .before .before .before .args in
-    prefix-taken (c .before .before .before .before .before .before .before .before .before .before .before .before .sent-bytes .result) (c .before .before .before .before .before .before .before .before .before .before .before .before .before .oct .result) (c .before .before .before .before .before .before .before .reopen-parties .last .1 .1 .1 .1 .1 .1 .0) (drop (c .before .before .before .before .before .before .before .before .before .before .before .before .before .oct .result) (replicate 512 0)) (kept-prefix (c .before .before .before .before .before .before .before .before .before .before .before .before .before .oct .result) 512 (c .before .before .before .before .before .before .before .reopen-parties .last .1 .1 .1 .1 .1 .1 .0) (omega (arith, c .before .before .before .before .before .before .before .before .before .before .before .before .before .oct .ensures, ands-low _ _ _ _ _ (p .0 .known), p .0 .known .legal .laid .few-gates)) (c .before .before .before .before .before .before .before .reopen-parties .kept .1 .1 .1 .1 .1 .1 .0)) (omega (arith, sent-small _ _ _ _ _ (p .0 .known) (x .inst .parties) (x .inst .height) (x .p) (p .0 .tree) (x .part .now) (p .1 .1 .0) (c .before .before .before .before .before .before .before .before .before .before .before .before .sent-bytes .result) (c .before .before .before .before .before .before .before .before .before .before .before .before .sent-bytes .ensures), c .before .before .before .before .before .before .before .before .before .before .before .before .before .oct .ensures))
+    omega (arith, sent-small _ _ _ _ _ (p .0 .known) _ _ _ (p .0 .tree) (x .part .now) (p .1 .1 .0) _ (c .before .before .before .before .before .before .before .before .before .before .sent-bytes .ensures), lent-end _ _ _ _ _ (lent-kept _ _ _ _ _ (p .0) (c .before .before .before .before .before .reopen-parties .last .1 .1 .1 .1 .1 .0) (c .before .before .before .before .before .reopen-parties .kept .1 .1 .1 .1 .1 .0)), place-is correctionsAt (x .z) (c .before .before .before .before .before .before .before .before .before .before .before .before .before .before .layout .result) (c .before .before .before .before .before .before .before .before .before .before .before .before .before .corrections-at .result) (c .before .before .before .before .before .before .before .before .before .before .before .before .before .before .layout .ensures) (c .before .before .before .before .before .before .before .before .before .before .before .before .before .corrections-at .ensures))
 
 commit-requires : tie.Need-commit-requires
 commit-requires c κs =
-    let p = c .before .before .before .before .before .before .before .before .before .before .before .before .before .before .before .before .before .before .before .pre in
-    let x = c .before .before .before .before .before .before .before .before .before .before .before .before .before .before .before .before .before .before .before .args in
-    (tree-parties _ _ (p .0 .tree) .few, sym (prefix-taken (32 * x .inst .parties) (32 * x .inst .parties) (c .before .before .before .before .before .before .before .reopen-parties .last .1 .1 .1 .1 .1 .0) (drop (32 * x .inst .parties) (replicate 512 0)) (kept-prefix (32 * x .inst .parties) 512 (c .before .before .before .before .before .before .before .reopen-parties .last .1 .1 .1 .1 .1 .0) (omega (arith, tree-parties _ _ (p .0 .tree) .few)) (c .before .before .before .before .before .before .before .reopen-parties .kept .1 .1 .1 .1 .1 .0)) (omega arith)))
+    let p = c .before .before .before .before .before .before .before .before .before .before .before .before .before .before .before .before .before .before .before .before .pre in
+    (few-parties _ _ _ _ _ (p .0), seeds-size _ _ _ (c .before .before .before .before .before .before .before .before .before .before .before .before .before .before .before .layout .ensures) (c .before .before .before .before .before .before .reopen-parties .last .1 .1 .1 .1 .1 .0) (lent-end _ _ _ _ _ (lent-kept _ _ _ _ _ (p .0) (c .before .before .before .before .before .before .reopen-parties .last .1 .1 .1 .1 .1 .0) (c .before .before .before .before .before .before .reopen-parties .kept .1 .1 .1 .1 .1 .0))) _ _ (c .before .before .before .before .before .before .before .before .before .before .before .before .before .seeds-at .ensures) (c .before .before .before .before .before .before .before .before .before .before .before .before .leaves-at .ensures))
 
-array-share-prefix-corrections-2 : tie.Need-array-share-prefix-corrections-2
-array-share-prefix-corrections-2 c =
+sub-replay-held : tie.Need-sub-replay-held
+sub-replay-held c = omega arith
+
+part-replay-held-start : tie.Need-part-replay-held-start
+part-replay-held-start c = omega arith
+
+part-replay-held-end : tie.Need-part-replay-held-end
+part-replay-held-end c =
     let p = c .before .before .before .before .before .before .before .before .before .before .before .before .before .before .before .before .before .before .before .before .before .pre in
-    let x = c .before .before .before .before .before .before .before .before .before .before .before .before .before .before .before .before .before .before .before .before .before .args in
-    prefix-inside (c .before .before .before .before .before .before .before .before .before .before .before .before .before .before .before .oct .result) (c .before .before .before .before .before .before .before .before .before .before .before .before .before .before .before .oct .result) (c .before .before .before .before .before .before .before .before .before .reopen-parties .last .1 .1 .1 .1 .1 .1 .0) (drop (c .before .before .before .before .before .before .before .before .before .before .before .before .before .before .before .oct .result) (replicate 512 0)) (kept-prefix (c .before .before .before .before .before .before .before .before .before .before .before .before .before .before .before .oct .result) 512 (c .before .before .before .before .before .before .before .before .before .reopen-parties .last .1 .1 .1 .1 .1 .1 .0) (omega (arith, c .before .before .before .before .before .before .before .before .before .before .before .before .before .before .before .oct .ensures, ands-low _ _ _ _ _ (p .0 .known), p .0 .known .legal .laid .few-gates)) (c .before .before .before .before .before .before .before .before .before .reopen-parties .kept .1 .1 .1 .1 .1 .1 .0)) (omega arith)
+    omega (arith, stretch-size _ _ _ _ _ (p .0 .known) _ _ _ (p .0 .tree) (c .before .before .before .before .before .before .before .before .before .before .before .before .before .before .before .before .before .before .before .before .before .args .part .now) (p .1 .1 .0) _ (c .before .before .before .before .before .before .before .before .before .before .before .before .sent-bytes .ensures), c .before .before .before .before .before .before .before .before .before .before .oct .ensures)
 
-slice-aggregate-rerun : tie.Need-slice-aggregate-rerun
-slice-aggregate-rerun c =
+sub-replay-held-2 : tie.Need-sub-replay-held-2
+sub-replay-held-2 c =
     let p = c .before .before .before .before .before .before .before .before .before .before .before .before .before .before .before .before .before .before .before .before .before .before .pre in
-    let x = c .before .before .before .before .before .before .before .before .before .before .before .before .before .before .before .before .before .before .before .before .before .before .args in
-    prefix-taken (c .before .before .before .before .before .before .before .before .before .before .before .before .before .before .before .before .oct .result) (c .before .before .before .before .before .before .before .before .before .before .before .before .before .before .before .before .oct .result) (c .before .before .before .before .before .before .before .before .before .before .reopen-parties .last .1 .1 .1 .1 .1 .1 .0) (drop (c .before .before .before .before .before .before .before .before .before .before .before .before .before .before .before .before .oct .result) (replicate 512 0)) (kept-prefix (c .before .before .before .before .before .before .before .before .before .before .before .before .before .before .before .before .oct .result) 512 (c .before .before .before .before .before .before .before .before .before .before .reopen-parties .last .1 .1 .1 .1 .1 .1 .0) (omega (arith, c .before .before .before .before .before .before .before .before .before .before .before .before .before .before .before .before .oct .ensures, ands-low _ _ _ _ _ (p .0 .known), p .0 .known .legal .laid .few-gates)) (c .before .before .before .before .before .before .before .before .before .before .reopen-parties .kept .1 .1 .1 .1 .1 .1 .0)) (omega arith)
+    omega (arith, stretch-size _ _ _ _ _ (p .0 .known) _ _ _ (p .0 .tree) (c .before .before .before .before .before .before .before .before .before .before .before .before .before .before .before .before .before .before .before .before .before .before .args .part .now) (p .1 .1 .0) _ (c .before .before .before .before .before .before .before .before .before .before .before .before .before .sent-bytes .ensures), c .before .before .before .before .before .before .before .before .before .before .before .oct .ensures)
 
-sub-rerun : tie.Need-sub-rerun
-sub-rerun c = omega arith
-
-part-rerun-start : tie.Need-part-rerun-start
-part-rerun-start c = omega arith
-
-part-rerun-end : tie.Need-part-rerun-end
-part-rerun-end c =
+part-replay-held-start-2 : tie.Need-part-replay-held-start-2
+part-replay-held-start-2 c =
     let p = c .before .before .before .before .before .before .before .before .before .before .before .before .before .before .before .before .before .before .before .before .before .before .pre in
-    let x = c .before .before .before .before .before .before .before .before .before .before .before .before .before .before .before .before .before .before .before .before .before .before .args in
-    omega (arith, stretch-size _ _ _ _ _ (p .0 .known) (x .inst .parties) (x .inst .height) (x .p) (p .0 .tree) (x .part .now) (p .1 .1 .0) (c .before .before .before .before .before .before .before .before .before .before .before .before .before .before .before .sent-bytes .result) (c .before .before .before .before .before .before .before .before .before .before .before .before .before .before .before .sent-bytes .ensures), c .before .before .before .before .before .before .before .before .before .before .before .before .before .before .oct2 .ensures)
+    omega (arith, stretch-size _ _ _ _ _ (p .0 .known) _ _ _ (p .0 .tree) (c .before .before .before .before .before .before .before .before .before .before .before .before .before .before .before .before .before .before .before .before .before .before .args .part .now) (p .1 .1 .0) _ (c .before .before .before .before .before .before .before .before .before .before .before .before .before .sent-bytes .ensures), c .before .before .before .before .before .before .before .before .before .before .before .oct .ensures)
 
-sub-rerun-2 : tie.Need-sub-rerun-2
-sub-rerun-2 c =
-    let p = c .before .before .before .before .before .before .before .before .before .before .before .before .before .before .before .before .before .before .before .before .before .before .before .pre in
-    let x = c .before .before .before .before .before .before .before .before .before .before .before .before .before .before .before .before .before .before .before .before .before .before .before .args in
-    omega (arith, stretch-size _ _ _ _ _ (p .0 .known) (x .inst .parties) (x .inst .height) (x .p) (p .0 .tree) (x .part .now) (p .1 .1 .0) (c .before .before .before .before .before .before .before .before .before .before .before .before .before .before .before .before .sent-bytes .result) (c .before .before .before .before .before .before .before .before .before .before .before .before .before .before .before .before .sent-bytes .ensures), c .before .before .before .before .before .before .before .before .before .before .before .before .before .before .before .oct2 .ensures)
+part-replay-held-end-2 : tie.Need-part-replay-held-end-2
+part-replay-held-end-2 c = omega arith
 
-part-rerun-start-2 : tie.Need-part-rerun-start-2
-part-rerun-start-2 c =
-    let p = c .before .before .before .before .before .before .before .before .before .before .before .before .before .before .before .before .before .before .before .before .before .before .before .pre in
-    let x = c .before .before .before .before .before .before .before .before .before .before .before .before .before .before .before .before .before .before .before .before .before .before .before .args in
-    omega (arith, stretch-size _ _ _ _ _ (p .0 .known) (x .inst .parties) (x .inst .height) (x .p) (p .0 .tree) (x .part .now) (p .1 .1 .0) (c .before .before .before .before .before .before .before .before .before .before .before .before .before .before .before .before .sent-bytes .result) (c .before .before .before .before .before .before .before .before .before .before .before .before .before .before .before .before .sent-bytes .ensures), c .before .before .before .before .before .before .before .before .before .before .before .before .before .before .before .oct2 .ensures)
+array-borrow-prefix-out : tie.Need-array-borrow-prefix-out
+array-borrow-prefix-out c = omega (arith, length-replicate {A = ℕ} 32 0, few-output _ _ _ (c .before .before .before .before .before .before .before .before .before .before .before .before .before .before .before .before .before .before .before .before .before .before .before .pre .0 .known) (c .before .before .before .before .before .before .before .before .before .before .before .oct2 .ensures))
 
-part-rerun-end-2 : tie.Need-part-rerun-end-2
-part-rerun-end-2 c = omega arith
+slice-aggregate-replay-held : tie.Need-slice-aggregate-replay-held
+slice-aggregate-replay-held c = sym (prefix-length _ 32 (few-output _ _ _ (c .before .before .before .before .before .before .before .before .before .before .before .before .before .before .before .before .before .before .before .before .before .before .before .before .pre .0 .known) (c .before .before .before .before .before .before .before .before .before .before .before .before .oct2 .ensures)))
 
-rerun-requires : tie.Need-rerun-requires
-rerun-requires c κs =
+replay-held-requires : tie.Need-replay-held-requires
+replay-held-requires c κs =
     let p = c .before .before .before .before .before .before .before .before .before .before .before .before .before .before .before .before .before .before .before .before .before .before .before .before .before .pre in
     let x = c .before .before .before .before .before .before .before .before .before .before .before .before .before .before .before .before .before .before .before .before .before .before .before .before .before .args in
-    let tapes = c .before .before .before .before .before .before .before .before .before .before .before .before .before .reopen-parties .kept .1 .1 .1 .1 .1 .1 .1 .0 ∙ p .0 .tapes-fit in
-    let corrections = sym (prefix-taken (c .before .before .before .before .before .before .before .before .before .before .before .before .before .before .before .before .before .before .before .oct .result) (c .before .before .before .before .before .before .before .before .before .before .before .before .before .before .before .before .before .before .before .oct .result) (c .before .before .before .before .before .before .before .before .before .before .before .before .before .reopen-parties .last .1 .1 .1 .1 .1 .1 .0) (drop (c .before .before .before .before .before .before .before .before .before .before .before .before .before .before .before .before .before .before .before .oct .result) (replicate 512 0)) (kept-prefix (c .before .before .before .before .before .before .before .before .before .before .before .before .before .before .before .before .before .before .before .oct .result) 512 (c .before .before .before .before .before .before .before .before .before .before .before .before .before .reopen-parties .last .1 .1 .1 .1 .1 .1 .0) (omega (arith, c .before .before .before .before .before .before .before .before .before .before .before .before .before .before .before .before .before .before .before .oct .ensures, ands-low _ _ _ _ _ (p .0 .known), p .0 .known .legal .laid .few-gates)) (c .before .before .before .before .before .before .before .before .before .before .before .before .before .reopen-parties .kept .1 .1 .1 .1 .1 .1 .0)) (omega arith)) ∙ c .before .before .before .before .before .before .before .before .before .before .before .before .before .before .before .before .before .before .before .oct .ensures in
-    let masked = sym (part-length (16 * x .inst .height + c .before .before .before .before .before .before .before .before .before .before .before .before .before .before .before .before .before .before .sent-bytes .result + 32) (c .before .before .before .before .before .before .before .before .before .before .before .before .before .before .before .before .before .oct2 .result) (oct (x .z .inputs)) (oct (x .z .inputs)) (x .part .now) (omega (arith, stretch-size _ _ _ _ _ (p .0 .known) (x .inst .parties) (x .inst .height) (x .p) (p .0 .tree) (x .part .now) (p .1 .1 .0) (c .before .before .before .before .before .before .before .before .before .before .before .before .before .before .before .before .before .before .sent-bytes .result) (c .before .before .before .before .before .before .before .before .before .before .before .before .before .before .before .before .before .before .sent-bytes .ensures), c .before .before .before .before .before .before .before .before .before .before .before .before .before .before .before .before .before .oct2 .ensures)) (c .before .before .before .before .before .before .before .before .before .before .before .before .before .before .before .before .before .oct2 .ensures) refl) in
-    let row = rest-length (16 * x .inst .height + c .before .before .before .before .before .before .before .before .before .before .before .before .before .before .before .before .before .before .sent-bytes .result + 32 + c .before .before .before .before .before .before .before .before .before .before .before .before .before .before .before .before .before .oct2 .result) (oct (x .z .ands + x .z .outputs)) (x .part .now) (omega (arith, stretch-size _ _ _ _ _ (p .0 .known) (x .inst .parties) (x .inst .height) (x .p) (p .0 .tree) (x .part .now) (p .1 .1 .0) (c .before .before .before .before .before .before .before .before .before .before .before .before .before .before .before .before .before .before .sent-bytes .result) (c .before .before .before .before .before .before .before .before .before .before .before .before .before .before .before .before .before .before .sent-bytes .ensures), c .before .before .before .before .before .before .before .before .before .before .before .before .before .before .before .before .before .oct2 .ensures)) in
-    (p .0 .known, (tree-parties _ _ (p .0 .tree), (p .1 .0, (record { tapes-fit = tapes; corrections-fit = corrections; masked-fit = masked; row-fits = row }, (masked-unused _ _ _ _ _ (p .0 .known) (x .inst .parties) (x .inst .height) (x .p) (p .0 .tree) (x .part .now) (p .1 .1 .0) (c .before .before .before .before .before .before .before .before .before .before .before .before .before .before .before .before .before .before .sent-bytes .result) (c .before .before .before .before .before .before .before .before .before .before .before .before .before .before .before .before .before .before .sent-bytes .ensures) (c .before .before .before .before .before .before .before .before .before .before .before .before .before .before .before .before .before .oct2 .result) (c .before .before .before .before .before .before .before .before .before .before .before .before .before .before .before .before .before .oct2 .ensures) (p .1 .1 .1), p .0 .room)))))
+    let l = stretch-size _ _ _ _ _ (p .0 .known) _ _ _ (p .0 .tree) (x .part .now) (p .1 .1 .0) _ (c .before .before .before .before .before .before .before .before .before .before .before .before .before .before .before .before .sent-bytes .ensures) in
+    let masked = part-length (16 * x .inst .height + c .before .before .before .before .before .before .before .before .before .before .before .before .before .before .before .before .sent-bytes .result + 32) (c .before .before .before .before .before .before .before .before .before .before .before .before .before .before .oct .result) _ _ (x .part .now) (omega (arith, l, c .before .before .before .before .before .before .before .before .before .before .before .before .before .before .oct .ensures)) (c .before .before .before .before .before .before .before .before .before .before .before .before .before .before .oct .ensures) refl in
+    let row = rest-length ((16 * x .inst .height + c .before .before .before .before .before .before .before .before .before .before .before .before .before .before .before .before .sent-bytes .result + 32) + c .before .before .before .before .before .before .before .before .before .before .before .before .before .before .oct .result) (broadcastBytes (x .z)) (x .part .now) (omega (arith, l, c .before .before .before .before .before .before .before .before .before .before .before .before .before .before .oct .ensures)) in
+    (lent-held _ _ _ _ _ (lent-kept _ _ _ _ _ (p .0) (c .before .before .before .before .before .before .before .before .before .before .before .reopen-parties .last .1 .1 .1 .1 .1 .0) (c .before .before .before .before .before .before .before .before .before .before .before .reopen-parties .kept .1 .1 .1 .1 .1 .0)), (p .1 .0, (sym masked, (row, prefix-length _ 32 (few-output _ _ _ (p .0 .known) (c .before .before .before .before .before .before .before .before .before .before .before .before .before .oct2 .ensures)) ∙ c .before .before .before .before .before .before .before .before .before .before .before .before .before .oct2 .ensures))))
+
+sub-online : tie.Need-sub-online
+sub-online c = omega arith
+
+part-online-start : tie.Need-part-online-start
+part-online-start c = omega arith
+
+part-online-end : tie.Need-part-online-end
+part-online-end c =
+    let p = c .before .before .before .before .before .before .before .before .before .before .before .before .before .before .before .before .before .before .before .before .before .before .before .before .before .before .before .before .before .pre in
+    omega (arith, stretch-size _ _ _ _ _ (p .0 .known) _ _ _ (p .0 .tree) (c .before .before .before .before .before .before .before .before .before .before .before .before .before .before .before .before .before .before .before .before .before .before .before .before .before .before .before .before .before .args .part .now) (p .1 .1 .0) _ (c .before .before .before .before .before .before .before .before .before .before .before .before .before .before .before .before .before .before .before .before .sent-bytes .ensures), c .before .before .before .before .before .before .before .before .before .before .before .before .before .before .before .before .before .before .oct .ensures)
+
+online-requires : tie.Need-online-requires
+online-requires c κs =
+    let k = lent-kept _ _ _ _ _ (c .before .before .before .before .before .before .before .before .before .before .before .before .before .before .before .before .before .before .before .before .before .before .before .before .before .before .before .before .before .before .before .pre .0) _ (c .before .before .before .before .before .replay-held .kept .1 .1 .1 .1 .1 .1 .1 .0 ∙ c .before .before .before .before .before .before .before .before .before .before .before .before .before .before .before .before .before .reopen-parties .kept .1 .1 .1 .1 .1 .0) in
+    (lent-planes _ _ _ _ _ k, (omega (arith, few-parties _ _ _ _ _ k), lent-rows _ _ _ _ _ k))
+
+array-share-prefix-out : tie.Need-array-share-prefix-out
+array-share-prefix-out c = front-inside 32 (c .before .before .before .before .before .before .before .before .before .before .before .before .before .before .before .before .before .before .before .before .before .before .oct2 .result) (c .before .before .before .before .before .before .before .before .replay-held .last .1 .1 .1 .1 .1 .1 .0) (few-output _ _ _ (c .before .before .before .before .before .before .before .before .before .before .before .before .before .before .before .before .before .before .before .before .before .before .before .before .before .before .before .before .before .before .before .before .before .before .pre .0 .known) (c .before .before .before .before .before .before .before .before .before .before .before .before .before .before .before .before .before .before .before .before .before .before .oct2 .ensures)) (c .before .before .before .before .before .before .before .before .replay-held .kept .1 .1 .1 .1 .1 .1 .0)
+
+slice-aggregate-same : tie.Need-slice-aggregate-same
+slice-aggregate-same c = front-taken 32 (c .before .before .before .before .before .before .before .before .before .before .before .before .before .before .before .before .before .before .before .before .before .before .before .oct2 .result) (c .before .before .before .before .before .before .before .before .before .replay-held .last .1 .1 .1 .1 .1 .1 .0) (few-output _ _ _ (c .before .before .before .before .before .before .before .before .before .before .before .before .before .before .before .before .before .before .before .before .before .before .before .before .before .before .before .before .before .before .before .before .before .before .before .pre .0 .known) (c .before .before .before .before .before .before .before .before .before .before .before .before .before .before .before .before .before .before .before .before .before .before .before .oct2 .ensures)) (c .before .before .before .before .before .before .before .before .before .replay-held .kept .1 .1 .1 .1 .1 .1 .0)
+
+same-requires : tie.Need-same-requires
+same-requires c κs = tt
 
 same-length : tie.Need-same-length
-same-length c = c .before .before .before .before .before .before .before .before .before .before .before .before .before .before .before .before .reopen-parties .kept .1 .1 .1 .1 .1 .1 .1 .0
-
-same-length-2 : tie.Need-same-length-2
-same-length-2 c = c .before .before .rerun .kept .1 .1 .1 .1 .1 .1 .1 .1 .1 .1 .1 .0
+same-length c = c .before .before .before .before .online .kept .1 .1 .1 .1 .0 ∙ (c .before .before .before .before .before .before .before .before .before .before .replay-held .kept .1 .1 .1 .1 .1 .1 .1 .0 ∙ c .before .before .before .before .before .before .before .before .before .before .before .before .before .before .before .before .before .before .before .before .before .before .reopen-parties .kept .1 .1 .1 .1 .1 .0)
 
 returns : tie.Need-returns
 returns c =
-    let p = c .before .before .before .before .before .before .before .before .before .before .before .before .before .before .before .before .before .before .before .before .before .before .before .before .before .before .before .before .pre in
-    let x = c .before .before .before .before .before .before .before .before .before .before .before .before .before .before .before .before .before .before .before .before .before .before .before .before .before .before .before .before .args in (
+    let p = c .before .before .before .before .before .before .before .before .before .before .before .before .before .before .before .before .before .before .before .before .before .before .before .before .before .before .before .before .before .before .before .before .before .before .before .before .pre in
+    let x = c .before .before .before .before .before .before .before .before .before .before .before .before .before .before .before .before .before .before .before .before .before .before .before .before .before .before .before .before .before .before .before .before .before .before .before .before .args in
+    let k = lent-kept _ _ _ _ _ (p .0) (c .before .before .before .before .before .before .before .before .before .before .before .before .before .before .before .before .before .before .before .before .before .before .reopen-parties .last .1 .1 .1 .1 .1 .0) (c .before .before .before .before .before .before .before .before .before .before .before .before .before .before .before .before .before .before .before .before .before .before .reopen-parties .kept .1 .1 .1 .1 .1 .0) in
+    let e = c .before .before .before .before .before .before .before .before .before .before .before .before .before .before .before .before .before .before .before .before .before .before .reopen-parties .ensures in
+    let t = c .before .before .before .before .before .before .before .before .before .before .before .before .before .before .before .before .before .before .before .before .before .before .before .before .before .before .before .sent-bytes .ensures in (
+      output-made _ _ _ _ _ _ _ k (p .1 .0) (x .part .now) (p .1 .1 .0) _ t (e .0) (e .1 .0) (e .1 .1) _ (c .before .before .before .before .before .before .before .before .before .before .before .before .before .before .before .before .before .before .before .before .before .before .before .before .before .oct .ensures) _ _ _ _ (front-back 32 (c .before .before .before .before .before .before .before .before .before .before .before .before .before .before .before .before .before .before .before .before .before .before .before .before .oct2 .result) (c .before .before .before .before .before .before .before .before .before .before .replay-held .last .1 .1 .1 .1 .1 .1 .0) (few-output _ _ _ (p .0 .known) (c .before .before .before .before .before .before .before .before .before .before .before .before .before .before .before .before .before .before .before .before .before .before .before .before .oct2 .ensures)) (c .before .before .before .before .before .before .before .before .before .before .replay-held .kept .1 .1 .1 .1 .1 .1 .0)) (c .before .before .before .before .before .before .before .before .before .before .replay-held .ensures .0) (c .same .ensures),
       (
-        output-made _ _ _ _ _ (p .0 .known) (x .inst .parties) (x .inst .height) (x .inst .number) (x .p) (p .0 .tree) (x .part .now) (p .1 .1 .0) (c .before .before .before .before .before .before .before .before .before .before .before .before .before .before .before .before .before .before .before .before .before .sent-bytes .result) (c .before .before .before .before .before .before .before .before .before .before .before .before .before .before .before .before .before .before .before .before .before .sent-bytes .ensures) (c .before .before .before .before .before .before .before .before .before .before .before .before .before .before .before .before .reopen-parties .last .1 .1 .1 .1 .1 .1 .0) (c .before .before .before .before .before .before .before .before .before .before .before .before .before .before .before .before .reopen-parties .ensures .1 .0) (kept-prefix (c .before .before .before .before .before .before .before .before .before .before .before .before .before .before .before .before .before .before .before .before .before .before .oct .result) 512 (c .before .before .before .before .before .before .before .before .before .before .before .before .before .before .before .before .reopen-parties .last .1 .1 .1 .1 .1 .1 .0) (omega (arith, c .before .before .before .before .before .before .before .before .before .before .before .before .before .before .before .before .before .before .before .before .before .before .oct .ensures, ands-low _ _ _ _ _ (p .0 .known), p .0 .known .legal .laid .few-gates)) (c .before .before .before .before .before .before .before .before .before .before .before .before .before .before .before .before .reopen-parties .kept .1 .1 .1 .1 .1 .1 .0) ∙ c .before .before .before .before .before .before .before .before .before .before .before .before .before .before .before .before .before .before .before .before .before .before .oct .ensures) (c .before .before .before .before .before .before .before .before .before .before .before .before .before .before .before .before .before .before .before .before .oct2 .result) (c .before .before .before .before .before .before .before .before .before .before .before .before .before .before .before .before .before .before .before .before .before .before .oct .result) (c .before .before .before .before .before .before .before .before .before .before .before .before .before .before .before .before .before .before .before .before .oct2 .ensures) (c .before .before .before .before .before .before .before .before .before .before .before .before .before .before .before .before .before .before .before .before .before .before .oct .ensures) (c .before .before .before .before .before .before .before .before .before .before .before .before .before .before .before .before .reopen-parties .last .1 .1 .1 .1 .1 .1 .1 .0) (drop (c .before .before .before .before .before .before .before .before .before .before .before .before .before .before .before .before .before .before .before .before .before .before .oct .result) (replicate 512 0)) (c .before .before .before .before .before .before .before .before .before .before .before .before .before .before .before .before .reopen-parties .ensures .1 .1) _ (x .y .now) (c .before .before .rerun .ensures .0 .0),
-        (
-          c .before .before .rerun .ensures .0 .1 .0 ∙ commitments-made _ _ _ _ _ (p .0 .known) (x .inst .parties) (x .inst .height) (x .inst .number) (x .p) (p .0 .tree) (x .part .now) (p .1 .1 .0) (c .before .before .before .before .before .before .before .before .before .before .before .before .before .before .before .before .before .before .before .before .before .sent-bytes .result) (c .before .before .before .before .before .before .before .before .before .before .before .before .before .before .before .before .before .before .before .before .before .sent-bytes .ensures) (c .before .before .before .before .before .before .before .before .before .before .before .before .before .before .before .before .reopen-parties .last .1 .1 .1 .1 .1 .1 .0) (c .before .before .before .before .before .before .before .before .before .before .before .before .before .before .before .before .reopen-parties .ensures .1 .0) (kept-prefix (c .before .before .before .before .before .before .before .before .before .before .before .before .before .before .before .before .before .before .before .before .before .before .oct .result) 512 (c .before .before .before .before .before .before .before .before .before .before .before .before .before .before .before .before .reopen-parties .last .1 .1 .1 .1 .1 .1 .0) (omega (arith, c .before .before .before .before .before .before .before .before .before .before .before .before .before .before .before .before .before .before .before .before .before .before .oct .ensures, ands-low _ _ _ _ _ (p .0 .known), p .0 .known .legal .laid .few-gates)) (c .before .before .before .before .before .before .before .before .before .before .before .before .before .before .before .before .reopen-parties .kept .1 .1 .1 .1 .1 .1 .0) ∙ c .before .before .before .before .before .before .before .before .before .before .before .before .before .before .before .before .before .before .before .before .before .before .oct .ensures) (32 * x .inst .parties) (c .before .before .before .before .before .before .before .before .before .before .before .before .before .before .before .before .reopen-parties .last .1 .1 .1 .1 .1 .0) (drop (32 * x .inst .parties) (replicate 512 0)) (drop (c .before .before .before .before .before .before .before .before .before .before .before .before .before .before .before .before .before .before .before .before .before .before .oct .result) (replicate 512 0)) _ (c .before .before .before .before .before .before .before .before .before .before .before .before .before .before .before .before .reopen-parties .ensures .0) (kept-prefix (32 * x .inst .parties) 512 (c .before .before .before .before .before .before .before .before .before .before .before .before .before .before .before .before .reopen-parties .last .1 .1 .1 .1 .1 .0) (omega (arith, tree-parties _ _ (p .0 .tree) .few)) (c .before .before .before .before .before .before .before .before .before .before .before .before .before .before .before .before .reopen-parties .kept .1 .1 .1 .1 .1 .0)) (c .before .before .before .before .before .before .before .before .commit .ensures),
-          rows-made _ _ _ _ _ (p .0 .known) (x .inst .parties) (x .inst .height) (x .inst .number) (x .p) (p .0 .tree) (x .part .now) (p .1 .1 .0) (c .before .before .before .before .before .before .before .before .before .before .before .before .before .before .before .before .before .before .before .before .before .sent-bytes .result) (c .before .before .before .before .before .before .before .before .before .before .before .before .before .before .before .before .before .before .before .before .before .sent-bytes .ensures) (c .before .before .before .before .before .before .before .before .before .before .before .before .before .before .before .before .reopen-parties .last .1 .1 .1 .1 .1 .1 .0) (c .before .before .before .before .before .before .before .before .before .before .before .before .before .before .before .before .reopen-parties .ensures .1 .0) (kept-prefix (c .before .before .before .before .before .before .before .before .before .before .before .before .before .before .before .before .before .before .before .before .before .before .oct .result) 512 (c .before .before .before .before .before .before .before .before .before .before .before .before .before .before .before .before .reopen-parties .last .1 .1 .1 .1 .1 .1 .0) (omega (arith, c .before .before .before .before .before .before .before .before .before .before .before .before .before .before .before .before .before .before .before .before .before .before .oct .ensures, ands-low _ _ _ _ _ (p .0 .known), p .0 .known .legal .laid .few-gates)) (c .before .before .before .before .before .before .before .before .before .before .before .before .before .before .before .before .reopen-parties .kept .1 .1 .1 .1 .1 .1 .0) ∙ c .before .before .before .before .before .before .before .before .before .before .before .before .before .before .before .before .before .before .before .before .before .before .oct .ensures) (c .before .before .before .before .before .before .before .before .before .before .before .before .before .before .before .before .before .before .before .before .oct2 .result) (c .before .before .before .before .before .before .before .before .before .before .before .before .before .before .before .before .before .before .before .before .before .before .oct .result) (c .before .before .before .before .before .before .before .before .before .before .before .before .before .before .before .before .before .before .before .before .oct2 .ensures) (c .before .before .before .before .before .before .before .before .before .before .before .before .before .before .before .before .before .before .before .before .before .before .oct .ensures) (c .before .before .before .before .before .before .before .before .before .before .before .before .before .before .before .before .reopen-parties .last .1 .1 .1 .1 .1 .1 .1 .0) (drop (c .before .before .before .before .before .before .before .before .before .before .before .before .before .before .before .before .before .before .before .before .before .before .oct .result) (replicate 512 0)) (c .before .before .before .before .before .before .before .before .before .before .before .before .before .before .before .before .reopen-parties .ensures .1 .1) _ (c .before .before .rerun .ensures .0 .1 .1),
-        ),
+        commitments-opened _ _ _ _ _ _ _ k (p .1 .0) (x .part .now) (p .1 .1 .0) _ t (e .0) (e .1 .0) (e .1 .1) _ _ _ _ _ (c .before .before .before .before .before .before .before .before .before .before .before .before .before .before .before .before .before .before .before .before .before .before .before .before .before .before .before .before .before .before .before .layout .ensures) (c .before .before .before .before .before .before .before .before .before .before .before .before .before .before .before .before .before .before .before .before .before .before .before .before .before .before .before .before .before .seeds-at .ensures) (c .before .before .before .before .before .before .before .before .before .before .before .before .before .before .before .before .before .before .before .before .before .before .before .before .before .before .before .before .leaves-at .ensures) (c .before .before .before .before .before .before .before .before .before .before .before .before .before .before .before .before .before .before .before .before .before .before .before .before .before .before .before .before .before .before .corrections-at .ensures) (c .before .before .before .before .before .before .before .before .before .before .before .before .before .before .before .commit .ensures),
+        rows-made _ _ _ _ _ _ _ k (p .1 .0) (x .part .now) (p .1 .1 .0) _ t (e .0) (e .1 .0) (e .1 .1) _ (c .before .before .before .before .before .before .before .before .before .before .before .before .before .before .before .before .before .before .before .before .before .before .before .before .before .oct .ensures) _ _ (c .before .before .before .before .before .before .before .before .before .before .replay-held .ensures .1) (c .before .before .before .before .online .ensures),
       ),
-      (c .before .before .before .before .before .before .before .before .before .before .before .before .before .before .before .before .reopen-parties .ensures .1 .1, c .before .before .rerun .ensures .1 ∙ ap (λ (d : Showing). replayed (x .s .now) (x .z) (x .inst .parties) (x .p) d (replicate (length (x .memory .now)) 0)) (lent-shown _ _ _ _ _ (p .0 .known) (x .inst .parties) (x .inst .height) (x .inst .number) (x .p) (p .0 .tree) (x .part .now) (p .1 .1 .0) (c .before .before .before .before .before .before .before .before .before .before .before .before .before .before .before .before .before .before .before .before .before .sent-bytes .result) (c .before .before .before .before .before .before .before .before .before .before .before .before .before .before .before .before .before .before .before .before .before .sent-bytes .ensures) (c .before .before .before .before .before .before .before .before .before .before .before .before .before .before .before .before .reopen-parties .last .1 .1 .1 .1 .1 .1 .0) (c .before .before .before .before .before .before .before .before .before .before .before .before .before .before .before .before .reopen-parties .ensures .1 .0) (kept-prefix (c .before .before .before .before .before .before .before .before .before .before .before .before .before .before .before .before .before .before .before .before .before .before .oct .result) 512 (c .before .before .before .before .before .before .before .before .before .before .before .before .before .before .before .before .reopen-parties .last .1 .1 .1 .1 .1 .1 .0) (omega (arith, c .before .before .before .before .before .before .before .before .before .before .before .before .before .before .before .before .before .before .before .before .before .before .oct .ensures, ands-low _ _ _ _ _ (p .0 .known), p .0 .known .legal .laid .few-gates)) (c .before .before .before .before .before .before .before .before .before .before .before .before .before .before .before .before .reopen-parties .kept .1 .1 .1 .1 .1 .1 .0) ∙ c .before .before .before .before .before .before .before .before .before .before .before .before .before .before .before .before .before .before .before .before .before .before .oct .ensures) (c .before .before .before .before .before .before .before .before .before .before .before .before .before .before .before .before .before .before .before .before .oct2 .result) (c .before .before .before .before .before .before .before .before .before .before .before .before .before .before .before .before .before .before .before .before .before .before .oct .result) (c .before .before .before .before .before .before .before .before .before .before .before .before .before .before .before .before .before .before .before .before .oct2 .ensures) (c .before .before .before .before .before .before .before .before .before .before .before .before .before .before .before .before .before .before .before .before .before .before .oct .ensures) (c .before .before .before .before .before .before .before .before .before .before .before .before .before .before .before .before .reopen-parties .last .1 .1 .1 .1 .1 .1 .1 .0) (drop (c .before .before .before .before .before .before .before .before .before .before .before .before .before .before .before .before .before .before .before .before .before .before .oct .result) (replicate 512 0)) (c .before .before .before .before .before .before .before .before .before .before .before .before .before .before .before .before .reopen-parties .ensures .1 .1))),
     )
 
 pub replay-spec : {M : Type 1} → statement M
@@ -215,37 +197,45 @@ replay-spec =
     tie.close
     (tie.spec
     cast-k
-    mul-size
-    oct-requires
+    layout-requires
+    corrections-at-requires
+    seeds-at-requires
+    leaves-at-requires
     sent-bytes-requires
-    cast-first
-    mul-first
+    cast-second
+    mul-second
     add-second
     add-third
-    oct-requires-2
+    oct-requires
     add-fourth
-    array-borrow-prefix-seeds
-    slice-aggregate-reopen-parties
-    array-borrow-prefix-corrections
-    slice-aggregate-reopen-parties-2
+    oct-requires-2
     reopen-parties-requires
+    add-end
     sub-commit
     part-commit-start
     part-commit-end
-    array-share-prefix-seeds
-    slice-aggregate-commit
-    array-share-prefix-corrections
-    slice-aggregate-commit-2
+    sub-commit-2
+    part-commit-start-2
+    part-commit-end-2
+    sub-commit-3
+    part-commit-start-3
+    part-commit-end-3
     commit-requires
-    array-share-prefix-corrections-2
-    slice-aggregate-rerun
-    sub-rerun
-    part-rerun-start
-    part-rerun-end
-    sub-rerun-2
-    part-rerun-start-2
-    part-rerun-end-2
-    rerun-requires
+    sub-replay-held
+    part-replay-held-start
+    part-replay-held-end
+    sub-replay-held-2
+    part-replay-held-start-2
+    part-replay-held-end-2
+    array-borrow-prefix-out
+    slice-aggregate-replay-held
+    replay-held-requires
+    sub-online
+    part-online-start
+    part-online-end
+    online-requires
+    array-share-prefix-out
+    slice-aggregate-same
+    same-requires
     same-length
-    same-length-2
     returns)

@@ -1,40 +1,68 @@
--- `instance::seeding::seed_rows` meets its contract. The loop's invariant: the first i rows are made.
+-- `instance::seeding::seed_rows` meets its contract. The loop's invariant: the first i rows are written.
 -- Assumes nothing.
-use mathlib.Core.Path.{_≡_, refl, ap, _∙_}
+use mathlib.Core.Path.{_≡_, refl, sym, ap, _∙_}
 use mathlib.Core.List.{flatten}
+use mathlib.Core.Logic.{⊎-elim}
 use native.Mathlib.Omega.{arith}
 use Prim.Native.Nat.{_+_, _-_, _*_, _≤_}
-use borrow.Rule.Slice.PartMut.{same-len-mid}
-use lib.ListN.{length, take}
-use Rattle.bits.proofs.Rows.{part-length, rows-none, rows-turn}
+use lib.ListN.{length, take, drop}
+use lib.Seq.{sets, length-sets}
 use Rattle.bits.specs.Bits.{tabulate}
-use Rattle.bits.specs.Bytes.{rowOf}
-use Rattle.party.specs.Derive.{seedRow}
-use Rattle.instance.proofs.Seeded.{seeds-end}
+use Rattle.instance.proofs.Written.{part-size, read-size, none-written, row-written}
+use Rattle.instance.proofs.Seeded.{seedBut, seed-size, seed-zero, seed-derived, leaf-read, seeds-end}
 use Rattle.instance.proofs.seeding.seed_rows.Statement.{statement}
 use Rattle.instance.proofs.seeding.seed_rows.Tie as tie
 
 abbrev Inv-loop : tie.InvT-loop
-Inv-loop leaves seeds₀ j n i₀ seeds i =
-    (i ≤ n) × ((length seeds ≡ length seeds₀) × (take (i * 32) seeds ≡ flatten (tabulate i (λ k. seedRow j k (rowOf leaves 16 k)))))
+Inv-loop p leaves to memory₀ j n i₀ memory i =
+    (i ≤ n) × ((length memory ≡ length memory₀) × (memory ≡ sets memory₀ to (flatten (tabulate i (seedBut p j (take (16 * n) (drop leaves memory₀)))))))
 
 abbrev μ-loop : tie.MeasureT-loop
-μ-loop leaves seeds₀ j n i₀ seeds i = n - i
+μ-loop p leaves to memory₀ j n i₀ memory i = n - i
 
 loop-holds : tie.Need-loop-holds Inv-loop μ-loop
-loop-holds c = (omega arith, (refl, rows-none 32 (c .before .before .args .seeds .now)))
+loop-holds c =
+    let x = c .before .args in
+    (omega arith, (refl, none-written (x .memory .now) (x .to)))
 
 cast-k : tie.Need-cast-k Inv-loop μ-loop
 cast-k c = omega arith
 
-row-requires : tie.Need-row-requires Inv-loop μ-loop
-row-requires c κs = tt
-
 mul-a : tie.Need-mul-a Inv-loop μ-loop
 mul-a c = omega arith
 
-add-e : tie.Need-add-e Inv-loop μ-loop
-add-e c = omega arith
+add-a : tie.Need-add-a Inv-loop μ-loop
+add-a c = omega arith
+
+add-end : tie.Need-add-end Inv-loop μ-loop
+add-end c = omega arith
+
+sub-clear : tie.Need-sub-clear Inv-loop μ-loop
+sub-clear c = omega arith
+
+part-clear-start : tie.Need-part-clear-start Inv-loop μ-loop
+part-clear-start c = omega arith
+
+part-clear-end : tie.Need-part-clear-end Inv-loop μ-loop
+part-clear-end c = omega arith
+
+clear-requires : tie.Need-clear-requires Inv-loop μ-loop
+clear-requires c κs = tt
+
+mul-key : tie.Need-mul-key Inv-loop μ-loop
+mul-key c = omega arith
+
+add-key : tie.Need-add-key Inv-loop μ-loop
+add-key c = omega arith
+
+key-requires : tie.Need-key-requires Inv-loop μ-loop
+key-requires c κs = omega arith
+
+slice-aggregate-seed-row : tie.Need-slice-aggregate-seed-row Inv-loop μ-loop
+slice-aggregate-seed-row c =
+    let x = c .before .before .before .before .before .before .before .args in
+    let l = c .before .before .before .before .before .loop in
+    sym (read-size (x .leaves + 16 * l .i) 16 (l .memory) (c .before .key .result) (omega arith) (c .before .key .ensures))
 
 sub-seed-row : tie.Need-sub-seed-row Inv-loop μ-loop
 sub-seed-row c = omega arith
@@ -47,8 +75,9 @@ part-seed-row-end c = omega arith
 
 seed-row-requires : tie.Need-seed-row-requires Inv-loop μ-loop
 seed-row-requires c κs =
-    let l = c .before .before .before .loop in
-    part-length 32 (l .i) (32 * l .i) (32 * l .i + 32) (omega arith) refl (l .seeds) (omega arith)
+    let x = c .before .before .before .before .before .before .before .before .args in
+    let l = c .before .before .before .before .before .before .loop in
+    part-size (x .to + 32 * l .i) 32 (l .memory) (omega arith)
 
 add-i : tie.Need-add-i Inv-loop μ-loop
 add-i c = omega arith
@@ -58,29 +87,36 @@ loop-less c = omega arith
 
 loop-again : tie.Need-loop-again Inv-loop μ-loop
 loop-again c =
-    let l = c .before .before .before .before .before .before .loop in
-    let x = c .before .before .before .before .before .before .before .before .before .args in
-    let p = c .before .before .seed-row in
-    let z = p .last .1 .1 .1 .0 in
-    let a = 32 * l .i in (
-      omega arith,
-      (
-        same-len-mid a (a + 32 - a) (l .seeds) z (p .kept .1 .1 .1 .0) ∙ l .inv .1 .0,
-        rows-turn 32 (l .i) a (a + 32) (omega arith) refl (l .seeds) (omega arith) (λ k. seedRow (x .inst .number) k (rowOf (x .leaves .now) 16 k)) z
-            (p .kept .1 .1 .1 .0 ∙ part-length 32 (l .i) a (a + 32) (omega arith) refl (l .seeds) (omega arith))
-            (l .inv .1 .1)
-            (p .ensures ∙ ap (seedRow (x .inst .number) (l .i)) (c .before .before .before .before .row .ensures)),
-      ),
-    )
+    let x = c .before .before .before .before .args in
+    let l = c .before .before .loop in
+    let m = x .memory .now in
+    let leaves = take (16 * x .inst .parties) (drop (x .leaves) m) in
+    let f = seedBut (x .p) (x .inst .number) leaves in
+    let a = x .to + 32 * l .i in
+    let size = part-size a 32 (l .memory) (omega arith) in
+    let turn = row-written 32 f (seed-size (x .p) (x .inst .number) leaves) m (x .to) (l .i) a (a + 32) (l .memory) in
+    let q : c .if1 .memory ≡ sets m (x .to) (flatten (tabulate (l .i + 1) f)) = ⊎-elim
+    (λ w.
+    w .5
+    ∙ turn (w .2 .last .0) (omega arith) refl (omega arith) (l .inv .1 .1) (w .2 .kept .0 ∙ size)
+    (seed-zero (x .p) (x .inst .number) leaves (l .i) _ (w .2 .last .0) (w .0 .taken) size (w .2 .ensures)))
+    (λ w.
+    w .8
+    ∙ turn (w .5 .last .1 .1 .1 .0) (omega arith) refl (omega arith) (l .inv .1 .1) (w .5 .kept .1 .1 .1 .0 ∙ size)
+    (seed-derived (x .p) (x .inst .number) leaves (l .i) (w .2 .result) (w .5 .last .1 .1 .1 .0) (w .0 .left)
+    (leaf-read (x .inst .parties) (x .p) (x .inst .number) (l .i) (x .leaves) (x .to) m (l .memory) (w .2 .result) (c .before .loop-test .taken) (omega arith) (omega arith) (l .inv .1 .1) (w .2 .ensures))
+    (w .5 .ensures)))
+    (c .if1 .came) in
+    (omega arith, (ap length q ∙ length-sets m (x .to) (flatten (tabulate (l .i + 1) f)), q))
 
 same-length : tie.Need-same-length Inv-loop μ-loop
 same-length c = c .before .loop .inv .1 .0
 
 returns : tie.Need-returns Inv-loop μ-loop
 returns c =
+    let x = c .before .before .before .args in
     let l = c .before .loop in
-    let x = c .before .before .before .before .args in
-    seeds-end (x .inst .parties) (l .i) (x .inst .number) (x .leaves .now) (l .seeds) (omega arith) (l .inv .1 .0 ∙ c .before .before .before .before .pre .1 .1) (l .inv .1 .1)
+    seeds-end (x .p) (x .inst .number) (take (16 * x .inst .parties) (drop (x .leaves) (x .memory .now))) (x .inst .parties) (l .i) (x .to) (x .memory .now) (l .memory) (omega arith) (l .inv .1 .1)
 
 pub seed-rows-spec : {M : Type 1} → statement M
 seed-rows-spec =
@@ -90,9 +126,17 @@ seed-rows-spec =
     μ-loop
     loop-holds
     cast-k
-    row-requires
     mul-a
-    add-e
+    add-a
+    add-end
+    sub-clear
+    part-clear-start
+    part-clear-end
+    clear-requires
+    mul-key
+    add-key
+    key-requires
+    slice-aggregate-seed-row
     sub-seed-row
     part-seed-row-start
     part-seed-row-end

@@ -1,88 +1,53 @@
 -- `instance::sending::from_master` meets its contract.
 -- Assumes nothing.
-use mathlib.Core.Path.{ap, _∙_}
+use mathlib.Core.Path.{_∙_}
 use native.Mathlib.Omega.{arith}
-use Rattle.mpc.specs.Steps.{worked}
-use Rattle.mpc.proofs.Opened.{begun}
-use Rattle.mpc.proofs.Asks.{kept-room, corrected-asks}
-use Rattle.instance.proofs.Trees.{tree-sizes, tree-parties}
-use Rattle.instance.proofs.Sent.{instance-made}
+use Rattle.instance.proofs.Rooms.{few-parties, lent-kept, lent-wires, places-low, lent-masks}
+use Rattle.instance.proofs.Sent.{seeds-made, tapes-made, corrections-made}
 use Rattle.instance.proofs.sending.from_master.Statement.{statement}
 use Rattle.instance.proofs.sending.from_master.Tie as tie
 
-master-seeds-requires : tie.Need-master-seeds-requires
-master-seeds-requires c κs =
-    let p = c .before .before .before .before .before .before .before .before .before .pre in
-    (p .0 .tree, (p .1 .1 .0, p .1 .1 .1 .0))
+layout-requires : tie.Need-layout-requires
+layout-requires c κs = lent-wires _ _ _ _ _ (c .before .before .before .pre .0)
 
-tape-rows-requires : tie.Need-tape-rows-requires
-tape-rows-requires c κs =
-    let p = c .before .before .before .before .before .before .before .before .before .before .before .before .before .before .pre in
-    (p .0 .known, (tree-sizes _ _ (p .0 .tree) .few, (c .before .before .before .before .master-seeds .kept .1 .1 .0 ∙ p .1 .1 .1 .0, p .0 .tapes-fit)))
+corrections-at-requires : tie.Need-corrections-at-requires
+corrections-at-requires c κs = places-low _ _ _ _ _ (c .before .before .before .before .pre .0) _ (c .layout .ensures)
 
-clear-requires : tie.Need-clear-requires
-clear-requires c κs = tt
+rows-at-requires : tie.Need-rows-at-requires
+rows-at-requires c κs = places-low _ _ _ _ _ (c .before .before .before .before .before .pre .0) _ (c .before .layout .ensures)
 
-cast-run-honest : tie.Need-cast-run-honest
-cast-run-honest c = omega (arith, tree-parties _ _ (c .before .before .before .before .before .before .before .before .before .before .before .before .before .before .before .before .before .before .before .before .before .pre .0 .tree) .few)
+hold-parties-requires : tie.Need-hold-parties-requires
+hold-parties-requires c κs = c .before .before .before .before .before .before .before .pre
 
-run-honest-requires : tie.Need-run-honest-requires
-run-honest-requires c κs =
-    let p = c .before .before .before .before .before .before .before .before .before .before .before .before .before .before .before .before .before .before .before .before .before .before .before .before .pre in
-    (p .0 .known, (begun _ _ _ _ (tree-parties _ _ (p .0 .tree)) (c .before .before .before .before .before .clear .ensures) (p .0 .room), (p .1 .0, (c .before .before .before .before .before .before .before .before .before .tape-rows .kept .1 .1 .1 .1 .0 ∙ p .0 .tapes-fit, p .1 .1 .1 .1 .1))))
+cast-make-corrections : tie.Need-cast-make-corrections
+cast-make-corrections c = omega (arith, few-parties _ _ _ _ _ (c .before .before .before .before .before .before .before .before .before .before .pre .0))
 
-add-pack : tie.Need-add-pack
-add-pack c = omega (arith, c .before .before .before .before .before .before .before .before .before .before .before .before .before .before .before .before .before .before .before .before .before .before .before .before .before .before .before .before .before .before .before .pre .0 .known .legal .laid .few-inputs, c .before .before .before .before .before .before .before .before .before .before .before .before .before .before .before .before .before .before .before .before .before .before .before .before .before .before .before .before .before .before .before .pre .0 .known .legal .laid .few-gates)
-
-mul-pack : tie.Need-mul-pack
-mul-pack c = omega (arith, c .before .before .before .before .before .before .before .before .before .before .before .before .before .before .before .before .before .before .before .before .before .before .before .before .before .before .before .before .before .before .before .pre .0 .known .legal .laid .few-inputs, c .before .before .before .before .before .before .before .before .before .before .before .before .before .before .before .before .before .before .before .before .before .before .before .before .before .before .before .before .before .before .before .pre .0 .known .legal .laid .few-gates)
-
-add-pack-2 : tie.Need-add-pack-2
-add-pack-2 c = omega (arith, c .before .before .before .before .before .before .before .before .before .before .before .before .before .before .before .before .before .before .before .before .before .before .before .before .before .before .before .before .before .before .before .pre .0 .known .legal .laid .few-inputs, c .before .before .before .before .before .before .before .before .before .before .before .before .before .before .before .before .before .before .before .before .before .before .before .before .before .before .before .before .before .before .before .pre .0 .known .legal .laid .few-gates)
-
-pack-requires : tie.Need-pack-requires
-pack-requires c κs =
-    let p = c .before .before .before .before .before .before .before .before .before .before .before .before .before .before .before .before .before .before .before .before .before .before .before .before .before .before .before .before .before .before .before .before .pre in
-    corrected-asks _ _ _ _ _ (p .0 .known) _ _ (tree-parties _ _ (p .0 .tree)) (kept-room _ _ _ (c .before .before .before .before .before .before .before .run-honest .kept .1 .1 .1 .1 .1 .1 .0 ∙ c .before .before .before .before .before .before .before .before .before .before .before .before .before .clear .kept .0) (p .0 .room)) _ (p .1 .1 .1 .1 .0)
+make-corrections-requires : tie.Need-make-corrections-requires
+make-corrections-requires c κs =
+    lent-masks _ _ _ _ _ (lent-kept _ _ _ _ _ (c .before .before .before .before .before .before .before .before .before .before .before .pre .0) _ (c .before .before .before .hold-parties .kept .1 .1 .1 .1 .0)) _ (c .before .before .before .before .before .before .before .layout .ensures) _ _ (c .before .before .before .before .before .rows-at .ensures) (c .before .before .before .before .before .before .corrections-at .ensures)
 
 same-length : tie.Need-same-length
-same-length c = c .before .before .before .before .before .before .before .before .before .before .before .before .before .before .before .before .before .before .before .before .before .before .before .before .before .master-seeds .kept .1 .1 .0
-
-same-length-2 : tie.Need-same-length-2
-same-length-2 c = c .before .before .pack .kept .1 .1 .1 .0
-
-same-length-3 : tie.Need-same-length-3
-same-length-3 c = c .before .before .before .before .before .before .before .before .before .before .run-honest .kept .1 .1 .1 .1 .1 .0
-
-same-length-4 : tie.Need-same-length-4
-same-length-4 c = c .before .before .before .before .before .before .before .before .before .before .before .before .before .before .before .before .before .before .before .before .tape-rows .kept .1 .1 .1 .1 .0
-
-same-length-5 : tie.Need-same-length-5
-same-length-5 c = c .before .before .before .before .before .before .before .before .before .before .run-honest .kept .1 .1 .1 .1 .1 .1 .0 ∙ c .before .before .before .before .before .before .before .before .before .before .before .before .before .before .before .before .clear .kept .0
+same-length c = c .before .before .make-corrections .kept .1 .1 .1 .1 .1 .0 ∙ c .before .before .before .before .before .before .hold-parties .kept .1 .1 .1 .1 .0
 
 returns : tie.Need-returns
 returns c =
-    let p = c .before .before .before .before .before .before .before .before .before .before .before .before .before .before .before .before .before .before .before .before .before .before .before .before .before .before .before .before .before .before .before .before .before .before .before .pre in
-    let x = c .before .before .before .before .before .before .before .before .before .before .before .before .before .before .before .before .before .before .before .before .before .before .before .before .before .before .before .before .before .before .before .before .before .before .before .args in
-    instance-made _ _ _ _ _ _ _ _ _ (p .0 .known) (tree-parties _ _ (p .0 .tree)) (p .0 .room) (p .1 .0 .unused) _ _ _ _ _ _ _ (c .before .before .before .before .before .before .before .before .before .before .before .before .before .before .before .before .before .before .before .before .before .before .before .before .before .master-seeds .ensures) (c .before .before .before .before .before .before .before .before .before .before .before .before .before .before .before .before .before .before .before .before .tape-rows .ensures) (c .before .before .before .before .before .before .before .before .before .before .run-honest .ensures .0)
-    (c .before .before .before .before .before .before .before .before .before .before .run-honest .ensures .1 ∙ ap (worked (x .s .now) (x .z) (x .inst .parties) (x .witness .now) (c .before .before .before .before .before .before .before .before .before .before .before .before .before .before .before .before .before .before .before .before .tape-rows .last .1 .1 .1 .1 .0)) (c .before .before .before .before .before .before .before .before .before .before .before .before .before .before .before .before .clear .ensures)) (p .1 .1 .1 .1 .0) (c .before .before .pack .ensures)
+    let k = lent-kept _ _ _ _ _ (c .before .before .before .before .before .before .before .before .before .before .before .before .before .before .pre .0) _ (c .before .before .before .before .before .before .hold-parties .kept .1 .1 .1 .1 .0) in
+    let l = c .before .before .before .before .before .before .before .before .before .before .layout .ensures in
+    let r = c .before .before .before .before .before .before .before .before .rows-at .ensures in
+    let a = c .before .before .before .before .before .before .before .before .before .corrections-at .ensures in
+    let q = c .before .before .make-corrections .ensures in
+    let e = c .before .before .before .before .before .before .hold-parties .ensures in
+    (seeds-made _ _ _ _ _ k _ l _ _ r a _ q _ (e .0), (tapes-made _ _ _ _ _ k _ l _ _ r a _ q _ (e .1), corrections-made _ _ _ _ _ k _ l _ _ r a _ q _ _ (e .1)))
 
 pub from-master-spec : {M : Type 1} → statement M
 from-master-spec =
     tie.close
     (tie.spec
-    master-seeds-requires
-    tape-rows-requires
-    clear-requires
-    cast-run-honest
-    run-honest-requires
-    add-pack
-    mul-pack
-    add-pack-2
-    pack-requires
+    layout-requires
+    corrections-at-requires
+    rows-at-requires
+    hold-parties-requires
+    cast-make-corrections
+    make-corrections-requires
     same-length
-    same-length-2
-    same-length-3
-    same-length-4
-    same-length-5
     returns)

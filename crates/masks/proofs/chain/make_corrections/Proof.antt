@@ -1,71 +1,94 @@
--- `masks::chain::make_corrections` meets its contract: the XOR of the rows, the input masks, and the walk.
+-- `masks::chain::make_corrections` meets its contract: the XOR of the rows, the input masks, zeros for the corrections, and the walk.
 -- Assumes nothing.
 use native.Mathlib.Omega.{arith}
 use mathlib.Core.Path.{_≡_, _∙_}
-use Prim.Native.Nat.{ℕ, _*_, _≤_}
-use native.Mathlib.Nat.{le-refl}
-use Rattle.masks.proofs.Making.{few-ands, ready, corrections-made, memory-left}
+use Prim.Native.Nat.{ℕ, _+_, _*_, _≤_}
+use Rattle.masks.proofs.Making.{few-ands, ready, all-made}
 use Rattle.masks.proofs.chain.make_corrections.Statement.{statement}
 use Rattle.masks.proofs.chain.make_corrections.Tie as tie
 
--- the rows lie within the tapes
-tapes-room : (n len k t : ℕ) → len ≡ k → t ≡ n * k → n * len ≤ t
-tapes-room n len k t e d = rw (e, d) (le-refl (n * k))
+-- the rows lie within the memory
+rows-room : (a n len k t : ℕ) → len ≡ k → a + n * k ≤ t → a + n * len ≤ t
+rows-room a n len k t e h = rw e h
 
 add-wires : tie.Need-add-wires
-add-wires c = omega (arith, c .before .before .before .before .before .pre .legal .laid)
+add-wires c = omega (arith, c .before .before .before .pre .legal .laid)
 
 mul-oct : tie.Need-mul-oct
-mul-oct c = omega (arith, c .before .before .before .before .before .before .pre .legal .laid, few-ands _ _ _ _ _ _ (c .before .before .before .before .before .before .pre))
+mul-oct c = omega (arith, c .before .before .before .before .pre .legal .laid, few-ands _ _ _ _ _ _ (c .before .before .before .before .pre))
 
 add-oct : tie.Need-add-oct
-add-oct c = omega (arith, c .before .before .before .before .before .before .before .pre .legal .laid, few-ands _ _ _ _ _ _ (c .before .before .before .before .before .before .before .pre))
+add-oct c = omega (arith, c .before .before .before .before .before .pre .legal .laid, few-ands _ _ _ _ _ _ (c .before .before .before .before .before .pre))
 
 oct-requires : tie.Need-oct-requires
 oct-requires c κs = tt
 
+oct-requires-2 : tie.Need-oct-requires-2
+oct-requires-2 c κs = tt
+
 head-requires : tie.Need-head-requires
-head-requires c κs = omega (arith, c .before .before .before .before .before .before .before .before .pre .legal .laid .whole)
+head-requires c κs = omega (arith, c .before .before .before .before .before .before .before .pre .legal .laid .whole)
 
 add-rows-requires : tie.Need-add-rows-requires
 add-rows-requires c κs =
-    let p = c .before .before .before .before .before .before .before .before .before .before .pre in
-    let q = c .before .before .oct .ensures in
-    (tapes-room _ _ _ _ q (p .tapes-fit), omega (arith, q, p .room))
+    let p = c .before .before .before .before .before .before .before .before .before .pre in
+    let q = c .before .before .before .oct .ensures in
+    (omega (arith, q, p .row, p .corrections), rows-room _ _ _ _ _ q (p .tapes))
 
 load-inputs-requires : tie.Need-load-inputs-requires
 load-inputs-requires c κs =
-    let p = c .before .before .before .before .before .before .before .before .before .before .before .before .before .before .pre in
-    let e = c .before .before .before .add-rows .kept .1 .1 .1 .0 in
-    (omega arith, (omega (arith, p .legal .laid), omega (arith, p .room, e)))
+    let p = c .before .before .before .before .before .before .before .before .before .before .before .before .before .pre in
+    let e = c .before .before .before .add-rows .kept .0 in
+    (omega arith, (omega (arith, p .legal .laid), omega (arith, p .row, p .corrections, p .tapes, e)))
 
-clear-requires : tie.Need-clear-requires
-clear-requires c κs = tt
+clear-part-requires : tie.Need-clear-part-requires
+clear-part-requires c κs =
+    let p = c .before .before .before .before .before .before .before .before .before .before .before .before .before .before .before .before .before .pre in
+    let e = c .before .before .before .load-inputs .kept .0 ∙ c .before .before .before .before .before .before .before .add-rows .kept .0 in
+    omega (arith, c .before .before .before .before .before .before .before .before .before .before .oct2 .ensures, p .corrections, p .tapes, e)
 
 walk-requires : tie.Need-walk-requires
 walk-requires c κs =
-    let p = c .before .before .before .before .before .before .before .before .before .before .before .before .before .before .before .before .before .before .before .before .before .before .before .pre in
-    let e = c .before .before .before .before .before .before .before .before .load-inputs .kept .0 ∙ c .before .before .before .before .before .before .before .before .before .before .before .before .add-rows .kept .1 .1 .1 .0 in
-    ready _ _ _ _ _ _ p _ (c .before .before .before .before .before .before .before .before .before .before .before .before .before .before .head .ensures) _ _ e (c .before .before .before .before .clear .kept .0)
+    let clear = c .before .before .before in
+    let load = clear .before .before .before .before in
+    let sum = load .before .before .before .before in
+    let head = sum .before .before in
+    ready _ _ _ _ _ _ (head .before .before .before .before .before .before .before .before .pre) _ (head .head .ensures) _ (clear .clear-part .kept .0 ∙ load .load-inputs .kept .0 ∙ sum .add-rows .kept .0)
 
 same-length : tie.Need-same-length
-same-length c = c .before .before .before .before .walk .kept .1 .1 .1 .0 ∙ c .before .before .before .before .before .before .before .before .before .clear .kept .0
-
-same-length-2 : tie.Need-same-length-2
-same-length-2 c = c .before .before .before .before .walk .kept .1 .1 .1 .1 .0 ∙ c .before .before .before .before .before .before .before .before .before .before .before .before .before .load-inputs .kept .0 ∙ c .before .before .before .before .before .before .before .before .before .before .before .before .before .before .before .before .before .add-rows .kept .1 .1 .1 .0
+same-length c =
+    let walk = c .before .before in
+    let clear = walk .before .before .before .before in
+    let load = clear .before .before .before .before in
+    walk .walk .kept .1 .1 .1 .1 .0 ∙ clear .clear-part .kept .0 ∙ load .load-inputs .kept .0 ∙ load .before .before .before .before .add-rows .kept .0
 
 returns : tie.Need-returns
 returns c =
-    let x = c .before .before .before .before .before .before .before .before .before .before .before .before .before .before .before .before .before .before .before .before .before .before .before .before .before .before .before .before .args in
-    let p = c .before .before .before .before .before .before .before .before .before .before .before .before .before .before .before .before .before .before .before .before .before .before .before .before .before .before .before .before .pre in
-    let r = c .before .before .before .before .walk in
-    let head = c .before .before .before .before .before .before .before .before .before .before .before .before .before .before .before .before .before .before .before .head .ensures in
-    let len = c .before .before .before .before .before .before .before .before .before .before .before .before .before .before .before .before .before .before .before .before .oct .ensures in
-    let sum = c .before .before .before .before .before .before .before .before .before .before .before .before .before .before .before .before .before .add-rows .ensures in
-    let load = c .before .before .before .before .before .before .before .before .before .before .before .before .before .load-inputs .ensures in (
-      corrections-made (x .s .now) (x .z) (x .n) (x .tapes .now) (x .corrections .now) (x .memory .now) p _ head _ len _ _ sum load _ _ (c .before .before .before .before .before .before .before .before .before .clear .ensures) (r .ensures .1),
-      memory-left (x .s .now) (x .z) (x .n) (x .tapes .now) (x .corrections .now) (x .memory .now) p _ head _ len _ _ sum load _ (r .ensures .0),
-    )
+    let walk = c .before .before in
+    let clear = walk .before .before .before .before in
+    let load = clear .before .before .before .before in
+    let sum = load .before .before .before .before in
+    let head = sum .before .before in
+    let size = head .before in
+    let len = size .before in
+    let start = len .before .before .before .before .before .before in
+    let x = start .args in
+    all-made (x .s .now) (x .z) (x .n) (x .a) (x .at) (x .memory .now) (start .pre) _ (head .head .ensures) _ (len .oct .ensures) _ _ (sum .add-rows .ensures)
+    (load .load-inputs .ensures) _ _ _ (size .oct2 .ensures) (clear .clear-part .ensures) (walk .walk .ensures)
 
 pub make-corrections-spec : {M : Type 1} → statement M
-make-corrections-spec = tie.close (tie.spec add-wires mul-oct add-oct oct-requires head-requires add-rows-requires load-inputs-requires clear-requires walk-requires same-length same-length-2 returns)
+make-corrections-spec =
+    tie.close
+    (tie.spec
+    add-wires
+    mul-oct
+    add-oct
+    oct-requires
+    oct-requires-2
+    head-requires
+    add-rows-requires
+    load-inputs-requires
+    clear-part-requires
+    walk-requires
+    same-length
+    returns)

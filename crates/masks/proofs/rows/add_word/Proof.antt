@@ -23,12 +23,11 @@ returns : tie.Need-returns
 returns c =
     let write = c .before .before in
     let second = write .before .before in
-    let first = second .before in
+    let first = second .before .before in
     let known = first .before .before in
-    let x = known .before .before .args in
     write .write-u64 .ensures
-    ∙ word-added (x .memory .now) (x .row .now) _ _ _ _ (λ i. known .slice-known .given i .fits)
-    (λ i. known .before .shared-slice-known .given i .fits) (omega arith) (omega arith) (first .read-u64 .ensures) (second .read-u642 .ensures)
+    ∙ word-added (known .before .args .memory .now) _ _ _ _ (λ i. known .slice-known .given i .fits) (omega arith) (omega arith) (first .read-u64 .ensures)
+    (second .read-u642 .ensures)
 
 pub add-word-spec : {M : Type 1} → statement M
 add-word-spec = tie.close (tie.spec read-u64-requires read-u64-requires-2 write-u64-requires same-length returns)

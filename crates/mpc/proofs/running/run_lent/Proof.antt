@@ -3,7 +3,7 @@
 use mathlib.Core.Path.{refl}
 use Rattle.mpc.proofs.Opened.{counted}
 use Rattle.mpc.proofs.Asks.{ands-few}
-use Rattle.mpc.proofs.Ran.{run-parties, run-length, run-unused, run-done, run-witness, run-lent-fits}
+use Rattle.mpc.proofs.Ran.{run-parties, run-length, run-unused, run-done, run-lent-fits}
 use Rattle.mpc.proofs.running.run_lent.Statement.{statement}
 use Rattle.mpc.proofs.running.run_lent.Tie as tie
 
@@ -11,11 +11,11 @@ height-requires : tie.Need-height-requires
 height-requires c κs = tt
 
 returns : tie.Need-returns
-returns c = run-parties _ _ _ _ _ (c .before .before .before .before .before .before .before .before .before .pre) _ _ _ _ _ _ _ _ (c .before .height .ensures) (c .if1 .taken)
+returns c = run-parties _ _ _ _ _ (c .before .before .before .before .before .before .before .before .before .before .pre .0) _ _ _ _ _ _ _ _ (c .before .height .ensures) (c .if1 .taken)
 
 run-lengths-requires : tie.Need-run-lengths-requires
 run-lengths-requires c κs =
-    let p = c .before .before .before .before .before .before .before .before .before .before .before .before .pre in
+    let p = c .before .before .before .before .before .before .before .before .before .before .before .before .before .pre .0 in
     (counted _ _ (c .before .before .before .before .height .ensures) (c .before .before .before .if1 .left) .few, (p .legal .laid .few-inputs, (p .legal .laid .few-outputs, ands-few _ _ _ _ _ p)))
 
 same-length : tie.Need-same-length
@@ -28,13 +28,13 @@ same-length-3 : tie.Need-same-length-3
 same-length-3 c = refl
 
 returns-2 : tie.Need-returns-2
-returns-2 c = run-length _ _ _ _ _ (c .before .before .before .before .before .before .before .before .before .before .before .before .before .before .pre) _ _ _ _ _ _ _ _ (c .before .before .before .before .before .before .height .ensures) (c .before .before .before .before .before .if1 .left) _ (c .before .run-lengths .ensures) (c .if2 .taken)
+returns-2 c = run-length _ _ _ _ _ (c .before .before .before .before .before .before .before .before .before .before .before .before .before .before .before .pre .0) _ _ _ _ _ _ _ _ (c .before .before .before .before .before .before .height .ensures) (c .before .before .before .before .before .if1 .left) _ (c .before .run-lengths .ensures) (c .if2 .taken)
 
 unused-zero-requires : tie.Need-unused-zero-requires
 unused-zero-requires c κs = tt
 
 unused-rows-requires : tie.Need-unused-rows-requires
-unused-rows-requires c κs = ((c .before .before .before .before .before .before .before .before .before .before .before .before .before .before .before .pre), counted _ _ (c .before .before .before .before .before .before .before .height .ensures) (c .before .before .before .before .before .before .if1 .left) .few)
+unused-rows-requires c κs = (c .before .before .before .before .before .before .before .before .before .before .before .before .before .before .before .before .pre .0, counted _ _ (c .before .before .before .before .before .before .before .height .ensures) (c .before .before .before .before .before .before .if1 .left) .few)
 
 both-requires : tie.Need-both-requires
 both-requires c κs = tt
@@ -56,30 +56,31 @@ same-length-6 c = refl
 
 returns-3 : tie.Need-returns-3
 returns-3 c =
-    run-unused _ _ _ _ _ (c .before .before .before .before .before .before .before .before .before .before .before .before .before .before .before .before .before .before .before .before .pre) _ _ _ _ _ _ _ _ (c .before .before .before .before .before .before .before .before .before .before .before .before .height .ensures) (c .before .before .before .before .before .before .before .before .before .before .before .if1 .left) _ (c .before .before .before .before .before .before .before .run-lengths .ensures) (c .before .before .before .before .before .before .if2 .left)
+    run-unused _ _ _ _ _ (c .before .before .before .before .before .before .before .before .before .before .before .before .before .before .before .before .before .before .before .before .before .pre .0) _ _ _ _ _ _ _ _ (c .before .before .before .before .before .before .before .before .before .before .before .before .height .ensures) (c .before .before .before .before .before .before .before .before .before .before .before .if1 .left) _ (c .before .before .before .before .before .before .before .run-lengths .ensures) (c .before .before .before .before .before .before .if2 .left)
     _ _ _ _ _ (c .before .before .before .before .before .unused-zero .ensures) (c .before .before .before .before .unused-rows .ensures) (c .before .before .before .both .ensures) (c .before .before .unused-zero2 .ensures) (c .before .both2 .ensures) (c .if3 .taken)
 
-run-with-requires : tie.Need-run-with-requires
-run-with-requires c κs =
-    let x = c .before .before .before .before .before .before .before .before .before .before .before .before .before .before .before .before .before .before .before .before .before .before .before .args in
-    let f = run-witness _ _ _ _ _ (c .before .before .before .before .before .before .before .before .before .before .before .before .before .before .before .before .before .before .before .before .before .before .before .pre) _ _ _ (x .tapes .now) _ (x .masked .now) (x .rows .now) (x .y .now) (c .before .before .before .before .before .before .before .before .before .before .before .before .before .before .before .height .ensures) (c .before .before .before .before .before .before .before .before .before .before .before .before .before .before .if1 .left) _ (c .before .before .before .before .before .before .before .before .before .before .run-lengths .ensures) (c .before .before .before .before .before .before .before .before .before .if2 .left)
-    _ _ _ _ _ (c .before .before .before .before .before .before .before .before .unused-zero .ensures) (c .before .before .before .before .before .before .before .unused-rows .ensures) (c .before .before .before .before .before .before .both .ensures) (c .before .before .before .before .before .unused-zero2 .ensures) (c .before .before .before .before .both2 .ensures) (c .before .before .before .if3 .left) in
-    let l = run-lent-fits _ _ _ _ _ (c .before .before .before .before .before .before .before .before .before .before .before .before .before .before .before .before .before .before .before .before .before .before .before .pre) _ _ (x .witness .now) _ _ _ _ _ (c .before .before .before .before .before .before .before .before .before .before .before .before .before .before .before .height .ensures) (c .before .before .before .before .before .before .before .before .before .before .before .before .before .before .if1 .left) _ (c .before .before .before .before .before .before .before .before .before .before .run-lengths .ensures) (c .before .before .before .before .before .before .before .before .before .if2 .left) in
-    ((c .before .before .before .before .before .before .before .before .before .before .before .before .before .before .before .before .before .before .before .before .before .before .before .pre), (counted _ _ (c .before .before .before .before .before .before .before .before .before .before .before .before .before .before .before .height .ensures) (c .before .before .before .before .before .before .before .before .before .before .before .before .before .before .if1 .left), (f, l .1)))
+run-in-requires : tie.Need-run-in-requires
+run-in-requires c κs =
+    let x = c .before .before .before .before .before .before .before .before .before .before .before .before .before .before .before .before .before .before .before .before .before .before .before .before .before .args in
+    let l = run-lent-fits _ _ _ _ _ (c .before .before .before .before .before .before .before .before .before .before .before .before .before .before .before .before .before .before .before .before .before .before .before .before .before .pre .0) _ _ (x .witness .now) _ _ _ _ _ (c .before .before .before .before .before .before .before .before .before .before .before .before .before .before .before .before .height .ensures) (c .before .before .before .before .before .before .before .before .before .before .before .before .before .before .before .if1 .left) _ (c .before .before .before .before .before .before .before .before .before .before .before .run-lengths .ensures) (c .before .before .before .before .before .before .before .before .before .before .if2 .left) in
+    (c .before .before .before .before .before .before .before .before .before .before .before .before .before .before .before .before .before .before .before .before .before .before .before .before .before .pre .0, (record { parties = counted _ _ (c .before .before .before .before .before .before .before .before .before .before .before .before .before .before .before .before .height .ensures) (c .before .before .before .before .before .before .before .before .before .before .before .before .before .before .before .if1 .left); room = (c .before .before .before .before .before .before .before .before .before .before .before .before .before .before .before .before .before .before .before .before .before .before .before .before .before .pre .1) }, l))
 
 same-length-7 : tie.Need-same-length-7
-same-length-7 c = c .before .before .before .before .before .before .run-with .kept .1 .1 .1 .1 .1 .1 .0
+same-length-7 c = c .before .before .before .before .before .before .before .before .run-in .kept .1 .1 .1 .1 .1 .1 .0
 
 same-length-8 : tie.Need-same-length-8
-same-length-8 c = c .before .before .before .before .before .before .run-with .kept .1 .1 .1 .1 .1 .1 .1 .0
+same-length-8 c = c .before .before .before .before .before .before .before .before .run-in .kept .1 .1 .1 .1 .1 .1 .1 .0
 
 same-length-9 : tie.Need-same-length-9
-same-length-9 c = c .before .before .before .before .before .before .run-with .kept .1 .1 .1 .1 .1 .1 .1 .1 .0
+same-length-9 c = c .before .before .before .before .before .before .before .before .run-in .kept .1 .1 .1 .1 .1 .1 .1 .1 .0
+
+same-length-10 : tie.Need-same-length-10
+same-length-10 c = c .before .before .before .before .before .before .before .before .run-in .kept .1 .1 .1 .1 .1 .1 .1 .1 .1 .0
 
 returns-4 : tie.Need-returns-4
 returns-4 c =
-    run-done _ _ _ _ _ (c .before .before .before .before .before .before .before .before .before .before .before .before .before .before .before .before .before .before .before .before .before .before .before .before .before .before .before .before .before .before .pre) _ _ _ _ _ _ _ _ (c .before .before .before .before .before .before .before .before .before .before .before .before .before .before .before .before .before .before .before .before .before .before .height .ensures) (c .before .before .before .before .before .before .before .before .before .before .before .before .before .before .before .before .before .before .before .before .before .if1 .left) _ (c .before .before .before .before .before .before .before .before .before .before .before .before .before .before .before .before .before .run-lengths .ensures) (c .before .before .before .before .before .before .before .before .before .before .before .before .before .before .before .before .if2 .left)
-    _ _ _ _ _ (c .before .before .before .before .before .before .before .before .before .before .before .before .before .before .before .unused-zero .ensures) (c .before .before .before .before .before .before .before .before .before .before .before .before .before .before .unused-rows .ensures) (c .before .before .before .before .before .before .before .before .before .before .before .before .before .both .ensures) (c .before .before .before .before .before .before .before .before .before .before .before .before .unused-zero2 .ensures) (c .before .before .before .before .before .before .before .before .before .before .before .both2 .ensures) (c .before .before .before .before .before .before .before .before .before .before .if3 .left) _ _ _ (c .before .before .before .before .before .before .run-with .ensures)
+    run-done _ _ _ _ _ (c .before .before .before .before .before .before .before .before .before .before .before .before .before .before .before .before .before .before .before .before .before .before .before .before .before .before .before .before .before .before .before .before .before .before .pre .0) _ _ _ _ _ _ _ _ (c .before .before .before .before .before .before .before .before .before .before .before .before .before .before .before .before .before .before .before .before .before .before .before .before .before .height .ensures) (c .before .before .before .before .before .before .before .before .before .before .before .before .before .before .before .before .before .before .before .before .before .before .before .before .if1 .left) _ (c .before .before .before .before .before .before .before .before .before .before .before .before .before .before .before .before .before .before .before .before .run-lengths .ensures) (c .before .before .before .before .before .before .before .before .before .before .before .before .before .before .before .before .before .before .before .if2 .left)
+    _ _ _ _ _ (c .before .before .before .before .before .before .before .before .before .before .before .before .before .before .before .before .before .before .unused-zero .ensures) (c .before .before .before .before .before .before .before .before .before .before .before .before .before .before .before .before .before .unused-rows .ensures) (c .before .before .before .before .before .before .before .before .before .before .before .before .before .before .before .before .both .ensures) (c .before .before .before .before .before .before .before .before .before .before .before .before .before .before .before .unused-zero2 .ensures) (c .before .before .before .before .before .before .before .before .before .before .before .before .before .before .both2 .ensures) (c .before .before .before .before .before .before .before .before .before .before .before .before .before .if3 .left) _ _ _ (c .before .before .before .before .before .before .before .before .run-in .ensures)
 
 pub run-lent-spec : {M : Type 1} → statement M
 run-lent-spec =
@@ -101,8 +102,9 @@ run-lent-spec =
     same-length-5
     same-length-6
     returns-3
-    run-with-requires
+    run-in-requires
     same-length-7
     same-length-8
     same-length-9
+    same-length-10
     returns-4)

@@ -1,7 +1,7 @@
 -- `packed::loading::mask_inputs` meets its contract. The loop's invariant: the first w bits are put.
 -- Assumes nothing.
 use native.Mathlib.Omega.{arith}
-use mathlib.Core.Path.{_≡_, refl, ap, _∙_}
+use mathlib.Core.Path.{_≡_, refl, _∙_}
 use Prim.Native.Nat.{_-_, _≤_}
 use lib.ListN.{length}
 use Rattle.bits.specs.Bits.{pack}

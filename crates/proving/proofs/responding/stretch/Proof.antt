@@ -8,42 +8,39 @@ use Rattle.proving.proofs.responding.stretch.Tie as tie
 
 copy-requires : tie.Need-copy-requires
 copy-requires c κs =
-    let x = c .before .before .before .before .before .before .before .before .before .args in
-    let p = c .before .before .before .before .before .before .before .before .before .pre in
+    let x = c .before .before .before .before .before .before .before .before .args in
+    let p = c .before .before .before .before .before .before .before .before .pre in
     shut-size (circuitOf (x .s .now)) (x .inst .parties) (x .p) (x .inst .number) (x .witness .now) (x .seed .now) (c .before .if1 .taken) (x .part .now) (x .online .now)
     (p .1 .1 .1 .1 .1) (p .1 .1 .1 .1 .0)
 
 send-requires : tie.Need-send-requires
 send-requires c κs =
-    let x = c .before .before .before .before .before .before .before .before .before .before .before .args in
-    let p = c .before .before .before .before .before .before .before .before .before .before .before .pre in
-    (p .0, (p .1 .0, (p .1 .1 .1 .0, (omega (arith, p .1 .1 .0, c .before .before .before .if1 .left), hidden-size (circuitOf (x .s .now)) (x .inst .parties) (x .p) (c .before .before .before .if1 .left) (x .part .now) (p .1 .1 .1 .1 .1)))))
+    let x = c .before .before .before .before .before .before .before .before .before .args in
+    let p = c .before .before .before .before .before .before .before .before .before .pre in
+    (p .0, (p .1 .0, (p .1 .1 .1 .0, (omega (arith, p .1 .1 .0, c .before .before .if1 .left), hidden-size (circuitOf (x .s .now)) (x .inst .parties) (x .p) (c .before .before .if1 .left) (x .part .now) (p .1 .1 .1 .1 .1)))))
 
 same-length : tie.Need-same-length
 same-length c = c .before .before .copy .kept .1 .0
 
 returns : tie.Need-returns
 returns c =
-    let x = c .before .before .before .before .before .before .before .before .before .before .before .before .args in
-    let p = c .before .before .before .before .before .before .before .before .before .before .before .before .pre in
+    let x = c .before .before .before .before .before .before .before .before .before .before .before .args in
+    let p = c .before .before .before .before .before .before .before .before .before .before .before .pre in
     shut-made (circuitOf (x .s .now)) (x .inst .parties) (x .p) (x .inst .number) (x .witness .now) (x .seed .now) (c .before .before .before .before .if1 .taken) _ _ (c .before .before .copy .ensures)
     (p .1 .1 .1 .1 .0)
 
 same-length-2 : tie.Need-same-length-2
-same-length-2 c = c .before .before .before .before .before .before .send .kept .1 .1 .1 .1 .1 .1 .0
+same-length-2 c = c .before .before .before .before .send .kept .1 .1 .1 .1 .1 .1 .0
 
 same-length-3 : tie.Need-same-length-3
-same-length-3 c = c .before .before .before .before .before .before .send .kept .1 .1 .1 .1 .1 .1 .1 .0
-
-same-length-4 : tie.Need-same-length-4
-same-length-4 c = c .before .before .before .before .before .before .send .kept .1 .1 .1 .1 .1 .1 .1 .1 .0
+same-length-3 c = c .before .before .before .before .send .kept .1 .1 .1 .1 .1 .1 .1 .0
 
 returns-2 : tie.Need-returns-2
 returns-2 c =
-    let x = c .before .before .before .before .before .before .before .before .before .before .before .before .before .before .before .before .before .before .args in
-    hidden-made (circuitOf (x .s .now)) (x .inst .parties) (x .p) (c .before .before .before .before .before .before .before .before .before .before .if1 .left) (x .inst .number) (x .witness .now) (x .seed .now) _ (c .before .before .before .before .before .before .send .ensures .0)
+    let x = c .before .before .before .before .before .before .before .before .before .before .before .before .before .before .args in
+    hidden-made (circuitOf (x .s .now)) (x .inst .parties) (x .p) (c .before .before .before .before .before .before .before .if1 .left) (x .inst .number) (x .witness .now) (x .seed .now) _ (c .before .before .before .before .send .ensures)
 
 pub stretch-spec : {M : Type 1} → statement M
 stretch-spec =
     tie.close
-    (tie.spec copy-requires send-requires same-length returns same-length-2 same-length-3 same-length-4 returns-2)
+    (tie.spec copy-requires send-requires same-length returns same-length-2 same-length-3 returns-2)

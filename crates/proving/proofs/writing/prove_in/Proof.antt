@@ -18,13 +18,13 @@ use Rattle.proving.proofs.writing.prove_in.Statement.{statement}
 use Rattle.proving.proofs.writing.prove_in.Tie as tie
 
 row-count-requires : tie.Need-row-count-requires
-row-count-requires c κs = counts-fit _ _ (c .before .before .before .before .before .before .before .before .pre .1 .0 .counts) .most
+row-count-requires c κs = counts-fit _ _ (c .before .before .before .before .before .before .before .pre .1 .0 .counts) .most
 
 mul-len : tie.Need-mul-len
 mul-len c = omega (arith, c .row-count .ensures .1)
 
 height-requires : tie.Need-height-requires
-height-requires c κs = counts-fit _ _ (c .before .before .before .before .before .before .before .before .before .pre .1 .0 .counts) .most
+height-requires c κs = counts-fit _ _ (c .before .before .before .before .before .before .before .before .pre .1 .0 .counts) .most
 
 array-borrow-prefix-nodes : tie.Need-array-borrow-prefix-nodes
 array-borrow-prefix-nodes c = omega (arith, c .before .row-count .ensures .1)
@@ -35,7 +35,7 @@ slice-aggregate-grow c = sym (prefix-length (16 * c .before .before .row-count .
 grow-requires : tie.Need-grow-requires
 grow-requires c κs =
     let e = c .before .before .row-count .ensures .0 ∙ ap (λ (h : ℕ). 2 ^ suc h) (sym (c .before .height .ensures)) in
-    (omega (arith, c .before .height .ensures, masters-low (c .before .before .before .before .before .before .before .before .before .before .before .args .k .instances) (counts-fit _ _ (c .before .before .before .before .before .before .before .before .before .before .before .pre .1 .0 .counts) .most)), (c .before .before .before .before .before .before .before .before .before .before .before .pre .1 .1, prefix-length (16 * c .before .before .row-count .result) 16384 (omega (arith, c .before .before .row-count .ensures .1)) ∙ ap (λ (i : ℕ). 16 * i) e))
+    (omega (arith, c .before .height .ensures, masters-low (c .before .before .before .before .before .before .before .before .before .before .args .k .instances) (counts-fit _ _ (c .before .before .before .before .before .before .before .before .before .before .pre .1 .0 .counts) .most)), (c .before .before .before .before .before .before .before .before .before .before .pre .1 .1, prefix-length (16 * c .before .before .row-count .result) 16384 (omega (arith, c .before .before .row-count .ensures .1)) ∙ ap (λ (i : ℕ). 16 * i) e))
 
 array-share-prefix-nodes : tie.Need-array-share-prefix-nodes
 array-share-prefix-nodes c = front-inside 16384 (16 * c .before .before .before .before .row-count .result) (c .before .grow .last .1 .1 .1 .0) (omega (arith, c .before .before .before .before .row-count .ensures .1)) (c .before .grow .kept .1 .1 .1 .0)
@@ -45,23 +45,20 @@ slice-aggregate-prove-from c = front-taken 16384 (16 * c .before .before .before
 
 prove-from-requires : tie.Need-prove-from-requires
 prove-from-requires c κs =
-    let x = c .before .before .before .before .before .before .before .before .before .before .before .before .before .before .before .before .before .args in
-    (c .before .before .before .before .before .before .before .before .before .before .before .before .before .before .before .before .before .pre .0, (c .before .before .before .before .before .before .before .before .before .before .before .before .before .before .before .before .before .pre .1 .0, rows-grown (circuitOf (x .s .now)) (x .k .instances) (x .k .chosen) (x .k .parties) (x .witness .now) (statementOf (x .k .instances) (x .k .chosen) (x .k .parties) (x .s .now) (x .y .now) (x .message .now)) (x .root .now) _ (c .before .before .before .before .before .before .before .before .before .before .before .before .before .before .before .before .before .pre .1 .1) (front-back 16384 (16 * c .before .before .before .before .before .before .before .before .row-count .result) (c .before .before .before .before .before .grow .last .1 .1 .1 .0) (omega (arith, c .before .before .before .before .before .before .before .before .row-count .ensures .1)) (c .before .before .before .before .before .grow .kept .1 .1 .1 .0) ∙ c .before .before .before .before .before .grow .ensures ∙ ap (nodesOf (childOf 65535) (x .root .now)) (c .before .before .before .before .before .before .before .height .ensures))))
+    let x = c .before .before .before .before .before .before .before .before .before .before .before .before .before .before .before .args in
+    (c .before .before .before .before .before .before .before .before .before .before .before .before .before .before .before .pre .0, (c .before .before .before .before .before .before .before .before .before .before .before .before .before .before .before .pre .1 .0, rows-grown (circuitOf (x .s .now)) (x .k .instances) (x .k .chosen) (x .k .parties) (x .witness .now) (statementOf (x .k .instances) (x .k .chosen) (x .k .parties) (x .s .now) (x .y .now) (x .message .now)) (x .root .now) _ (c .before .before .before .before .before .before .before .before .before .before .before .before .before .before .before .pre .1 .1) (front-back 16384 (16 * c .before .before .before .before .before .before .before .row-count .result) (c .before .before .before .before .grow .last .1 .1 .1 .0) (omega (arith, c .before .before .before .before .before .before .before .row-count .ensures .1)) (c .before .before .before .before .grow .kept .1 .1 .1 .0) ∙ c .before .before .before .before .grow .ensures ∙ ap (nodesOf (childOf 65535) (x .root .now)) (c .before .before .before .before .before .before .height .ensures))))
 
 same-length : tie.Need-same-length
-same-length c = c .before .before .before .before .before .before .prove-from .kept .1 .1 .1 .1 .1 .1 .1 .0
+same-length c = c .before .before .before .before .prove-from .kept .1 .1 .1 .1 .1 .1 .1 .0
 
 same-length-2 : tie.Need-same-length-2
-same-length-2 c = c .before .before .before .before .before .before .prove-from .kept .1 .1 .1 .1 .1 .1 .1 .1 .0
-
-same-length-3 : tie.Need-same-length-3
-same-length-3 c = c .before .before .before .before .before .before .prove-from .kept .1 .1 .1 .1 .1 .1 .1 .1 .1 .0
+same-length-2 c = c .before .before .before .before .prove-from .kept .1 .1 .1 .1 .1 .1 .1 .1 .0
 
 returns : tie.Need-returns
 returns c =
-    let x = c .before .before .before .before .before .before .before .before .before .before .before .before .before .before .before .before .before .before .before .before .before .before .before .before .args in
-    let e = proof-grown (circuitOf (x .s .now)) (x .k .instances) (x .k .chosen) (x .k .parties) (x .witness .now) (statementOf (x .k .instances) (x .k .chosen) (x .k .parties) (x .s .now) (x .y .now) (x .message .now)) (x .root .now) _ (c .before .before .before .before .before .before .before .before .before .before .before .before .before .before .before .before .before .before .before .before .before .before .before .before .pre .1 .1) (front-back 16384 (16 * c .before .before .before .before .before .before .before .before .before .before .before .before .before .before .before .row-count .result) (c .before .before .before .before .before .before .before .before .before .before .before .before .grow .last .1 .1 .1 .0) (omega (arith, c .before .before .before .before .before .before .before .before .before .before .before .before .before .before .before .row-count .ensures .1)) (c .before .before .before .before .before .before .before .before .before .before .before .before .grow .kept .1 .1 .1 .0) ∙ c .before .before .before .before .before .before .before .before .before .before .before .before .grow .ensures ∙ ap (nodesOf (childOf 65535) (x .root .now)) (c .before .before .before .before .before .before .before .before .before .before .before .before .before .before .height .ensures)) in
-    (c .before .before .before .before .before .before .prove-from .ensures .0 ∙ ap length e, c .before .before .before .before .before .before .prove-from .ensures .1 ∙ ap (λ (t : List ℕ). t ++ drop (c .before .before .before .before .before .before .prove-from .result) (x .buffer .now)) e)
+    let x = c .before .before .before .before .before .before .before .before .before .before .before .before .before .before .before .before .before .before .before .before .args in
+    let e = proof-grown (circuitOf (x .s .now)) (x .k .instances) (x .k .chosen) (x .k .parties) (x .witness .now) (statementOf (x .k .instances) (x .k .chosen) (x .k .parties) (x .s .now) (x .y .now) (x .message .now)) (x .root .now) _ (c .before .before .before .before .before .before .before .before .before .before .before .before .before .before .before .before .before .before .before .before .pre .1 .1) (front-back 16384 (16 * c .before .before .before .before .before .before .before .before .before .before .before .before .row-count .result) (c .before .before .before .before .before .before .before .before .before .grow .last .1 .1 .1 .0) (omega (arith, c .before .before .before .before .before .before .before .before .before .before .before .before .row-count .ensures .1)) (c .before .before .before .before .before .before .before .before .before .grow .kept .1 .1 .1 .0) ∙ c .before .before .before .before .before .before .before .before .before .grow .ensures ∙ ap (nodesOf (childOf 65535) (x .root .now)) (c .before .before .before .before .before .before .before .before .before .before .before .height .ensures)) in
+    (c .before .before .before .before .prove-from .ensures .0 ∙ ap length e, c .before .before .before .before .prove-from .ensures .1 ∙ ap (λ (t : List ℕ). t ++ drop (c .before .before .before .before .prove-from .result) (x .buffer .now)) e)
 
 pub prove-in-spec : {M : Type 1} → statement M
 prove-in-spec =
@@ -78,5 +75,4 @@ prove-in-spec =
     prove-from-requires
     same-length
     same-length-2
-    same-length-3
     returns)

@@ -1,0 +1,99 @@
+-- `planes::tapes::put_held_bits` meets its contract. The loop's invariant: t bits are put.
+-- Assumes nothing.
+use native.Mathlib.Omega.{arith}
+use mathlib.Core.Path.{_≡_, refl, _∙_}
+use Prim.Native.Nat.{_-_, _≤_}
+use lib.ListN.{length, drop}
+use Rattle.planes.specs.Steps.{putBits}
+use Rattle.planes.proofs.Turning.{put-none}
+use Rattle.planes.proofs.Within.{put-within-turn}
+use Rattle.planes.proofs.tapes.put_held_bits.Statement.{statement}
+use Rattle.planes.proofs.tapes.put_held_bits.Tie as tie
+
+abbrev Inv-loop : tie.InvT-loop
+Inv-loop memory₀ to hidden a count t₀ memory t = (t ≤ count) × ((length memory ≡ length memory₀) × (memory ≡ putBits to hidden (drop a memory₀) t memory₀))
+
+abbrev μ-loop : tie.MeasureT-loop
+μ-loop memory₀ to hidden a count t₀ memory t = count - t
+
+loop-holds : tie.Need-loop-holds Inv-loop μ-loop
+loop-holds c = (omega arith, (refl, put-none _ _ _ _))
+
+mul-read-u64 : tie.Need-mul-read-u64 Inv-loop μ-loop
+mul-read-u64 c = omega arith
+
+add-read-u64 : tie.Need-add-read-u64 Inv-loop μ-loop
+add-read-u64 c = omega arith
+
+read-u64-requires : tie.Need-read-u64-requires Inv-loop μ-loop
+read-u64-requires c κs = omega arith
+
+mul-bit : tie.Need-mul-bit Inv-loop μ-loop
+mul-bit c = omega arith
+
+add-bit : tie.Need-add-bit Inv-loop μ-loop
+add-bit c = omega arith
+
+bit-requires : tie.Need-bit-requires Inv-loop μ-loop
+bit-requires c κs = omega arith
+
+every-requires : tie.Need-every-requires Inv-loop μ-loop
+every-requires c κs = tt
+
+chosen-requires : tie.Need-chosen-requires Inv-loop μ-loop
+chosen-requires c κs = tt
+
+mul-write-u64 : tie.Need-mul-write-u64 Inv-loop μ-loop
+mul-write-u64 c = omega arith
+
+add-write-u64 : tie.Need-add-write-u64 Inv-loop μ-loop
+add-write-u64 c = omega arith
+
+write-u64-requires : tie.Need-write-u64-requires Inv-loop μ-loop
+write-u64-requires c κs = omega arith
+
+add-t : tie.Need-add-t Inv-loop μ-loop
+add-t c = omega arith
+
+loop-less : tie.Need-loop-less Inv-loop μ-loop
+loop-less c = omega arith
+
+loop-again : tie.Need-loop-again Inv-loop μ-loop
+loop-again c =
+    let r = c .before .before .write-u64 in
+    let h = c .before .before .before .before in
+    let b = h .before .before in
+    let l = b .before .before .before .before .before .loop in
+    (omega arith, (r .kept .0 ∙ l .inv .1 .0, put-within-turn _ _ (l .t) _ _ _ _ _ _ _ _ (omega arith) (l .inv .1 .1) (b .before .before .read-u64 .ensures) (b .bit .ensures) (h .before .every .ensures) (h .chosen .ensures) (r .ensures)))
+
+same-length : tie.Need-same-length Inv-loop μ-loop
+same-length c = c .before .loop .inv .1 .0
+
+returns : tie.Need-returns Inv-loop μ-loop
+returns c =
+    let e : c .before .loop .t ≡ c .before .before .before .args .count = omega arith in
+    rw (← e) (c .before .loop .inv .1 .1)
+
+pub put-held-bits-spec : {M : Type 1} → statement M
+put-held-bits-spec =
+    tie.close
+    (tie.spec
+    Inv-loop
+    μ-loop
+    loop-holds
+    mul-read-u64
+    add-read-u64
+    read-u64-requires
+    mul-bit
+    add-bit
+    bit-requires
+    every-requires
+    chosen-requires
+    mul-write-u64
+    add-write-u64
+    write-u64-requires
+    add-t
+    loop-less
+    loop-again
+    same-length
+    returns)
