@@ -17,7 +17,8 @@
 #define INPUTS (2 * WIDTH)
 #define OUTPUTS (1 + WIDTH)
 #define GATES (4 * WIDTH - 1)
-#define CIRCUIT_LEN (8 + 2 * OUTPUTS + 8 * GATES)
+#define CIRCUIT_LEN (16 + 4 * OUTPUTS + 16 * GATES)
+#define WORK_LEN (64 * (INPUTS + GATES) + 4096)
 
 #define SLOTS 4
 #define PAGE_LEN (12 + 18 * SLOTS)
@@ -31,6 +32,7 @@ static uint8_t y[(OUTPUTS + 7) / 8];
 static uint8_t page[PAGE_LEN];
 static uint8_t old_page[PAGE_LEN];
 static uint8_t root[WV_ROOT_LEN];
+static uint8_t work[WORK_LEN];
 
 static void must(const char *what, uint32_t answer, uint32_t expected)
 {
@@ -39,6 +41,34 @@ static void must(const char *what, uint32_t answer, uint32_t expected)
         printf("expected %lu\n", (unsigned long)expected);
         exit(1);
     }
+}
+
+/*
+ * Overwrites what a call has left on the stack. It is called from the function
+ * that made the call, at once, after every call that was lent a secret.
+ */
+#if defined(__GNUC__)
+__attribute__((noinline))
+#endif
+static void burn_stack(void)
+{
+    volatile uint8_t bytes[WV_MAX_STACK];
+    size_t i;
+
+    for (i = 0; i < sizeof bytes; i++)
+        bytes[i] = 0;
+}
+
+/* Is no byte of a call left in the work buffer? */
+static void must_be_clear(void)
+{
+    size_t i;
+
+    for (i = 0; i < sizeof work; i++)
+        if (work[i] != 0) {
+            printf("a call left something in the work buffer\n");
+            exit(1);
+        }
 }
 
 /* For another circuit, y or message the first of these that is met is told. */
@@ -63,15 +93,20 @@ static uint8_t *put_u16(uint8_t *place, unsigned number)
     return place + 2;
 }
 
+static uint8_t *put_u32(uint8_t *place, unsigned number)
+{
+    return put_u16(put_u16(place, number & 0xffff), number >> 16);
+}
+
 /* Slot k of the circuit; the chain goes from slot to slot. Gives its wire. */
 static unsigned put_gate(unsigned slot, unsigned kind, unsigned a, unsigned b)
 {
-    uint8_t *place = circuit + 8 + 2 * OUTPUTS + 8 * (slot - 1);
+    uint8_t *place = circuit + 16 + 4 * OUTPUTS + 16 * (slot - 1);
 
-    place = put_u16(place, kind);
-    place = put_u16(place, a);
-    place = put_u16(place, b);
-    put_u16(place, slot == GATES ? 0 : slot + 1);
+    place = put_u32(place, kind);
+    place = put_u32(place, a);
+    place = put_u32(place, b);
+    put_u32(place, slot == GATES ? 0 : slot + 1);
     return INPUTS + slot - 1;
 }
 
@@ -85,13 +120,13 @@ static void make_circuit(void)
     uint8_t *place = circuit;
     unsigned slot = 1, bit, differ, borrow, change;
 
-    place = put_u16(place, INPUTS);
-    place = put_u16(place, OUTPUTS);
-    place = put_u16(place, GATES);
-    place = put_u16(place, 1);
-    place = put_u16(place, INPUTS + GATES - 1);
+    place = put_u32(place, INPUTS);
+    place = put_u32(place, OUTPUTS);
+    place = put_u32(place, GATES);
+    place = put_u32(place, 1);
+    place = put_u32(place, INPUTS + GATES - 1);
     for (bit = 0; bit < WIDTH; bit++)
-        place = put_u16(place, WIDTH + bit);
+        place = put_u32(place, WIDTH + bit);
 
     differ = put_gate(slot++, XOR, 0, WIDTH);
     borrow = put_gate(slot++, AND, differ, WIDTH);
@@ -106,7 +141,7 @@ static void make_circuit(void)
 
 static void use_circuit(unsigned stock, unsigned order)
 {
-    uint32_t sizes[4];
+    uint32_t sizes[4], answer;
 
     make_circuit();
     must("read the circuit", wv_read(circuit, sizeof circuit, sizes),
@@ -116,13 +151,17 @@ static void use_circuit(unsigned stock, unsigned order)
            (unsigned long)sizes[2], (unsigned long)sizes[3]);
     put_u16(witness, stock);
     put_u16(witness + 2, order);
-    must("evaluate the row",
-         wv_evaluate(circuit, sizeof circuit, witness, sizeof witness,
-                     y, sizeof y), WV_ACCEPTED);
+    if (wv_work_len(sizes[0], sizes[2]) != sizeof work)
+        exit(1);
+    answer = wv_evaluate(circuit, sizeof circuit, witness, sizeof witness,
+                         y, sizeof y);
+    burn_stack();
+    must("evaluate the row", answer, WV_ACCEPTED);
     printf("  the stock covers the order: %d\n", y[0] & 1);
-    must("evaluate a row of another length",
-         wv_evaluate(circuit, sizeof circuit, witness, sizeof witness - 1,
-                     y, sizeof y), WV_REFUSED_LENGTH);
+    answer = wv_evaluate(circuit, sizeof circuit, witness, sizeof witness - 1,
+                         y, sizeof y);
+    burn_stack();
+    must("evaluate a row of another length", answer, WV_REFUSED_LENGTH);
 }
 
 /* A page without roots: all slots are on the spare chain, in order. */
@@ -154,10 +193,13 @@ static void stock_shelf(unsigned count)
         exit(1);
     }
     while (count-- > 0) {
+        uint32_t answer;
+
         if (fread(root, 1, sizeof root, source) != sizeof root)
             exit(1);
-        must("stock a root", wv_stock(page, sizeof page, root, sizeof root),
-             WV_ACCEPTED);
+        answer = wv_stock(page, sizeof page, root, sizeof root);
+        burn_stack();
+        must("stock a root", answer, WV_ACCEPTED);
         memset(root, 0, sizeof root);
     }
     fclose(source);
@@ -173,9 +215,12 @@ static uint64_t log_count;
 
 static void draw_root(void)
 {
+    uint32_t answer;
+
     memcpy(old_page, page, sizeof page);
-    must("draw a root", wv_draw(page, sizeof page, log_count, root),
-         WV_ACCEPTED);
+    answer = wv_draw(page, sizeof page, log_count, root);
+    burn_stack();
+    must("draw a root", answer, WV_ACCEPTED);
     log_count++;
     /* write the log, with a digest of the new page; wait for the disk */
     /* write the new page beside the old one, wait, rename it, wait */
@@ -194,14 +239,16 @@ static const size_t message_len = sizeof message - 1;
  * One root, one call of wv_prove: the root is dropped whatever the answer is.
  * Two proofs from one root can show the row.
  */
-static uint32_t prove(size_t proof_len, uint64_t *written)
+static uint32_t prove(size_t proof_len, size_t work_len, uint64_t *written)
 {
     uint32_t answer;
 
     draw_root();
     answer = wv_prove(circuit, sizeof circuit, witness, sizeof witness,
                       y, sizeof y, message, message_len, root, sizeof root,
-                      M, TAU, N, proof, proof_len, written);
+                      M, TAU, N, proof, proof_len, written,
+                      work, work_len);
+    burn_stack();
     memset(root, 0, sizeof root);
     return answer;
 }
@@ -214,10 +261,14 @@ static void prove_and_check(void)
 
     if (proof_len == 0 || proof_len > sizeof proof)
         exit(1);
-    must("prove with too short a buffer", prove(proof_len - 1, &written),
-         WV_REFUSED_LENGTH);
-    /* A new root is drawn for this call, also after the refused one. */
-    must("prove", prove(proof_len, &written), WV_ACCEPTED);
+    must("prove with too short a buffer",
+         prove(proof_len - 1, sizeof work, &written), WV_REFUSED_LENGTH);
+    must_be_clear();
+    must("prove with too short a work buffer",
+         prove(proof_len, sizeof work - 1, &written), WV_REFUSED_LENGTH);
+    /* A new root is drawn for this call, also after the refused ones. */
+    must("prove", prove(proof_len, sizeof work, &written), WV_ACCEPTED);
+    must_be_clear();
     printf("  %lu bytes\n", (unsigned long)written);
 
     /* The buyer's end. It knows the order, and asks for these numbers. */
@@ -228,16 +279,20 @@ static void prove_and_check(void)
         exit(1);
     must("check",
          wv_check(circuit, sizeof circuit, claimed, sizeof claimed,
-                  message, message_len, proof, (size_t)written),
+                  message, message_len, proof, (size_t)written,
+                  work, sizeof work),
          WV_ACCEPTED);
+    must_be_clear();
     /* The proof is bound to the circuit, to y and to the message. */
     claimed[0] ^= 2;
     must_not_hold("check for another order",
                   wv_check(circuit, sizeof circuit, claimed, sizeof claimed,
-                           message, message_len, proof, (size_t)written));
+                           message, message_len, proof, (size_t)written,
+                           work, sizeof work));
     must("check a proof that is cut",
          wv_check(circuit, sizeof circuit, y, sizeof y,
-                  message, message_len, proof, (size_t)written - 1),
+                  message, message_len, proof, (size_t)written - 1,
+                  work, sizeof work),
          WV_REFUSED_PROOF_LENGTH);
 }
 
@@ -245,11 +300,12 @@ static void prove_and_check(void)
 static void incident(void)
 {
     static const uint8_t untouched[WV_ROOT_LEN];
+    uint32_t answer;
 
     memcpy(page, old_page, sizeof page);
-    must("draw from the old page",
-         wv_draw(page, sizeof page, log_count, root),
-         WV_REFUSED_ANOTHER_COUNT);
+    answer = wv_draw(page, sizeof page, log_count, root);
+    burn_stack();
+    must("draw from the old page", answer, WV_REFUSED_ANOTHER_COUNT);
     if (memcmp(page, old_page, sizeof page) != 0
         || memcmp(root, untouched, sizeof root) != 0) {
         printf("a refused call changed a lent byte\n");
@@ -261,7 +317,7 @@ int main(void)
 {
     use_circuit(1000, 250);
     new_page(0);
-    stock_shelf(3);
+    stock_shelf(4);
     prove_and_check();
     incident();
     return 0;

@@ -5,8 +5,8 @@ from pathlib import Path
 XOR, AND, INV = 1, 2, 3
 
 
-def u16(*numbers):
-    return b"".join(n.to_bytes(2, "little") for n in numbers)
+def u32(*numbers):
+    return b"".join(n.to_bytes(4, "little") for n in numbers)
 
 
 def circuit(inputs, outputs, gates, slot_of):
@@ -18,30 +18,30 @@ def circuit(inputs, outputs, gates, slot_of):
     records = [b""] * count
     for i, (kind, a, b) in enumerate(gates):
         following = slot_of(i + 1) if i + 1 < count else 0
-        records[slot_of(i) - 1] = bytes([kind, 0]) + u16(number(a), number(b), following)
+        records[slot_of(i) - 1] = u32(kind, number(a), number(b), following)
     head = slot_of(0) if gates else 0
-    return u16(inputs, len(outputs), count, head, *map(number, outputs)) + b"".join(records)
+    return u32(inputs, len(outputs), count, head, *map(number, outputs)) + b"".join(records)
 
 
 def evaluate(file, row):
     """The output bits, with the rules of reading asserted on the way."""
-    get = lambda at: int.from_bytes(file[at : at + 2], "little")
-    inputs, outs, count, slot = get(0), get(2), get(4), get(6)
-    assert 1 <= inputs <= 512 and 1 <= outs <= 256 and count <= 4096
-    assert len(file) == 8 + 2 * outs + 8 * count and len(row) == (inputs + 7) // 8
+    get = lambda at: int.from_bytes(file[at : at + 4], "little")
+    inputs, outs, count, slot = get(0), get(4), get(8), get(12)
+    assert 1 <= inputs <= 512 and 1 <= outs <= 256 and count <= 100_000
+    assert len(file) == 16 + 4 * outs + 16 * count and len(row) == (inputs + 7) // 8
     value = {j: row[j // 8] >> j % 8 & 1 for j in range(inputs)}
     for _ in range(count):
         assert 1 <= slot <= count
-        at = 8 + 2 * outs + 8 * (slot - 1)
-        kind, zero, a, b = file[at], file[at + 1], get(at + 2), get(at + 4)
-        assert kind in (XOR, AND, INV) and zero == 0 and (kind != INV or b == 0)
+        at = 16 + 4 * outs + 16 * (slot - 1)
+        kind, a, b = get(at), get(at + 4), get(at + 8)
+        assert kind in (XOR, AND, INV) and (kind != INV or b == 0)
         x = value[a]
         result = {XOR: lambda: x ^ value[b], AND: lambda: x & value[b], INV: lambda: 1 - x}[kind]()
         assert inputs + slot - 1 not in value
         value[inputs + slot - 1] = result
-        slot = get(at + 6)
+        slot = get(at + 12)
     assert slot == 0
-    return [value[get(8 + 2 * j)] for j in range(outs)]
+    return [value[get(16 + 4 * j)] for j in range(outs)]
 
 
 def at_least(width, a, b):
@@ -69,7 +69,7 @@ def at_least(width, a, b):
 
 
 def worst():
-    """All limits at once: 512 inputs, one AND after the other through 4,096 slots in a mixed order."""
+    """512 inputs, one AND after the other through 4,096 slots in a mixed order."""
     gates = [(AND, ("in", 0), ("in", 1))]
     gates += [(AND, ("gate", i - 1), ("in", (i + 1) % 512)) for i in range(1, 4096)]
     return circuit(512, [("gate", 4095)], gates, lambda i: 2731 * i % 4096 + 1)

@@ -2,16 +2,47 @@
  * wivulameno: functions over lent buffers, in the static library
  * libwivulameno.a, for x86-64 Linux.
  *
- * Every function of the library but wv_fault_slot, which tells a slot, returns 0
- * (WV_ACCEPTED) for success, or the number of a refusal. A refused call leaves
- * every lent byte as it was.
+ * Every function of the library returns 0 (WV_ACCEPTED) for success, or the
+ * number of a refusal; only wv_fault_slot and wv_upgrade_slot tell a slot
+ * instead. A refused call leaves every lent byte as it was, but for a work
+ * buffer (below), which it may leave all zero.
  *
  * A lent buffer is a pointer and its length in bytes. The pointer is valid for
  * that length and is never NULL, not even for length 0. An output without a
  * length (sizes, written, digest, root) is a buffer of its type's size. A const
- * buffer is only read; of another buffer, no byte outside of its length is read or written.
- * In one call, a buffer that is written overlaps nothing else that is lent.
- * Buffers that are only read may be the same or overlap.
+ * buffer is only read; of another buffer, no byte outside of its length is read
+ * or written. In one call, a buffer that is written overlaps nothing else that
+ * is lent. Buffers that are only read may be the same or overlap.
+ *
+ * The library has no heap and no memory of its own. wv_prepare, wv_run, wv_show,
+ * wv_replay, wv_prove and wv_check are lent a work buffer as their last one, of
+ * 64 (I + G) + 4096 bytes or more for a circuit of I inputs and G gates:
+ * wv_work_len gives that, and WV_MAX_WORK is enough for every circuit. A shorter
+ * one is refused with 6 directly after the circuit is read, before everything
+ * else. A call that is refused for its circuit or by this test leaves the work
+ * buffer as it was. Every other call, refused or not, leaves all of it zero,
+ * however long it is. What it holds before does not matter, so one buffer can be
+ * used for one call after the other. It may be static or allocated and needs no
+ * alignment. All of it is cleared at every such call: for a small circuit lend
+ * wv_work_len bytes rather than WV_MAX_WORK. During a call it holds secrets.
+ *
+ * Secrets. The work buffer holds tapes, masks and shares only during a call. What
+ * a call leaves below the caller's frame on the stack (seeds of hidden parties,
+ * say) the library cannot take away. A host whose stack may be read by others
+ * later burns it after each call that is lent a secret: a witness, tapes (but those
+ * of wv_replay, which were shown), a root, a master, a page. It calls, from the same function and at once, one that is not
+ * inlined and overwrites WV_MAX_STACK bytes of the stack; no call takes more.
+ * The thread needs room for that and for its own frames.
+ * libgcrypt does the same. With gcc or clang:
+ *
+ *   __attribute__((noinline)) static void burn_stack(void)
+ *   {
+ *       volatile uint8_t bytes[WV_MAX_STACK];
+ *       size_t i;
+ *
+ *       for (i = 0; i < sizeof bytes; i++)
+ *           bytes[i] = 0;
+ *   }
  */
 #ifndef WIVULAMENO_H
 #define WIVULAMENO_H
@@ -82,17 +113,22 @@ enum wv_answer {
     WV_REFUSED_TEXT_LIMITS = 24
 };
 
-/* The limits. Those of circuit, message and proof, and each _LEN, are bytes. */
+/*
+ * The limits. Those of circuit, work buffer, stack, message and proof, and each
+ * _LEN, are bytes.
+ */
 #define WV_MAX_INPUTS 512        /* a circuit has 1 to 512 inputs, */
 #define WV_MAX_OUTPUTS 256       /* 1 to 256 outputs */
-#define WV_MAX_GATES 4096        /* and 0 to 4096 gates */
-#define WV_MAX_CIRCUIT 33288     /* the longest circuit */
+#define WV_MAX_GATES 100000      /* and 0 to 100000 gates */
+#define WV_MAX_CIRCUIT 1601040   /* the longest circuit */
+#define WV_MAX_WORK 6436864      /* a work buffer for every circuit */
+#define WV_MAX_STACK 98304       /* no call takes more of the stack */
 #define WV_MAX_PARTIES 16        /* there are 2, 4, 8 or 16 parties */
 #define WV_MAX_INSTANCES 512     /* a proof has 2 to 512 instances */
 #define WV_MAX_INSTANCE_NUMBER 65535
 #define WV_MAX_MESSAGE 4096      /* the longest message */
 #define WV_PROOF_HEADER_LEN 38
-#define WV_MAX_PROOF 621462      /* room for every proof; see wv_proof_len */
+#define WV_MAX_PROOF 12873198    /* room for every proof; see wv_proof_len */
 #define WV_ROOT_LEN 16           /* also of a master and of a leaf */
 #define WV_DIGEST_LEN 32
 #define WV_MAX_SLOTS 255         /* a shelf page has 1 to 255 slots */
@@ -120,20 +156,19 @@ uint32_t wv_shake256(const uint8_t *data, size_t len,
                      uint8_t *out, size_t out_len);
 
 /*
- * A circuit file, all numbers little-endian. The head is four numbers of 16
- * bits: I (inputs, 1 to 512), O (outputs, 1 to 256), G (gates, 0 to 4096) and
- * the slot of the first gate. Then O wire numbers of 16 bits, one for each
- * output. Then G records of 8 bytes, in slots 1 to G: a kind byte (1 XOR,
- * 2 AND, 3 INV), a zero byte, wires a and b, and the slot of the next gate (0
- * after the last), 16 bits each. INV reads a, and its b is 0. Wires 0 to I - 1
+ * A circuit file is numbers of 32 bits, little-endian. First I (inputs, 1 to
+ * 512), O (outputs, 1 to 256), G (gates, 0 to 100000) and the slot of the first
+ * gate. Then O wire numbers, one for each output. Then G records of four numbers,
+ * in slots 1 to G: the kind (1 XOR, 2 AND, 3 INV), wires a and b, and the slot of
+ * the next gate (0 after the last). INV reads a, and its b is 0. Wires 0 to I - 1
  * are the inputs; slot k writes wire I + k - 1.
  *
  * Every function that is lent a circuit, but wv_fault_slot, refuses it in this
  * order:
- *    1  it is shorter than 8 bytes
+ *    1  it is shorter than 16 bytes
  *    2  I, O or G is out of its limits
- *    1  its length is not 8 + 2 O + 8 G
- *    3  a record with another kind, a nonzero second byte, or INV with b not 0
+ *    1  its length is not 16 + 4 O + 16 G
+ *    3  a record with another kind, or INV with b not 0
  *   19  a link leads beyond slot G
  *   20  a link is 0 before G slots are visited
  *   21  a link is not 0 after G slots
@@ -199,13 +234,40 @@ uint32_t wv_evaluate(const uint8_t *circuit, size_t circuit_len,
  *   22  a line is not as above, or is one too many, or one is missing
  *   23  a gate line has another kind, which is what follows its last space, or
  *       the whole line if it has none; tested before 22 on a gate line
- *   24  G is above 4096, I is not 1 to 512 or O is not 1 to 256; tested after 22
+ *   24  G is above 100000, I is not 1 to 512 or O is not 1 to 256; tested after 22
  *       on its line
  * Then:
  *    6  out is shorter than the circuit file
  */
 uint32_t wv_bristol(const uint8_t *text, size_t text_len,
                     uint8_t *out, size_t out_len, uint64_t *written);
+
+/*
+ * Converts a circuit file of the old form, which earlier versions read. Writes
+ * the same circuit, with the same slots, chain and meaning, as a file of the form
+ * above to the start of out, and its length to written; the bytes of out beyond
+ * that length stay as they were. The file is twice as long as the old one.
+ *
+ * The old form had numbers of 16 bits, little-endian: I, O, G (0 to 4096) and the
+ * slot of the first gate; O wire numbers; then records of 8 bytes: a kind byte, a
+ * zero byte, a, b and the next slot. It is refused as it was by its own reading:
+ *    1  it is shorter than 8 bytes
+ *    2  I, O or G is out of its limits
+ *    1  its length is not 8 + 2 O + 8 G
+ *    3  a record with another kind, a nonzero second byte, or INV with b not 0
+ *   19, 20, 21 and 5 as above
+ * Then:
+ *    6  out is shorter than the circuit file
+ */
+uint32_t wv_upgrade(const uint8_t *old, size_t old_len,
+                    uint8_t *out, size_t out_len, uint64_t *written);
+
+/*
+ * As wv_fault_slot, for a file of the old form: where wv_upgrade refuses it with
+ * 19, 20 or 21, returns the slot that holds the offending link, 0 for the head.
+ * For every other file it returns 0.
+ */
+uint32_t wv_upgrade_slot(const uint8_t *old, size_t old_len);
 
 /*
  * A run of a circuit by n parties; n is 2, 4, 8 or 16, and A is the number of
@@ -227,23 +289,39 @@ uint32_t wv_bristol(const uint8_t *text, size_t text_len,
  * A showing hides one party p and has four parts: the tapes with row p all
  * zero, the corrections (all zero if p is the last party), the masked inputs,
  * and the broadcast row of p.
+ *
+ * Each of these functions is lent a work buffer, as the top of this file says.
  */
+
+/*
+ * The least length of the work buffer for a circuit of I inputs and G gates:
+ * 64 (I + G) + 4096. 0 if a number is out of its limits.
+ */
+static inline size_t wv_work_len(uint32_t inputs, uint32_t gates)
+{
+    if (inputs < 1 || inputs > WV_MAX_INPUTS || gates > WV_MAX_GATES)
+        return 0;
+    return 64 * ((size_t)inputs + gates) + 4096;
+}
 
 /*
  * Writes the corrections of the tapes of n parties to corrections. Refuses a
  * circuit as above, then:
+ *   6  the work buffer is shorter than wv_work_len says
  *   8  n is not 2, 4, 8 or 16
  *   6  the length of the tapes or of corrections is not as above
  *   7  an unused bit of the tapes is not zero
  */
 uint32_t wv_prepare(const uint8_t *circuit, size_t circuit_len, uint32_t n,
                     const uint8_t *tapes, size_t tapes_len,
-                    uint8_t *corrections, size_t corrections_len);
+                    uint8_t *corrections, size_t corrections_len,
+                    uint8_t *work, size_t work_len);
 
 /*
  * Runs the circuit for the witness, with the corrections as lent, right or
  * wrong. Writes the masked inputs, the n broadcast rows, and the outputs of the
  * run to y. Refuses a circuit as above, then:
+ *   6  the work buffer is shorter than wv_work_len says
  *   8  n is not 2, 4, 8 or 16
  *   6  the length of the witness, the tapes, the corrections, masked_inputs,
  *      rows or y is not as above
@@ -255,7 +333,8 @@ uint32_t wv_run(const uint8_t *circuit, size_t circuit_len, uint32_t n,
                 const uint8_t *corrections, size_t corrections_len,
                 uint8_t *masked_inputs, size_t masked_inputs_len,
                 uint8_t *rows, size_t rows_len,
-                uint8_t *y, size_t y_len);
+                uint8_t *y, size_t y_len,
+                uint8_t *work, size_t work_len);
 
 /*
  * Writes the showing of a run that hides party p, cut after the first gates of
@@ -263,6 +342,7 @@ uint32_t wv_run(const uint8_t *circuit, size_t circuit_len, uint32_t n,
  * cut G shows the whole row of p; a lower one shows the bits of the AND gates
  * that were passed, and the rest of the row is zero. Refuses a circuit as
  * above, then:
+ *   6  the work buffer is shorter than wv_work_len says
  *   8  n is not 2, 4, 8 or 16
  *   9  p is not below n, or cut is above G
  *   6  the length of the witness, the tapes, shown_tapes (as tapes),
@@ -276,12 +356,14 @@ uint32_t wv_show(const uint8_t *circuit, size_t circuit_len,
                  uint8_t *shown_tapes, size_t shown_tapes_len,
                  uint8_t *corrections, size_t corrections_len,
                  uint8_t *masked_inputs, size_t masked_inputs_len,
-                 uint8_t *row, size_t row_len);
+                 uint8_t *row, size_t row_len,
+                 uint8_t *work, size_t work_len);
 
 /*
  * Replays a run from the four parts of its showing that hides party p, and
  * writes the n broadcast rows to rows; row p is as lent. Refuses a circuit as
  * above, then:
+ *    6  the work buffer is shorter than wv_work_len says
  *    8  n is not 2, 4, 8 or 16
  *    9  p is not below n
  *    6  the length of the tapes, the corrections, the masked inputs, the row
@@ -298,7 +380,8 @@ uint32_t wv_replay(const uint8_t *circuit, size_t circuit_len,
                    const uint8_t *masked_inputs, size_t masked_inputs_len,
                    const uint8_t *row, size_t row_len,
                    const uint8_t *y, size_t y_len,
-                   uint8_t *rows, size_t rows_len);
+                   uint8_t *rows, size_t rows_len,
+                   uint8_t *work, size_t work_len);
 
 /*
  * A shelf is a page of S slots (1 to 255) that hold roots of 16 bytes, each to
@@ -546,7 +629,9 @@ static inline size_t wv_proof_len(uint32_t inputs, uint32_t outputs,
  * drawn from a shelf: a new root for each call, also after a refused one. Two
  * proofs from one root can show the witness. Writes the proof to the start of
  * proof, and its length to written; the bytes of proof beyond that length stay
- * as they were. Refuses a circuit as above, then:
+ * as they were. The work buffer is as the top of this file says. Refuses a
+ * circuit as above, then:
+ *    6  the work buffer is shorter than wv_work_len says
  *    8  m is not 2 to 512, tau is not 1 to m - 1, or n is not 2, 4, 8 or 16
  *    6  the witness is not of I bits or y not of O bits, the message is longer
  *       than 4096 bytes, the root is not of 16 bytes, or proof has fewer bytes
@@ -560,7 +645,8 @@ uint32_t wv_prove(const uint8_t *circuit, size_t circuit_len,
                   const uint8_t *message, size_t message_len,
                   const uint8_t *root, size_t root_len,
                   uint32_t m, uint32_t tau, uint32_t n,
-                  uint8_t *proof, size_t proof_len, uint64_t *written);
+                  uint8_t *proof, size_t proof_len, uint64_t *written,
+                  uint8_t *work, size_t work_len);
 
 /*
  * Checks a proof for the circuit, y and the message; 0 is accepted. The numbers
@@ -569,8 +655,9 @@ uint32_t wv_prove(const uint8_t *circuit, size_t circuit_len,
  * With m 2 and tau 1, every second guess passes. The challenge is that of the
  * proof's first bytes, the circuit file, y and the message: with another one of
  * these than the prover's it is drawn anew, and a proof that does not answer it
- * is refused with 12, 7, 10 or 13, whichever comes first. Refuses a circuit as
- * above, then:
+ * is refused with 12, 7, 10 or 13, whichever comes first. The work buffer is as
+ * the top of this file says. Refuses a circuit as above, then:
+ *    6  the work buffer is shorter than wv_work_len says
  *    6  y is not of O bits, or the message is longer than 4096 bytes
  *    7  an unused bit of y is not zero
  *   11  the proof is shorter than 38 bytes, its m, tau or n is out of the
@@ -584,7 +671,8 @@ uint32_t wv_prove(const uint8_t *circuit, size_t circuit_len,
 uint32_t wv_check(const uint8_t *circuit, size_t circuit_len,
                   const uint8_t *y, size_t y_len,
                   const uint8_t *message, size_t message_len,
-                  const uint8_t *proof, size_t proof_len);
+                  const uint8_t *proof, size_t proof_len,
+                  uint8_t *work, size_t work_len);
 
 #ifdef __cplusplus
 }

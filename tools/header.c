@@ -64,9 +64,31 @@ static void page_lengths(void)
 }
 
 /* Circuit K of document 01: its one output is the AND of its two inputs. */
-static const uint8_t k[18] = {
+static const uint8_t k[36] = {
+    2, 0, 0, 0, 1, 0, 0, 0, 1, 0, 0, 0, 1, 0, 0, 0,
+    2, 0, 0, 0,
+    2, 0, 0, 0, 0, 0, 0, 0, 1, 0, 0, 0, 0, 0, 0, 0
+};
+
+/* It in the old form. */
+static const uint8_t old_k[18] = {
     2, 0, 1, 0, 1, 0, 1, 0, 2, 0, 2, 0, 0, 0, 1, 0, 0, 0
 };
+
+/* The least work buffer for it: 64 times 3 and 4096 bytes; and a longer one. */
+#define K_WORK 4288
+static uint8_t work[K_WORK + 100];
+
+/* Is every byte of the work buffer the one given? */
+static size_t work_is(uint8_t byte)
+{
+    size_t i;
+
+    for (i = 0; i < sizeof work; i++)
+        if (work[i] != byte)
+            return 0;
+    return 1;
+}
 
 /*
  * The room that wv_prove asks for is what wv_proof_len says, and no less. The
@@ -78,16 +100,50 @@ static void prove_in(size_t proof_len, uint32_t expected)
     static const uint8_t root[WV_ROOT_LEN] = {1};
     const uint8_t witness = 3, y = 1, message = 'a';
     uint64_t written = 0;
-    uint32_t answer = wv_prove(k, sizeof k, &witness, 1, &y, 1, &message, 1,
-                               root, sizeof root, 4, 1, 2,
-                               proof, proof_len, &written);
+    uint32_t answer;
 
+    memset(work, 0xee, sizeof work);
+    answer = wv_prove(k, sizeof k, &witness, 1, &y, 1, &message, 1,
+                      root, sizeof root, 4, 1, 2,
+                      proof, proof_len, &written, work, sizeof work);
     equal("prove", answer, expected);
+    equal("its work buffer", work_is(0), 1);
     if (answer == WV_ACCEPTED) {
         equal("its length", written == 216 || written == 217, 1);
+        memset(work, 0xee, sizeof work);
         equal("check", wv_check(k, sizeof k, &y, 1, &message, 1,
-                                proof, (size_t)written), WV_ACCEPTED);
+                                proof, (size_t)written, work, sizeof work),
+              WV_ACCEPTED);
+        equal("its work buffer", work_is(0), 1);
     }
+}
+
+/* What becomes of a work buffer of this length in a check of no proof. */
+static void check_in(size_t circuit_len, size_t work_len, uint32_t answer,
+                     uint8_t left)
+{
+    const uint8_t y = 1;
+
+    memset(work, 0xee, sizeof work);
+    equal("check nothing", wv_check(k, circuit_len, &y, 1, &y, 1, &y, 1,
+                                    work, work_len), answer);
+    memset(work + work_len, left, sizeof work - work_len);
+    equal("the work buffer after it", work_is(left), 1);
+}
+
+static void work_buffers(void)
+{
+    equal("no input", wv_work_len(0, 1), 0);
+    equal("inputs", wv_work_len(WV_MAX_INPUTS + 1, 1), 0);
+    equal("gates", wv_work_len(1, WV_MAX_GATES + 1), 0);
+    equal("no gates", wv_work_len(1, 0), 4160);
+    equal("K", wv_work_len(2, 1), K_WORK);
+    equal("90000 gates", wv_work_len(96, 90000), 5770240);
+    equal("the longest", wv_work_len(WV_MAX_INPUTS, WV_MAX_GATES), WV_MAX_WORK);
+    check_in(sizeof k, K_WORK, WV_REFUSED_PROOF_HEADER, 0);
+    check_in(sizeof k, K_WORK + 100, WV_REFUSED_PROOF_HEADER, 0);
+    check_in(sizeof k, K_WORK - 1, WV_REFUSED_LENGTH, 0xee);
+    check_in(sizeof k - 1, K_WORK, WV_REFUSED_CIRCUIT_LENGTH, 0xee);
 }
 
 /*
@@ -131,7 +187,7 @@ static void masters_and_cover(void)
           WV_REFUSED_LENGTH);
 }
 
-/* Buffers that are only read may overlap: k[2] is 1, which is y here. */
+/* Buffers that are only read may overlap: k[4] is 1, which is y here. */
 static void read_buffers_overlap(void)
 {
     static uint8_t proof[233];
@@ -140,11 +196,13 @@ static void read_buffers_overlap(void)
     uint64_t written = 0;
 
     equal("prove from one buffer",
-          wv_prove(k, sizeof k, &witness, 1, k + 2, 1, k, sizeof k,
-                   root, sizeof root, 4, 1, 2, proof, sizeof proof, &written),
+          wv_prove(k, sizeof k, &witness, 1, k + 4, 1, k, sizeof k,
+                   root, sizeof root, 4, 1, 2, proof, sizeof proof, &written,
+                   work, sizeof work),
           WV_ACCEPTED);
     equal("check from one buffer",
-          wv_check(k, sizeof k, k + 2, 1, k, sizeof k, proof, (size_t)written),
+          wv_check(k, sizeof k, k + 4, 1, k, sizeof k, proof, (size_t)written,
+                   work, sizeof work),
           WV_ACCEPTED);
 }
 
@@ -180,6 +238,34 @@ static void challenge_input(void)
           WV_REFUSED_LENGTH);
 }
 
+/* A file in the old form in a buffer of len bytes: nothing, if it is refused. */
+static uint32_t upgrade(const uint8_t *old, size_t len)
+{
+    uint8_t out[40];
+    uint64_t written = 77;
+    uint32_t answer;
+    size_t place, expected_len;
+
+    memset(out, 0xee, sizeof out);
+    answer = wv_upgrade(old, sizeof old_k, out, len, &written);
+    expected_len = answer == WV_ACCEPTED ? sizeof k : 0;
+    equal("its length", (size_t)written,
+          answer == WV_ACCEPTED ? sizeof k : 77);
+    equal("its circuit", (size_t)memcmp(out, k, expected_len), 0);
+    for (place = expected_len; place < sizeof out; place++)
+        equal("behind its circuit", out[place], 0xee);
+    return answer;
+}
+
+static void old_files(void)
+{
+    equal("upgrade K", upgrade(old_k, 40), WV_ACCEPTED);
+    equal("in just enough", upgrade(old_k, 36), WV_ACCEPTED);
+    equal("in too little", upgrade(old_k, 35), WV_REFUSED_LENGTH);
+    equal("a new file", upgrade(k, 40), WV_REFUSED_CIRCUIT_SIZES);
+    equal("the slot of a good one", wv_upgrade_slot(old_k, sizeof old_k), 0);
+}
+
 /* K with another head and another link, and where its chain goes wrong. */
 static void chain(uint8_t head, uint8_t link, uint32_t answer, uint32_t slot)
 {
@@ -187,10 +273,15 @@ static void chain(uint8_t head, uint8_t link, uint32_t answer, uint32_t slot)
     uint32_t sizes[4];
 
     memcpy(changed, k, sizeof k);
-    changed[6] = head;
-    changed[16] = link;
+    changed[12] = head;
+    changed[32] = link;
     equal("read a chain", wv_read(changed, sizeof k, sizes), answer);
     equal("its slot", wv_fault_slot(changed, sizeof k), slot);
+    memcpy(changed, old_k, sizeof old_k);
+    changed[6] = head;
+    changed[16] = link;
+    equal("upgrade a chain", upgrade(changed, sizeof k), answer);
+    equal("its slot", wv_upgrade_slot(changed, sizeof old_k), slot);
 }
 
 static void chains(void)
@@ -208,7 +299,7 @@ static void chains(void)
  */
 static void bristol_in(const char *text, size_t len, uint32_t answer)
 {
-    uint8_t out[20];
+    uint8_t out[40];
     uint64_t written = 77;
     size_t expected_len = answer == WV_ACCEPTED ? sizeof k : 0;
     size_t place;
@@ -228,13 +319,14 @@ static void texts(void)
 {
     const char *text = "1 3\n2 1 1\n1 1\n\n2 1 0 1 2 AND\n";
 
-    bristol_in(text, 20, WV_ACCEPTED);
-    bristol_in(text, 18, WV_ACCEPTED);
-    bristol_in(text, 17, WV_REFUSED_LENGTH);
-    bristol_in("", 20, WV_REFUSED_TEXT);
-    bristol_in("1 3\n2 1 1\n1 1\n2 1 0 1 2 AND", 20, WV_REFUSED_TEXT);
-    bristol_in("1 3\n2 1 1\n1 1\n2 1 0 1 2 OR\n", 20, WV_REFUSED_GATE_KIND);
-    bristol_in("1 1\n0\n", 20, WV_REFUSED_TEXT_LIMITS);
+    bristol_in(text, 40, WV_ACCEPTED);
+    bristol_in(text, 36, WV_ACCEPTED);
+    bristol_in(text, 35, WV_REFUSED_LENGTH);
+    bristol_in("", 40, WV_REFUSED_TEXT);
+    bristol_in("1 3\n2 1 1\n1 1\n2 1 0 1 2 AND", 40, WV_REFUSED_TEXT);
+    bristol_in("1 3\n2 1 1\n1 1\n2 1 0 1 2 OR\n", 40, WV_REFUSED_GATE_KIND);
+    bristol_in("100001 3\n", 40, WV_REFUSED_TEXT_LIMITS);
+    bristol_in("100000 3\n", 40, WV_REFUSED_TEXT);
 }
 
 int main(void)
@@ -249,11 +341,15 @@ int main(void)
     numbers_out_of_limits();
     page_lengths();
     equal("the longest circuit",
-          8 + 2 * WV_MAX_OUTPUTS + 8 * WV_MAX_GATES, WV_MAX_CIRCUIT);
+          16 + 4 * WV_MAX_OUTPUTS + 16 * WV_MAX_GATES, WV_MAX_CIRCUIT);
     equal("read", wv_read(k, sizeof k, sizes), WV_ACCEPTED);
-    equal("read a part", wv_read(k, 7, sizes), WV_REFUSED_CIRCUIT_LENGTH);
+    equal("read a part", wv_read(k, 15, sizes), WV_REFUSED_CIRCUIT_LENGTH);
+    equal("read the old form", wv_read(old_k, sizeof old_k, sizes),
+          WV_REFUSED_CIRCUIT_SIZES);
     prove_in(wv_proof_len(2, 1, 1, 4, 1, 2), WV_ACCEPTED);
     prove_in(wv_proof_len(2, 1, 1, 4, 1, 2) - 1, WV_REFUSED_LENGTH);
+    work_buffers();
+    old_files();
     read_buffers_overlap();
     masters_and_cover();
     challenge_input();

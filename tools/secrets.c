@@ -30,11 +30,13 @@ static uint8_t witness[64];
 static uint8_t y[32];
 static uint8_t tapes[PARTIES_MOST * TAPE_ROW_MOST];
 static uint8_t shown_tapes[PARTIES_MOST * TAPE_ROW_MOST];
-static uint8_t corrections[512];
-static uint8_t shown_corrections[512];
+static uint8_t corrections[OCT(WV_MAX_GATES)];
+static uint8_t shown_corrections[OCT(WV_MAX_GATES)];
 static uint8_t masked_inputs[64];
 static uint8_t rows[PARTIES_MOST * ROW_MOST];
 static uint8_t row[ROW_MOST];
+static uint8_t work[WV_MAX_WORK];
+static uint8_t marks[WV_MAX_WORK];
 
 static size_t circuit_len;
 static uint32_t sizes[4];
@@ -44,7 +46,6 @@ static unsigned told;
 /* Marks the first bits as undefined; those behind them stay defined. */
 static void hide_bits(uint8_t *bytes, size_t bits)
 {
-    uint8_t marks[TAPE_ROW_MOST];
     size_t len = OCT(bits);
 
     memset(marks, 0xff, len);
@@ -57,7 +58,6 @@ static void hide_bits(uint8_t *bytes, size_t bits)
 /* Is a bit of these bytes undefined? */
 static int is_hidden(const uint8_t *bytes, size_t len)
 {
-    uint8_t marks[PARTIES_MOST * TAPE_ROW_MOST];
     size_t i;
 
     if (VALGRIND_GET_VBITS(bytes, marks, len) != 1)
@@ -91,6 +91,27 @@ static void follows(const char *what, const uint8_t *bytes, size_t len)
     if (is_hidden(bytes, len))
         return;
     printf("FAIL %s does not depend on what is hidden\n", what);
+    failures++;
+}
+
+/* The work buffer of a circuit; what it holds before a call does not matter. */
+static size_t work_len(void)
+{
+    return wv_work_len(sizes[0], sizes[2]);
+}
+
+/* After a call nothing of a secret is left in it. */
+static void is_clear(const char *what)
+{
+    size_t i, len = work_len();
+    int hidden = is_hidden(work, len);
+
+    VALGRIND_MAKE_MEM_DEFINED(work, len);
+    for (i = 0; i < len && work[i] == 0; i++)
+        ;
+    if (i == len && !hidden)
+        return;
+    printf("FAIL %s leaves something in the work buffer\n", what);
     failures++;
 }
 
@@ -133,14 +154,17 @@ static void test_run(uint32_t n)
 
     hide_tapes(n);
     accepted("prepare", wv_prepare(circuit, circuit_len, n, tapes, tapes_len,
-                                   corrections, OCT(sizes[3])));
+                                   corrections, OCT(sizes[3]),
+                                   work, work_len()));
+    is_clear("prepare");
     follows("corrections", corrections, OCT(sizes[3]));
     hide_bits(corrections, sizes[3]);
     hide_bits(witness, sizes[0]);
     accepted("run", wv_run(circuit, circuit_len, n, witness, OCT(sizes[0]),
                            tapes, tapes_len, corrections, OCT(sizes[3]),
                            masked_inputs, OCT(sizes[0]), rows, n * row_len,
-                           y, OCT(sizes[1])));
+                           y, OCT(sizes[1]), work, work_len()));
+    is_clear("run");
     follows("rows", rows, n * row_len);
     follows("masked inputs", masked_inputs, OCT(sizes[0]));
 }
@@ -157,7 +181,9 @@ static void test_show(uint32_t n, uint32_t p, uint32_t cut)
                              witness, OCT(sizes[0]), tapes, tapes_len,
                              shown_tapes, tapes_len,
                              shown_corrections, OCT(sizes[3]),
-                             masked_inputs, OCT(sizes[0]), row, row_len));
+                             masked_inputs, OCT(sizes[0]), row, row_len,
+                             work, work_len()));
+    is_clear("show");
     follows("shown tapes", shown_tapes, tapes_len);
 }
 
@@ -287,7 +313,8 @@ static uint32_t challenge(unsigned declared)
 
 #define M 10
 #define TAU 4
-#define PROOF_MOST (38 + 48 * M + TAU * (64 + 512 + 32 + 64 + ROW_MOST))
+#define PROOF_MOST \
+    (38 + 48 * M + TAU * (64 + OCT(WV_MAX_GATES) + 32 + 64 + ROW_MOST))
 
 static uint8_t proof[PROOF_MOST];
 
@@ -298,7 +325,8 @@ static uint32_t prove(uint32_t n, const uint8_t *root)
     permutations = 0;
     return wv_prove(circuit, circuit_len, witness, OCT(sizes[0]),
                     y, OCT(sizes[1]), message, sizeof message, root, 16,
-                    M, TAU, n, proof, sizeof proof, &written);
+                    M, TAU, n, proof, sizeof proof, &written,
+                    work, work_len());
 }
 
 /*
@@ -332,6 +360,7 @@ static void test_prove(uint32_t n)
     hide_bits(root, 128);
     answer = prove(n, root);
     VALGRIND_MAKE_MEM_DEFINED(&answer, sizeof answer);
+    is_clear("prove");
     jumps = VALGRIND_COUNT_ERRORS - told;
     told += jumps;
     declared_at = 0;

@@ -22,10 +22,10 @@ Fits I G above (g ∷ gs) = (fitsBelow I G above g ≡ true) × Fits I G (above 
 -- an accepted text
 pub record Accepted (t : Text) : Type 0 where
   pub some-inputs : 1 ≤ t .inputs
-  pub few-inputs : t .inputs ≤ 512
+  pub few-inputs : t .inputs ≤ maxInputs
   pub some-outputs : 1 ≤ t .outputs
-  pub few-outputs : t .outputs ≤ 256
-  pub few-gates : length (t .gates) ≤ 4096
+  pub few-outputs : t .outputs ≤ maxOutputs
+  pub few-gates : length (t .gates) ≤ maxGates
   pub enough : t .outputs ≤ t .inputs + length (t .gates)
   pub fits : Fits (t .inputs) (length (t .gates)) [] (t .gates)
 
@@ -88,12 +88,12 @@ pub record Below (I G : ℕ) (t : Text) : Type 0 where
   pub inputs : t .inputs ≡ I
   pub gates : length (t .gates) ≡ G
   pub some-outputs : 1 ≤ t .outputs
-  pub few-outputs : t .outputs ≤ 256
+  pub few-outputs : t .outputs ≤ maxOutputs
   pub enough : t .outputs ≤ I + G
   pub fits : Fits I G [] (t .gates)
 
 module _ (t : Text) where
-  pub below : (I O G : ℕ) → 1 ≤ O → O ≤ 256 → O ≤ I + G → More I O G G [] t → Below I G t
+  pub below : (I O G : ℕ) → 1 ≤ O → O ≤ maxOutputs → O ≤ I + G → More I O G G [] t → Below I G t
   below I O G a b c m =
       let o : t .outputs ≡ O = ap (λ (x : Text). x .outputs) (m .text) in
       let g : t .gates ≡ m .new = ap (λ (x : Text). x .gates) (m .text) in
@@ -118,11 +118,11 @@ module _ (t : Text) where
       let e₂ = after formed 22 (cond (not limited) (refused 24) (gateLines I O G G [] ls)) e in
       let p = passed formed 22 (cond (not limited) (refused 24) (gateLines I O G G [] ls)) e in
       let q = passed limited 24 (gateLines I O G G [] ls) e₂ in
-      below I O G (leb-true 1 O (and-true-left (leb 1 O) (leb O maxOutputs) q)) (leb-true O 256 (and-true-right (leb 1 O) (leb O maxOutputs) q))
+      below I O G (leb-true 1 O (and-true-left (leb 1 O) (leb O maxOutputs) q)) (leb-true O maxOutputs (and-true-right (leb 1 O) (leb O maxOutputs) q))
       (leb-true O (I + G) (and-true-right (isGroups l) (leb O (I + G)) p))
       (gates-accepted I O G t G [] ls (after limited 24 (gateLines I O G G [] ls) e₂))
 
-  pub accepted : (I G : ℕ) → 1 ≤ I → I ≤ 512 → G ≤ 4096 → Below I G t → Accepted t
+  pub accepted : (I G : ℕ) → 1 ≤ I → I ≤ maxInputs → G ≤ maxGates → Below I G t → Accepted t
   accepted I G a b c k =
       let i : t .inputs ≡ I = k .inputs in
       let g : length (t .gates) ≡ G = k .gates in
@@ -136,7 +136,7 @@ module _ (t : Text) where
         fits = rw (i, g) (k .fits);
       }
 
-  inputs-accepted : (G wires : ℕ) (ls : List Line) → G ≤ 4096 → inputLine G wires ls ≡ says t → Accepted t
+  inputs-accepted : (G wires : ℕ) (ls : List Line) → G ≤ maxGates → inputLine G wires ls ≡ says t → Accepted t
   unfolding inputLine
   inputs-accepted G wires [] h e =
       let z : _≡_ {A = ℕ} 0 1 = cc in
@@ -147,7 +147,7 @@ module _ (t : Text) where
       let limited : Bool = leb 1 I && leb I maxInputs in
       let e₂ = after formed 22 (cond (not limited) (refused 24) (outputLine I G ls)) e in
       let q = passed limited 24 (outputLine I G ls) e₂ in
-      accepted I G (leb-true 1 I (and-true-left (leb 1 I) (leb I maxInputs) q)) (leb-true I 512 (and-true-right (leb 1 I) (leb I maxInputs) q))
+      accepted I G (leb-true 1 I (and-true-left (leb 1 I) (leb I maxInputs) q)) (leb-true I maxInputs (and-true-right (leb 1 I) (leb I maxInputs) q))
       h (outputs-accepted I G ls (after limited 24 (outputLine I G ls) e₂))
 
   counts-accepted : (ls : List Line) → countLine ls ≡ says t → Accepted t
@@ -159,7 +159,7 @@ module _ (t : Text) where
       let G : ℕ = getD (numbersOn l) 0 0 in
       let rest : Reading = inputLine G (getD (numbersOn l) 1 0) ls in
       let e₂ = after (isCounts l) 22 (cond (not (leb G maxGates)) (refused 24) rest) e in
-      inputs-accepted G (getD (numbersOn l) 1 0) ls (leb-true G 4096 (passed (leb G maxGates) 24 rest e₂)) (after (leb G maxGates) 24 rest e₂)
+      inputs-accepted G (getD (numbersOn l) 1 0) ls (leb-true G maxGates (passed (leb G maxGates) 24 rest e₂)) (after (leb G maxGates) 24 rest e₂)
 
   pub text-accepted : (s : List ℕ) → readText s ≡ says t → Accepted t
   unfolding readText

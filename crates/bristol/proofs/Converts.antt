@@ -12,7 +12,7 @@ use Rattle.bits.specs.Bits.{tabulate}
 use Rattle.bits.proofs.Tabulate.{tabulate-cong}
 use Rattle.circuit.specs.Circuit as paper
 use Rattle.circuit.specs.Fields as form
-use Rattle.circuit.specs.File.{width, inputsOf, outputsOf, gatesOf, headOf, outputWire, withinLimits, rightLength, goodRecords, chainWalk, goodChain, onWalk, chainFrom, gatesInOrder, goodWires, circuitOf, legal, readCircuit}
+use Rattle.circuit.specs.File.{width, maxInputs, maxOutputs, maxGates, inputsOf, outputsOf, gatesOf, headOf, outputWire, withinLimits, rightLength, goodRecords, chainWalk, goodChain, onWalk, chainFrom, gatesInOrder, goodWires, circuitOf, legal, readCircuit}
 use Rattle.circuit.specs.Steps.{goodRecord, goodOutputs}
 use Rattle.bits.specs.Counting.{count}
 use Rattle.circuit.proofs.Visits.{chain-theorem}
@@ -26,15 +26,15 @@ use Rattle.bristol.proofs.Meant.{meant}
 use Rattle.bristol.proofs.Slots.{all-linked, head-small}
 
 -- a file that passes every test
-all-tests : (s : List ℕ) (c : paper.Circuit) → ltb (length s) 8 ≡ false → withinLimits s ≡ true → rightLength s ≡ true
+all-tests : (s : List ℕ) (c : paper.Circuit) → ltb (length s) (width * 4) ≡ false → withinLimits s ≡ true → rightLength s ≡ true
     → goodRecords s (gatesOf s) ≡ true → goodChain s ≡ true → goodWires s ≡ true → circuitOf s ≡ c → readCircuit s ≡ legal c
 unfolding form.readWith form.readFields form.goodChain onWalk
 all-tests s c e₁ e₂ e₃ e₄ e₅ e₆ e₇ = rw (e₁, e₂, e₃, e₄, well-ends (chainWalk s) e₅, e₆, e₇)
 
-limits-pass : (s : List ℕ) → 1 ≤ inputsOf s → inputsOf s ≤ 512 → 1 ≤ outputsOf s → outputsOf s ≤ 256 → gatesOf s ≤ 4096 → withinLimits s ≡ true
+limits-pass : (s : List ℕ) → 1 ≤ inputsOf s → inputsOf s ≤ maxInputs → 1 ≤ outputsOf s → outputsOf s ≤ maxOutputs → gatesOf s ≤ maxGates → withinLimits s ≡ true
 unfolding form.withinLimits
 limits-pass s a b c d e =
-    rw (le-leb 1 (inputsOf s) a, le-leb (inputsOf s) 512 b, le-leb 1 (outputsOf s) c, le-leb (outputsOf s) 256 d, le-leb (gatesOf s) 4096 e)
+    rw (le-leb 1 (inputsOf s) a, le-leb (inputsOf s) maxInputs b, le-leb 1 (outputsOf s) c, le-leb (outputsOf s) maxOutputs d, le-leb (gatesOf s) maxGates e)
 
 records-pass : (s : List ℕ) (n : ℕ) → ((x : ℕ) → 1 ≤ x → x ≤ n → goodRecord s x ≡ true) → goodRecords s n ≡ true
 unfolding form.goodRecords
@@ -112,7 +112,7 @@ module _ (t : Text) (k : Accepted t) where
 
   reads-file : readCircuit f ≡ legal (asCircuit t)
   reads-file =
-      all-tests f (asCircuit t) (le-ltb (length f) 8 (omega (arith, file-length t k))) limits-good length-good records-good chain-good
+      all-tests f (asCircuit t) (le-ltb (length f) (width * 4) (omega (arith, file-length t k))) limits-good length-good records-good chain-good
       wires-good same-circuit
 
 reads : Reads

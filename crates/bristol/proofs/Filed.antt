@@ -11,25 +11,27 @@ use borrow.Author.Tests.{eq-eqb}
 use Rattle.bits.specs.Bytes.{leAt, leBytes}
 use Rattle.bits.proofs.Little.{length-leBytes}
 use Rattle.circuit.specs.Fields as form
-use Rattle.circuit.specs.File.{inputsOf, outputsOf, gatesOf, headOf, outputWire}
+use Rattle.circuit.specs.File.{width, inputsOf, outputsOf, gatesOf, headOf, outputWire}
+use Rattle.circuit.specs.Steps.{recordSize, recordPlace}
+use Rattle.circuit.proofs.Places.{leAt-left, leAt-right}
 use Rattle.bristol.specs.Rules.{GateLine, xor, and, inv, Text, writes, written, lastWire}
 use Rattle.bristol.specs.Conversion.{firstSlot, fields, recordBytes, recordFor, headerPart, outputPart, recordPart, fileOf}
 use Rattle.bristol.proofs.Accepted.{Accepted}
-use Rattle.bristol.proofs.Parts.{leAt-left, leAt-right, two-bytes, joined-length, joined-at}
+use Rattle.bristol.proofs.Parts.{four-bytes, joined-length, joined-at}
 
-pub record-length : (g : GateLine) (next : ℕ) → length (recordBytes g next) ≡ 8
+pub record-length : (g : GateLine) (next : ℕ) → length (recordBytes g next) ≡ recordSize
 unfolding recordBytes fields leBytes
 record-length (xor a b c) next = refl
 record-length (and a b c) next = refl
 record-length (inv a c) next = refl
 
--- every record has 8 bytes
-pub for-length : (I w : ℕ) (gs : List GateLine) → length (recordFor I w gs) ≡ 8
-unfolding recordFor
-for-length I w [] = length-leBytes 8 0
+-- every record has so many bytes
+pub for-length : (I w : ℕ) (gs : List GateLine) → length (recordFor I w gs) ≡ recordSize
+unfolding recordFor fields leBytes
+for-length I w [] = refl
 for-length I w (g ∷ gs) = pick (eqb w (writes g)) (for-length I w gs)
   where
-    pick : (b : Bool) → length (recordFor I w gs) ≡ 8 → length (cond b (recordBytes g (firstSlot I gs)) (recordFor I w gs)) ≡ 8
+    pick : (b : Bool) → length (recordFor I w gs) ≡ recordSize → length (cond b (recordBytes g (firstSlot I gs)) (recordFor I w gs)) ≡ recordSize
     pick true e = record-length g (firstSlot I gs)
     pick false e = e
 
@@ -51,31 +53,31 @@ for-line I (h ∷ before) g after e =
     (for-line I before g after (or-right (eqb (writes g) (writes h)) (written before (writes g)) e))
 
 module _ (t : Text) (k : Accepted t) where
-  pub header-length : length (headerPart t) ≡ 8
+  pub header-length : length (headerPart t) ≡ recordSize
   unfolding headerPart fields leBytes
   header-length = refl
 
   pub file-inputs : inputsOf (fileOf t) ≡ t .inputs
   unfolding fileOf headerPart fields leBytes leAt form.field
-  file-inputs = two-bytes (t .inputs) (omega (arith, k .few-inputs))
+  file-inputs = four-bytes (t .inputs) (omega (arith, k .few-inputs))
 
   pub file-outputs : outputsOf (fileOf t) ≡ t .outputs
   unfolding fileOf headerPart fields leBytes leAt form.field
-  file-outputs = two-bytes (t .outputs) (omega (arith, k .few-outputs))
+  file-outputs = four-bytes (t .outputs) (omega (arith, k .few-outputs))
 
   pub file-gates : gatesOf (fileOf t) ≡ length (t .gates)
   unfolding fileOf headerPart fields leBytes leAt form.field
-  file-gates = two-bytes (length (t .gates)) (omega (arith, k .few-gates))
+  file-gates = four-bytes (length (t .gates)) (omega (arith, k .few-gates))
 
-  pub file-head : firstSlot (t .inputs) (t .gates) < 65536 → headOf (fileOf t) ≡ firstSlot (t .inputs) (t .gates)
+  pub file-head : firstSlot (t .inputs) (t .gates) < 4294967296 → headOf (fileOf t) ≡ firstSlot (t .inputs) (t .gates)
   unfolding fileOf headerPart fields leBytes leAt form.field
-  file-head h = two-bytes (firstSlot (t .inputs) (t .gates)) h
+  file-head h = four-bytes (firstSlot (t .inputs) (t .gates)) h
 
-  pub output-length : length (outputPart t) ≡ t .outputs * 2
+  pub output-length : length (outputPart t) ≡ t .outputs * width
   unfolding outputPart
-  output-length = joined-length 2 (t .outputs) (λ j. leBytes 2 (lastWire t j)) (λ j. length-leBytes 2 (lastWire t j))
+  output-length = joined-length width (t .outputs) (λ j. leBytes width (lastWire t j)) (λ j. length-leBytes width (lastWire t j))
 
-  pub file-length : length (fileOf t) ≡ 8 + 2 * t .outputs + 8 * length (t .gates)
+  pub file-length : length (fileOf t) ≡ recordPlace (t .outputs) (length (t .gates))
   unfolding fileOf recordPart
   file-length =
       rw (length-append, length-append)
@@ -83,35 +85,35 @@ module _ (t : Text) (k : Accepted t) where
         arith,
         header-length,
         output-length,
-        joined-length 8 (length (t .gates)) (λ j. recordFor (t .inputs) (t .inputs + j) (t .gates)) (λ j. for-length (t .inputs) (t .inputs + j) (t .gates)),
+        joined-length recordSize (length (t .gates)) (λ j. recordFor (t .inputs) (t .inputs + j) (t .gates)) (λ j. for-length (t .inputs) (t .inputs + j) (t .gates)),
       ))
 
   -- a number in the record of slot j + 1
-  pub in-record : (m j i : ℕ) → j < length (t .gates) → i + m ≤ 8
-      → leAt m (fileOf t) (8 + 2 * t .outputs + 8 * j + i) ≡ leAt m (recordFor (t .inputs) (t .inputs + j) (t .gates)) i
+  pub in-record : (m j i : ℕ) → j < length (t .gates) → i + m ≤ recordSize
+      → leAt m (fileOf t) (recordPlace (t .outputs) j + i) ≡ leAt m (recordFor (t .inputs) (t .inputs + j) (t .gates)) i
   unfolding fileOf recordPart
   in-record m j i h l =
-      leAt-right m (headerPart t) (outputPart t ++ recordPart t) (8 + 2 * t .outputs + 8 * j + i) (2 * t .outputs + (8 * j + i)) (omega (arith, header-length))
-      ∙ leAt-right m (outputPart t) (recordPart t) (2 * t .outputs + (8 * j + i)) (j * 8 + i) (omega (arith, output-length))
-      ∙ joined-at 8 (length (t .gates)) (λ j. recordFor (t .inputs) (t .inputs + j) (t .gates))
+      leAt-right m (headerPart t) (outputPart t ++ recordPart t) (recordPlace (t .outputs) j + i) (width * t .outputs + (recordSize * j + i)) (omega (arith, header-length))
+      ∙ leAt-right m (outputPart t) (recordPart t) (width * t .outputs + (recordSize * j + i)) (j * recordSize + i) (omega (arith, output-length))
+      ∙ joined-at recordSize (length (t .gates)) (λ j. recordFor (t .inputs) (t .inputs + j) (t .gates))
       (λ j. for-length (t .inputs) (t .inputs + j) (t .gates)) m j i h l
 
   pub last-small : (j : ℕ) → j < t .outputs → lastWire t j < t .inputs + length (t .gates)
   unfolding lastWire
   last-small j h = omega (arith, k .enough)
 
-  in-output : (j : ℕ) → j < t .outputs → leAt 2 (outputPart t) (j * 2 + 0) ≡ lastWire t j
+  in-output : (j : ℕ) → j < t .outputs → leAt width (outputPart t) (j * width + 0) ≡ lastWire t j
   unfolding outputPart leAt leBytes
   in-output j h =
-      joined-at 2 (t .outputs) (λ j. leBytes 2 (lastWire t j)) (λ j. length-leBytes 2 (lastWire t j)) 2 j 0 h (omega arith)
-      ∙ two-bytes (lastWire t j) (omega (arith, last-small j h, k .few-inputs, k .few-gates))
+      joined-at width (t .outputs) (λ j. leBytes width (lastWire t j)) (λ j. length-leBytes width (lastWire t j)) width j 0 h (omega arith)
+      ∙ four-bytes (lastWire t j) (omega (arith, last-small j h, k .few-inputs, k .few-gates))
 
   -- output wire j
   pub file-output : (j : ℕ) → j < t .outputs → outputWire (fileOf t) j ≡ lastWire t j
   unfolding fileOf form.field
   file-output j h =
-      let p : 2 * j ≡ j * 2 + 0 = omega arith in
-      leAt-right 2 (headerPart t) (outputPart t ++ recordPart t) (2 * (4 + j)) (2 * j) (omega (arith, header-length))
-      ∙ leAt-left 2 (outputPart t) (recordPart t) (2 * j) (omega (arith, output-length))
-      ∙ ap (leAt 2 (outputPart t)) p
+      let p : width * j ≡ j * width + 0 = omega arith in
+      leAt-right width (headerPart t) (outputPart t ++ recordPart t) (width * (4 + j)) (width * j) (omega (arith, header-length))
+      ∙ leAt-left width (outputPart t) (recordPart t) (width * j) (omega (arith, output-length))
+      ∙ ap (leAt width (outputPart t)) p
       ∙ in-output j h

@@ -422,7 +422,7 @@ module _ (s : List ℕ) (first last : ℕ) (k : LineAt s 0 first last) where
             ap countLine (line-is s 0 first last k inside ended) ∙ count-good l₁ _ G W (w .0) (w .1 .0) (w .1 .1)
 
         pub text-many : maxGates < G → readText s ≡ refused 24
-        text-many h = counted ∙ rw (lt-leb G 4096 h)
+        text-many h = counted ∙ rw (lt-leb G maxGates h)
 
         pub text-good : G ≤ maxGates → readText s ≡ inputLine G W (lines (drop last s))
-        text-good h = counted ∙ rw (le-leb G 4096 h)
+        text-good h = counted ∙ rw (le-leb G maxGates h)

@@ -12,4 +12,3 @@ pub mod Stored
 pub mod Stores
 pub mod Worked
 pub mod Writes
-pub mod Zeros

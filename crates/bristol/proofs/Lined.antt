@@ -1,18 +1,21 @@
 -- Gate lines: what is read on one, and its place among the others.
 -- Assumes nothing.
-use mathlib.Core.Path.{_≡_, refl, sym, ap, subst, _∙_}
+use mathlib.Core.Path.{_≡_, refl, sym, ap, ap₂, subst, _∙_}
 use mathlib.Core.Bool.{Bool, true, false, cond, not, _&&_, _||_}
 use mathlib.Core.List.{List, [], _∷_, _++_, map}
 use mathlib.Core.Logic.{⊎-elim}
 use mathlib.Core.Option.{Option, none, some}
-use Prim.Native.Nat.{ℕ, suc, _+_, _-_, _≤_, _<_}
-use Rattle.bits.proofs.Numbers.{eq-or-ne}
+use Prim.Native.Nat.{ℕ, suc, _+_, _-_, _*_, _≤_, _<_}
+use Rattle.bits.proofs.Numbers.{eq-or-ne, odd-bitVal}
 use native.Mathlib.Omega.{arith}
 use lib.Dec.{eqb, leb, ltb}
-use lib.ListN.{length, getD, take, drop, set, length-set}
-use lib.Seq.{getD-set-same, getD-set-other}
+use lib.ListN.{length, getD, take, drop}
 use borrow.Author.Tests.{eq-eqb, ne-eqb, lt-ltb, le-ltb, le-leb, lt-leb, ltb-true, eqb-true}
+use Rattle.bits.specs.Bits.{bitVal, bitAt, odd}
+use Rattle.bits.specs.Steps.{putBit}
+use Rattle.bits.proofs.Packing.{length-putBit, bitAt-putBit, bitAt-putBit-other}
 use Rattle.bits.proofs.Tests.{and-true-left, and-true-right}
+use Rattle.circuit.specs.Steps.{wireBytes}
 use Rattle.bristol_text.specs.Text.{Line, lines, tokens, allButLast, valueOf, allNumbers}
 use Rattle.bristol_text.specs.Steps.{LineAt, valuesBefore, areFields, FieldsTold}
 use Rattle.bristol_text.specs.declared.Cursor.{Cursor}
@@ -35,15 +38,20 @@ use Rattle.bristol.specs.declared.Finding.the-variants as finding
 use Rattle.bristol.proofs.Chained.{written-more}
 use Rattle.bristol.proofs.Heads.{length-values}
 
+-- a bit is 1 where it is set
+pub bit-set : (b : Bool) → eqb (bitVal b) 1 ≡ b
+bit-set true = refl
+bit-set false = refl
+
 -- the tests on a wire
 module _ (I G w : ℕ) (flags : List ℕ) where
   pub write-input : w < I → false ≡ mayWrite I G flags w
   unfolding mayWrite
   write-input h = rw (lt-leb I w h)
 
-  pub write-flag : I ≤ w → w < I + G → not (eqb (getD flags w 0) 1) ≡ mayWrite I G flags w
+  pub write-flag : (b : ℕ) → b ≡ bitVal (bitAt flags w) → I ≤ w → w < I + G → not (eqb b 1) ≡ mayWrite I G flags w
   unfolding mayWrite flagged
-  write-flag h l = rw (le-leb I w h, lt-ltb w (I + G) l)
+  write-flag b e h l = rw (le-leb I w h, lt-ltb w (I + G) l) (ap (λ (i : ℕ). not (eqb i 1)) e ∙ ap not (bit-set (bitAt flags w)))
 
   pub write-none : I ≤ w → I + G ≤ w → false ≡ mayWrite I G flags w
   unfolding mayWrite
@@ -181,7 +189,7 @@ module _ (I O G : ℕ) (flags : List ℕ) (above : List GateLine) (marks : (w : 
   may-read c w h =
       ⊎-elim
       (λ e. rw (eq-eqb w c e) (ap (λ (b : Bool). ltb w I || b) (sym (ap (written above) e ∙ sym (marks c) ∙ h))))
-      (λ n. rw (ne-eqb w c n) (ap (λ (b : Bool). ltb w I || b) (marks w)))
+      (λ n. rw (ne-eqb w c n) (ap (λ (b : Bool). ltb w I || b) (bit-set (bitAt flags w) ∙ marks w)))
       (eq-or-ne w c)
 
   and-false : (b : Bool) → b && false ≡ false
@@ -232,7 +240,7 @@ module _ (I O G : ℕ) (flags : List ℕ) (above : List GateLine) (marks : (w : 
       ∙ rw (sym (fits-same (lineOf q)) ∙ f)
 
   -- the flag of the wire that a line writes is set
-  pub marks-more : (g : GateLine) → writes g < length flags → (w : ℕ) → flagged (set flags (writes g) 1) w ≡ written (above ++ (g ∷ [])) w
+  pub marks-more : (g : GateLine) → writes g < 8 * length flags → (w : ℕ) → flagged (putBit flags (writes g) true) w ≡ written (above ++ (g ∷ [])) w
   unfolding flagged
   marks-more g h w = ⊎-elim same other (eq-or-ne w (writes g))
     where
@@ -244,14 +252,14 @@ module _ (I O G : ℕ) (flags : List ℕ) (above : List GateLine) (marks : (w : 
       or-false true = refl
       or-false false = refl
 
-      same : w ≡ writes g → eqb (getD (set flags (writes g) 1) w 0) 1 ≡ written (above ++ (g ∷ [])) w
+      same : w ≡ writes g → bitAt (putBit flags (writes g) true) w ≡ written (above ++ (g ∷ [])) w
       same e =
-          ap (λ (i : ℕ). eqb (getD (set flags (writes g) 1) i 0) 1) e ∙ ap (λ (i : ℕ). eqb i 1) (getD-set-same flags (writes g) 1 0 h)
+          ap (bitAt (putBit flags (writes g) true)) e ∙ bitAt-putBit flags (writes g) true h
           ∙ sym (written-more above g w ∙ ap (λ (b : Bool). written above w || b) (eq-eqb w (writes g) e) ∙ or-true (written above w))
 
-      other : (w ≡ writes g → ⊥) → eqb (getD (set flags (writes g) 1) w 0) 1 ≡ written (above ++ (g ∷ [])) w
+      other : (w ≡ writes g → ⊥) → bitAt (putBit flags (writes g) true) w ≡ written (above ++ (g ∷ [])) w
       other n =
-          ap (λ (i : ℕ). eqb i 1) (getD-set-other flags (writes g) w 1 0 n) ∙ marks w
+          bitAt-putBit-other flags (writes g) true w n ∙ marks w
           ∙ sym (written-more above g w ∙ ap (λ (b : Bool). written above w || b) (ne-eqb w (writes g) n) ∙ or-false (written above w))
 
 -- a wire that may be written is below I + G
@@ -269,15 +277,15 @@ fits-low I G flags (inv a c) e = write-low I G flags c (and-true-right (mayRead 
 pub record Walked (s : List ℕ) (z : Sizes) (start : ℕ) (flags : List ℕ) (left at : ℕ) : Type 0 where
   pub above : List GateLine
   pub few : left ≤ z .gates
-  pub room : length flags ≡ 4608
+  pub room : length flags ≡ wireBytes
   pub marks : (w : ℕ) → flagged flags w ≡ written above w
   pub same : gateLines (z .inputs) (z .outputs) (z .gates) left above (lines (drop at s)) ≡ gatesAt s z start
 
 module _ (s : List ℕ) (z : Sizes) (start : ℕ) where
-  pub walked-none : (flags : List ℕ) → length flags ≡ 4608 → ((w : ℕ) → getD flags w 0 ≡ 0) → Walked s z start flags (z .gates) start
+  pub walked-none : (flags : List ℕ) → length flags ≡ wireBytes → ((w : ℕ) → bitAt flags w ≡ false) → Walked s z start flags (z .gates) start
   unfolding gatesAt flagged written
   walked-none flags r n =
-      record { above = []; few = omega arith; room = r; marks = λ w. ap (λ (i : ℕ). eqb i 1) (n w); same = refl }
+      record { above = []; few = omega arith; room = r; marks = n; same = refl }
 
   module _ (flags : List ℕ) (left at : ℕ) (k : Walked s z start flags left at) where
     abbrev I : ℕ
@@ -294,18 +302,20 @@ module _ (s : List ℕ) (z : Sizes) (start : ℕ) where
         (sym (k .same) ∙ ap (λ (i : ℕ). gateLines I (z .outputs) G i (k .above) (lines (drop at s))) (sym p)
         ∙ line-refused I (z .outputs) G flags (k .above) (k .marks) (left - 1) n (lines (drop at s)) e))
 
-    pub writes-inside : Few z → (w next : ℕ) → Writing s z at flags w next → w < length flags
+    pub writes-inside : Few z → (w next : ℕ) → Writing s z at flags w next → w < 8 * length flags
     writes-inside f w next g = omega (arith, g .wire, fits-low I G flags (lineOf (g .gate)) (g .fits), f .few-inputs, f .few-gates, k .room)
 
-    pub walked-more : Few z → 0 < left → (w next : ℕ) → Writing s z at flags w next → Walked s z start (set flags w 1) (left - 1) next
-    walked-more f h w next g =
+    pub walked-more : Few z → 0 < left → (w next : ℕ) → Writing s z at flags w next → (new : List ℕ) → new ≡ putBit flags w (odd 1)
+        → Walked s z start new (left - 1) next
+    walked-more f h w next g new e =
         let p : suc (left - 1) ≡ left = omega arith in
-        let low : writes (lineOf (g .gate)) < length flags = omega (arith, g .wire, writes-inside f w next g) in
+        let put : new ≡ putBit flags (writes (lineOf (g .gate))) true = e ∙ ap₂ (putBit flags) (g .wire) (odd-bitVal true) in
+        let low : writes (lineOf (g .gate)) < 8 * length flags = omega (arith, g .wire, writes-inside f w next g) in
         record {
           above = k .above ++ (lineOf (g .gate) ∷ []);
           few = omega (arith, k .few);
-          room = length-set flags w 1 ∙ k .room;
-          marks = rw (g .wire) (marks-more I (z .outputs) G flags (k .above) (k .marks) (lineOf (g .gate)) low);
+          room = ap length put ∙ length-putBit flags (writes (lineOf (g .gate))) true ∙ k .room;
+          marks = λ i. ap (λ (f : List ℕ). flagged f i) put ∙ marks-more I (z .outputs) G flags (k .above) (k .marks) (lineOf (g .gate)) low i;
           same =
               rw (g .rest)
               (sym (line-passed I (z .outputs) G flags (k .above) (k .marks) (left - 1) (g .gate) (lines (drop at s)) (g .read) (g .fits))

@@ -5,26 +5,15 @@ use mathlib.Core.List.{List, _++_}
 use Prim.Native.Nat.{ℕ, zero, suc, _+_, _*_, _/_, _%_, _≤_, _<_}
 use native.Mathlib.Nat.{suc-mul}
 use native.Mathlib.Omega.{arith}
-use lib.ListN.{length, getD, length-append, List·getD-append}
-use lib.Seq.{getD-append-add}
+use lib.ListN.{length, length-append}
 use Rattle.bits.specs.Bits.{tabulate}
 use Rattle.bits.specs.Bytes.{leAt}
-use Rattle.bits.proofs.Little.{leAt-cong}
+use Rattle.circuit.proofs.Places.{leAt-left, leAt-right}
 use Rattle.bristol.specs.Conversion.{joined}
 
-pub leAt-left : (n : ℕ) (a b : List ℕ) (k : ℕ) → k + n ≤ length a → leAt n (a ++ b) k ≡ leAt n a k
-leAt-left n a b k h = leAt-cong n (a ++ b) a k k (λ i l. List·getD-append a b 0 (k + i) (omega arith))
-
-pub leAt-right : (n : ℕ) (a b : List ℕ) (p k : ℕ) → p ≡ length a + k → leAt n (a ++ b) p ≡ leAt n b k
-leAt-right n a b p k e =
-    leAt-cong n (a ++ b) b p k
-    (λ i l.
-    let q : p + i ≡ length a + (k + i) = omega arith in
-    ap (λ (x : ℕ). getD (a ++ b) x 0) q ∙ getD-append-add a b (k + i) 0)
-
--- the two bytes of a number are the number
-pub two-bytes : (x : ℕ) → x < 65536 → x % 256 + 256 * (x / 256 % 256 + 256 * 0) ≡ x
-two-bytes x h = omega arith
+-- the four bytes of a number are the number
+pub four-bytes : (x : ℕ) → x < 4294967296 → x % 256 + 256 * (x / 256 % 256 + 256 * (x / 256 / 256 % 256 + 256 * (x / 256 / 256 / 256 % 256 + 256 * 0))) ≡ x
+four-bytes x h = omega arith
 
 module _ (w : ℕ) where
   pub joined-length : (n : ℕ) (f : ℕ → List ℕ) → ((j : ℕ) → length (f j) ≡ w) → length (joined (tabulate n f)) ≡ n * w

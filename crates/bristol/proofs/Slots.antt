@@ -12,13 +12,13 @@ use Rattle.bits.specs.Bytes.{leAt, leBytes}
 use Rattle.bits.proofs.Tests.{and-true-left, and-true-right}
 use Rattle.circuit.specs.Circuit as paper
 use Rattle.circuit.specs.Fields as form
-use Rattle.circuit.specs.File.{inputsOf, gatesOf, fieldsOf, nextOf}
-use Rattle.circuit.specs.Steps.{recordAt, kindOf, wireA, wireB, gateAt, goodRecord}
+use Rattle.circuit.specs.File.{width, inputsOf, gatesOf, fieldsOf, nextOf}
+use Rattle.circuit.specs.Steps.{recordSize, recordPlace, recordAt, kindOf, wireA, wireB, gateAt, goodRecord}
 use Rattle.bristol.specs.Rules.{GateLine, xor, and, inv, Text, writes, written, readable, writable, fitsBelow}
 use Rattle.bristol.specs.Conversion.{asGate, slotOf, firstSlot, fields, recordBytes, recordFor, fileOf}
 use Rattle.bristol.proofs.Accepted.{Accepted, Fits}
 use Rattle.bristol.proofs.Chained.{Stands, Linked, written-more}
-use Rattle.bristol.proofs.Parts.{two-bytes}
+use Rattle.bristol.proofs.Parts.{four-bytes}
 use Rattle.bristol.proofs.Filed.{for-line, file-inputs, file-outputs, file-gates, in-record}
 
 -- what a slot holds
@@ -93,7 +93,7 @@ module _ (t : Text) (k : Accepted t) where
   small-more before g m h w e =
       or-elim (written before w) (eqb w (writes g)) (sym (written-more before g w) ∙ e) (m w) (λ d. omega (arith, eqb-true w (writes g) d))
 
-  small-read : (before : List GateLine) (w : ℕ) → Small before → readable I G before w ≡ true → w < 65536
+  small-read : (before : List GateLine) (w : ℕ) → Small before → readable I G before w ≡ true → w < 4294967296
   unfolding readable
   small-read before w m e =
       or-elim (ltb w I) (written before w) e (λ d. omega (arith, ltb-true w I d, k .few-inputs)) (λ d. omega (arith, m w d, k .few-inputs, k .few-gates))
@@ -107,24 +107,24 @@ module _ (t : Text) (k : Accepted t) where
 
   -- a number in the record of a line
   module _ (before : List GateLine) (g : GateLine) (after : List GateLine) (e : t .gates ≡ before ++ (g ∷ after)) (n : Fresh before g) where
-    in-line : (p i : ℕ) → p ≡ 8 + 2 * t .outputs + 8 * (writes g - I) + i → i + 2 ≤ 8 → leAt 2 f p ≡ leAt 2 (recordBytes g (firstSlot I after)) i
+    in-line : (p i : ℕ) → p ≡ recordPlace (t .outputs) (writes g - I) + i → i + width ≤ recordSize → leAt width f p ≡ leAt width (recordBytes g (firstSlot I after)) i
     in-line p i e′ h =
         let j : writes g - I < G = omega (arith, n .low, n .high) in
         let w : I + (writes g - I) ≡ writes g = omega (arith, n .low) in
-        ap (leAt 2 f) e′
-        ∙ in-record t k 2 (writes g - I) i j h
-        ∙ ap (λ (x : ℕ). leAt 2 (recordFor I x (t .gates)) i) w
-        ∙ ap (λ (l : List GateLine). leAt 2 (recordFor I (writes g) l) i) e
-        ∙ ap (λ (r : List ℕ). leAt 2 r i) (for-line I before g after (n .new))
+        ap (leAt width f) e′
+        ∙ in-record t k width (writes g - I) i j h
+        ∙ ap (λ (x : ℕ). leAt width (recordFor I x (t .gates)) i) w
+        ∙ ap (λ (l : List GateLine). leAt width (recordFor I (writes g) l) i) e
+        ∙ ap (λ (r : List ℕ). leAt width r i) (for-line I before g after (n .new))
 
     -- the kind, and a field after it
-    in-kind : kindOf f (slotOf I g) ≡ leAt 2 (recordBytes g (firstSlot I after)) 0
+    in-kind : kindOf f (slotOf I g) ≡ leAt width (recordBytes g (firstSlot I after)) 0
     unfolding slotOf form.field
     in-kind = in-line _ 0 (omega (arith, file-outputs t k)) (omega arith)
 
-    in-field : (i : ℕ) → i < 4 → fieldsOf f (recordAt f (slotOf I g) + i) ≡ leAt 2 (recordBytes g (firstSlot I after)) (2 * i)
+    in-field : (i : ℕ) → i < 4 → fieldsOf f (recordAt f (slotOf I g) + i) ≡ leAt width (recordBytes g (firstSlot I after)) (width * i)
     unfolding slotOf form.field
-    in-field i h = in-line _ (2 * i) (omega (arith, file-outputs t k)) (omega arith)
+    in-field i h = in-line _ (width * i) (omega (arith, file-outputs t k)) (omega arith)
 
     own-wire : inputsOf f + slotOf I g - 1 ≡ writes g
     unfolding slotOf
@@ -142,8 +142,8 @@ module _ (t : Text) (k : Accepted t) where
     bytes = recordBytes g (firstSlot I after)
 
     -- the slot holds the line's gate, from what stands in the record's bytes
-    made : (kind a b : ℕ) → leAt 2 bytes 0 ≡ kind → leAt 2 bytes 2 ≡ a → leAt 2 bytes 4 ≡ b
-        → leAt 2 bytes 6 ≡ firstSlot I after → pick kind a b (writes g) ≡ asGate g → passes kind b ≡ true → Stands f I g after
+    made : (kind a b : ℕ) → leAt width bytes 0 ≡ kind → leAt width bytes width ≡ a → leAt width bytes (width * 2) ≡ b
+        → leAt width bytes (width * 3) ≡ firstSlot I after → pick kind a b (writes g) ≡ asGate g → passes kind b ≡ true → Stands f I g after
     made kind a b is-kind is-a is-b is-next same good =
         let held : Holds f (slotOf I g) kind a b (firstSlot I after) =
         record {
@@ -160,7 +160,7 @@ module _ (t : Text) (k : Accepted t) where
           good = holds-good f (slotOf I g) kind a b (firstSlot I after) held ∙ good;
         }
 
-  next-fits : (after : List GateLine) → firstSlot I after ≤ G → firstSlot I after < 65536
+  next-fits : (after : List GateLine) → firstSlot I after ≤ G → firstSlot I after < 4294967296
   next-fits after d = omega (arith, d, k .few-gates)
 
   stands : (before : List GateLine) (g : GateLine) (after : List GateLine) → t .gates ≡ before ++ (g ∷ after) → fitsBelow I G before g ≡ true
@@ -169,19 +169,19 @@ module _ (t : Text) (k : Accepted t) where
   stands before (xor a b c) after e h m d =
       let two = and-true-left (readable I G before a && readable I G before b) (writable I G before c) h in
       made before (xor a b c) after e (fresh before (xor a b c) h) 1 a b refl
-      (two-bytes a (small-read before a m (and-true-left (readable I G before a) (readable I G before b) two)))
-      (two-bytes b (small-read before b m (and-true-right (readable I G before a) (readable I G before b) two)))
-      (two-bytes (firstSlot I after) (next-fits after d)) refl refl
+      (four-bytes a (small-read before a m (and-true-left (readable I G before a) (readable I G before b) two)))
+      (four-bytes b (small-read before b m (and-true-right (readable I G before a) (readable I G before b) two)))
+      (four-bytes (firstSlot I after) (next-fits after d)) refl refl
   stands before (and a b c) after e h m d =
       let two = and-true-left (readable I G before a && readable I G before b) (writable I G before c) h in
       made before (and a b c) after e (fresh before (and a b c) h) 2 a b refl
-      (two-bytes a (small-read before a m (and-true-left (readable I G before a) (readable I G before b) two)))
-      (two-bytes b (small-read before b m (and-true-right (readable I G before a) (readable I G before b) two)))
-      (two-bytes (firstSlot I after) (next-fits after d)) refl refl
+      (four-bytes a (small-read before a m (and-true-left (readable I G before a) (readable I G before b) two)))
+      (four-bytes b (small-read before b m (and-true-right (readable I G before a) (readable I G before b) two)))
+      (four-bytes (firstSlot I after) (next-fits after d)) refl refl
   stands before (inv a c) after e h m d =
       made before (inv a c) after e (fresh before (inv a c) h) 3 a 0 refl
-      (two-bytes a (small-read before a m (and-true-left (readable I G before a) (writable I G before c) h))) refl
-      (two-bytes (firstSlot I after) (next-fits after d)) refl refl
+      (four-bytes a (small-read before a m (and-true-left (readable I G before a) (writable I G before c) h))) refl
+      (four-bytes (firstSlot I after) (next-fits after d)) refl refl
 
   -- by induction on the lines that are left
   linked : (before gs : List GateLine) → t .gates ≡ before ++ gs → Fits I G before gs → Small before → Linked f I gs
@@ -197,5 +197,5 @@ module _ (t : Text) (k : Accepted t) where
   unfolding written
   all-linked = linked [] (t .gates) refl (k .fits) (λ w e. let z : _≡_ {A = ℕ} 0 1 = cc in absurd (omega arith))
 
-  pub head-small : firstSlot I (t .gates) < 65536
+  pub head-small : firstSlot I (t .gates) < 4294967296
   head-small = omega (arith, first-small [] (t .gates) (k .fits), k .few-gates)

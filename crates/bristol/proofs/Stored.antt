@@ -17,12 +17,14 @@ use Rattle.bits.proofs.Numbers.{eq-or-ne}
 use Rattle.bits.proofs.Tabulate.{tabulate-cong}
 use Rattle.bits.proofs.Tests.{and-true-left, and-true-right}
 use Rattle.circuit.specs.Fields as form
-use Rattle.circuit.specs.File.{gatesOf, headOf, chainFrom}
+use Rattle.circuit.specs.Building.{front}
+use Rattle.circuit.specs.Steps.{recordSize, outputPlace, recordPlace}
+use Rattle.circuit.specs.File.{width, gatesOf, headOf, chainFrom}
 use Rattle.circuit.proofs.Visits.{chain-theorem}
 use Rattle.bristol_text.specs.Text.{Line}
 use Rattle.bristol.specs.Rules.{GateLine, xor, and, inv, Text, refused, says, isKnown, kindOn, gateOn, writes, written, readable, writable, fitsBelow, gateElse22, gateLines}
 use Rattle.bristol.specs.Conversion.{slotOf, firstSlot, recordBytes, recordFor, joined, headerPart, outputPart, recordPart, fileOf}
-use Rattle.bristol.specs.Steps.{recordsAt, stored, gateBefore, gatesFrom}
+use Rattle.bristol.specs.Steps.{stored, gateBefore, gatesFrom}
 use Rattle.bristol.proofs.Accepted.{Fits, Accepted, after}
 use Rattle.bristol.proofs.Chained.{Linked, written-more}
 use Rattle.bristol.proofs.Converts.{chain-good, head}
@@ -70,11 +72,11 @@ module _ (I G : ℕ) where
   filledBy [] f = f
   filledBy (g ∷ gs) f = filledBy gs (putAt f (writes g - I) (recordBytes g (firstSlot I gs)))
 
-  put-length : (f : ℕ → List ℕ) (g : GateLine) (x j : ℕ) → ((k : ℕ) → k < G → length (f k) ≡ 8) → (k : ℕ) → k < G → length (putAt f j (recordBytes g x) k) ≡ 8
+  put-length : (f : ℕ → List ℕ) (g : GateLine) (x j : ℕ) → ((k : ℕ) → k < G → length (f k) ≡ recordSize) → (k : ℕ) → k < G → length (putAt f j (recordBytes g x) k) ≡ recordSize
   put-length f g x j e k h =
       ⊎-elim (λ q. ap length (put-here f j (recordBytes g x) k q) ∙ record-length g x) (λ n. ap length (put-other f j (recordBytes g x) k n) ∙ e k h) (eq-or-ne k j)
 
-  stored-parts : (O : ℕ) (a c : List ℕ) → length a ≡ recordsAt O → (above gs : List GateLine) → Fits I G above gs → (f : ℕ → List ℕ) → ((k : ℕ) → k < G → length (f k) ≡ 8)
+  stored-parts : (O : ℕ) (a c : List ℕ) → length a ≡ recordPlace O 0 → (above gs : List GateLine) → Fits I G above gs → (f : ℕ → List ℕ) → ((k : ℕ) → k < G → length (f k) ≡ recordSize)
       → stored I O gs (a ++ (joined (tabulate G f) ++ c)) ≡ a ++ (joined (tabulate G (filledBy gs f)) ++ c)
   unfolding stored filledBy Fits
   stored-parts O a c l above [] w f e = refl
@@ -82,7 +84,7 @@ module _ (I G : ℕ) where
       let n = fits-writes I G above g (w .0) in
       let r = recordBytes g (firstSlot I gs) in
       let j : writes g - I < G = omega arith in
-      ap (stored I O gs) (put-part a c G f (writes g - I) r (recordsAt O + 8 * (writes g - I)) j e (record-length g (firstSlot I gs)) (omega arith))
+      ap (stored I O gs) (put-part a c G f (writes g - I) r (recordPlace O (writes g - I)) j e (record-length g (firstSlot I gs)) (omega arith))
       ∙ stored-parts O a c l (above ++ (g ∷ [])) gs (w .1) (putAt f (writes g - I) r) (put-length f g (firstSlot I gs) (writes g - I) e)
 
   -- what each record then is
@@ -148,51 +150,51 @@ module _ (t : Text) (k : Accepted t) where
       let slots : count (suc j) (map (slotOf I) (t .gates)) ≡ 1 = rw (linked-chain f I (t .gates) (all-linked t k)) at some in
       counted-written I G [] (t .gates) (k .fits) j (omega arith)
 
-  module _ (out : List ℕ) (room : recordsAt (t .outputs) + 8 * G ≤ length out) where
+  module _ (out : List ℕ) (room : recordPlace (t .outputs) G ≤ length out) where
     abbrev O : ℕ
     O = t .outputs
 
     -- what stands where the records go, and its parts
     abbrev rest : List ℕ
-    rest = drop (2 * O) (drop 8 out)
+    rest = drop (width * O) (drop recordSize out)
 
     abbrev part : ℕ → List ℕ
-    part j = take 8 (drop (j * 8) rest)
+    part j = take recordSize (drop (j * recordSize) rest)
 
-    rest-length : length rest ≡ length out - (8 + 2 * O)
-    rest-length = omega (arith, length-drop (2 * O) (drop 8 out), length-drop 8 out)
+    rest-length : length rest ≡ length out - recordPlace O 0
+    rest-length = omega (arith, length-drop (width * O) (drop recordSize out), length-drop recordSize out)
 
-    part-length : (j : ℕ) → j < G → length (part j) ≡ 8
-    part-length j h = length-take-le 8 (drop (j * 8) rest) (omega (arith, length-drop (j * 8) rest, rest-length))
+    part-length : (j : ℕ) → j < G → length (part j) ≡ recordSize
+    part-length j h = length-take-le recordSize (drop (j * recordSize) rest) (omega (arith, length-drop (j * recordSize) rest, rest-length))
 
-    front : sets (sets out 0 (headerPart t)) 8 (outputPart t) ≡ headerPart t ++ (outputPart t ++ rest)
-    front =
+    front-parts : sets (sets out 0 (headerPart t)) (outputPlace 0) (outputPart t) ≡ headerPart t ++ (outputPart t ++ rest)
+    front-parts =
         let hp = headerPart t in
         let op = outputPart t in
-        ap (λ (l : List ℕ). sets l 8 op)
-        (sets-at out [] (take 8 out) (drop 8 out) hp 0 (sym (take-append-drop 8 out)) refl (length-take-le 8 out (omega arith) ∙ sym (header-length t k)))
-        ∙ sets-at (hp ++ drop 8 out) hp (take (2 * O) (drop 8 out)) rest op 8 (ap (λ (l : List ℕ). hp ++ l) (sym (take-append-drop (2 * O) (drop 8 out)))) (header-length t k)
-        (length-take-le (2 * O) (drop 8 out) (omega (arith, length-drop 8 out)) ∙ omega (arith, output-length t k))
+        ap (λ (l : List ℕ). sets l (outputPlace 0) op)
+        (sets-at out [] (take recordSize out) (drop recordSize out) hp 0 (sym (take-append-drop recordSize out)) refl (length-take-le recordSize out (omega arith) ∙ sym (header-length t k)))
+        ∙ sets-at (hp ++ drop recordSize out) hp (take (width * O) (drop recordSize out)) rest op (outputPlace 0) (ap (λ (l : List ℕ). hp ++ l) (sym (take-append-drop (width * O) (drop recordSize out)))) (header-length t k)
+        (length-take-le (width * O) (drop recordSize out) (omega (arith, length-drop recordSize out)) ∙ omega (arith, output-length t k))
 
     filled-record : (j : ℕ) → j < G → filledBy I G (t .gates) part j ≡ recordFor I (I + j) (t .gates)
     filled-record j h = filled-at I G [] (t .gates) (k .fits) part j ∙ rw (all-written j h)
 
-    beyond : drop (G * 8) rest ≡ drop (length (fileOf t)) out
+    beyond : drop (G * recordSize) rest ≡ drop (length (fileOf t)) out
     beyond =
-        let e : 8 + (2 * O + G * 8) ≡ length (fileOf t) = omega (arith, file-length t k) in
-        drop-drop (G * 8) (2 * O) (drop 8 out) ∙ drop-drop (2 * O + G * 8) 8 out ∙ ap (λ (i : ℕ). drop i out) e
+        let e : recordSize + (width * O + G * recordSize) ≡ length (fileOf t) = omega (arith, file-length t k) in
+        drop-drop (G * recordSize) (width * O) (drop recordSize out) ∙ drop-drop (width * O + G * recordSize) recordSize out ∙ ap (λ (i : ℕ). drop i out) e
 
     -- the whole is the file
-    pub all-stored : stored I O (t .gates) (sets (sets out 0 (headerPart t)) 8 (outputPart t)) ≡ fileOf t ++ drop (length (fileOf t)) out
+    pub all-stored : stored I O (t .gates) (sets (sets out 0 (headerPart t)) (outputPlace 0) (outputPart t)) ≡ front (fileOf t) out
     unfolding fileOf recordPart
     all-stored =
         let hp = headerPart t in
         let op = outputPart t in
         let rp = joined (tabulate G (λ j. recordFor I (I + j) (t .gates))) in
-        let c = drop (G * 8) rest in
-        let len : length (hp ++ op) ≡ recordsAt O = omega (arith, length-append hp op, header-length t k, output-length t k) in
+        let c = drop (G * recordSize) rest in
+        let len : length (hp ++ op) ≡ recordPlace O 0 = omega (arith, length-append hp op, header-length t k, output-length t k) in
         ap (stored I O (t .gates))
-        (front ∙ ap (λ (l : List ℕ). hp ++ (op ++ l)) (sym (take-append-drop (G * 8) rest) ∙ ap (λ (l : List ℕ). l ++ c) (sym (parts-of 8 G rest)))
+        (front-parts ∙ ap (λ (l : List ℕ). hp ++ (op ++ l)) (sym (take-append-drop (G * recordSize) rest) ∙ ap (λ (l : List ℕ). l ++ c) (sym (parts-of recordSize G rest)))
         ∙ sym (append-assoc hp op (joined (tabulate G part) ++ c)))
         ∙ stored-parts I G O (hp ++ op) c len [] (t .gates) (k .fits) part part-length
         ∙ ap (λ (l : List ℕ). (hp ++ op) ++ (l ++ c)) (ap joined (tabulate-cong G (filledBy I G (t .gates) part) (λ j. recordFor I (I + j) (t .gates)) filled-record))

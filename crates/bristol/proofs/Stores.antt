@@ -15,6 +15,8 @@ use Rattle.bits.specs.Bits.{tabulate}
 use Rattle.bits.specs.Bytes.{leBytes}
 use Rattle.bits.proofs.Little.{length-leBytes, leBytes-mod, sets-append}
 use Rattle.bits.proofs.Tabulate.{tabulate-cong}
+use Rattle.circuit.specs.File.{width}
+use Rattle.circuit.specs.Steps.{recordSize, outputPlace}
 use Rattle.bristol.specs.Conversion.{fields, joined}
 
 -- a part that is put in the place of another as long
@@ -29,26 +31,26 @@ sets-at l p q s r i e a b =
 
 -- four fields, one after the other
 module _ (out : List ℕ) (at a b c d : ℕ) where
-  pub four-fields : sets (sets (sets (sets out at (leBytes 2 (a % 65536))) (at + 2) (leBytes 2 (b % 65536))) (at + 4) (leBytes 2 (c % 65536))) (at + 6) (leBytes 2 (d % 65536))
+  pub four-fields : sets (sets (sets (sets out at (leBytes width (a % 4294967296))) (at + width) (leBytes width (b % 4294967296))) (at + 2 * width) (leBytes width (c % 4294967296))) (at + 3 * width) (leBytes width (d % 4294967296))
       ≡ sets out at (fields a b c d)
   unfolding fields
   four-fields =
-      let A = leBytes 2 a in
-      let B = leBytes 2 b in
-      let C = leBytes 2 c in
-      let D = leBytes 2 d in
-      let m : (x : ℕ) → leBytes 2 (x % 65536) ≡ leBytes 2 x = λ x. leBytes-mod 2 x in
-      let p : at + length A ≡ at + 2 = ap (λ (k : ℕ). at + k) (length-leBytes 2 a) in
-      let q : at + 2 + length B ≡ at + 4 = omega (arith, length-leBytes 2 b) in
-      let r : at + 4 + length C ≡ at + 6 = omega (arith, length-leBytes 2 c) in
+      let A = leBytes width a in
+      let B = leBytes width b in
+      let C = leBytes width c in
+      let D = leBytes width d in
+      let m : (x : ℕ) → leBytes width (x % 4294967296) ≡ leBytes width x = λ x. leBytes-mod width x in
+      let p : at + length A ≡ at + width = ap (λ (k : ℕ). at + k) (length-leBytes width a) in
+      let q : at + width + length B ≡ at + 2 * width = omega (arith, length-leBytes width b) in
+      let r : at + 2 * width + length C ≡ at + 3 * width = omega (arith, length-leBytes width c) in
       rw (m a, m b, m c, m d)
       (sym
       (sets-append A (B ++ (C ++ D)) out at
       ∙ ap (λ (k : ℕ). sets (sets out at A) k (B ++ (C ++ D))) p
-      ∙ sets-append B (C ++ D) (sets out at A) (at + 2)
-      ∙ ap (λ (k : ℕ). sets (sets (sets out at A) (at + 2) B) k (C ++ D)) q
-      ∙ sets-append C D (sets (sets out at A) (at + 2) B) (at + 4)
-      ∙ ap (λ (k : ℕ). sets (sets (sets (sets out at A) (at + 2) B) (at + 4) C) k D) r))
+      ∙ sets-append B (C ++ D) (sets out at A) (at + width)
+      ∙ ap (λ (k : ℕ). sets (sets (sets out at A) (at + width) B) k (C ++ D)) q
+      ∙ sets-append C D (sets (sets out at A) (at + width) B) (at + 2 * width)
+      ∙ ap (λ (k : ℕ). sets (sets (sets (sets out at A) (at + width) B) (at + 2 * width) C) k D) r))
 
 -- parts of w bytes each
 module _ (w : ℕ) where
@@ -121,12 +123,12 @@ unfolding putAt
 put-other f j r k n = rw (ne-eqb k j n)
 
 -- one of the parts put anew
-pub put-part : (a c : List ℕ) (n : ℕ) (f : ℕ → List ℕ) (j : ℕ) (r : List ℕ) (at : ℕ) → j < n → ((k : ℕ) → k < n → length (f k) ≡ 8) → length r ≡ 8
-    → at ≡ length a + 8 * j → sets (a ++ (joined (tabulate n f) ++ c)) at r ≡ a ++ (joined (tabulate n (putAt f j r)) ++ c)
+pub put-part : (a c : List ℕ) (n : ℕ) (f : ℕ → List ℕ) (j : ℕ) (r : List ℕ) (at : ℕ) → j < n → ((k : ℕ) → k < n → length (f k) ≡ recordSize) → length r ≡ recordSize
+    → at ≡ length a + recordSize * j → sets (a ++ (joined (tabulate n f) ++ c)) at r ≡ a ++ (joined (tabulate n (putAt f j r)) ++ c)
 put-part a c n f j r at h e g p =
     let before = joined (tabulate j f) in
     let after = joined (tabulate (n - suc j) (λ k. f (suc j + k))) in
-    let len : length before ≡ j * 8 = parts-length 8 j f (λ k l. e k (omega arith)) in
+    let len : length before ≡ j * recordSize = parts-length recordSize j f (λ k l. e k (omega arith)) in
     let whole : a ++ (joined (tabulate n f) ++ c) ≡ (a ++ before) ++ (f j ++ (after ++ c)) =
     ap (λ (l : List ℕ). a ++ (l ++ c)) (parts-split n j f h)
     ∙ ap (λ (l : List ℕ). a ++ l) (append-assoc before (f j ++ after) c ∙ ap (λ (l : List ℕ). before ++ l) (append-assoc (f j) after c))
@@ -148,30 +150,31 @@ put-part a c n f j r at h e g p =
 pub record Outputs (out₀ : List ℕ) (n first : ℕ) (out : List ℕ) (j : ℕ) : Type 0 where
   pub few : j ≤ n
   pub room : length out ≡ length out₀
-  pub stored : out ≡ sets out₀ 8 (joined (tabulate j (λ k. leBytes 2 (first + k))))
+  pub stored : out ≡ sets out₀ (outputPlace 0) (joined (tabulate j (λ k. leBytes width (first + k))))
 
 module _ (out₀ : List ℕ) (n first : ℕ) where
   pub outputs-start : Outputs out₀ n first out₀ 0
   unfolding joined
   outputs-start = record { few = omega arith; room = refl; stored = refl }
 
-  pub outputs-more : (out : List ℕ) (j : ℕ) → Outputs out₀ n first out j → j < n → (new : List ℕ) → new ≡ sets out (8 + 2 * j) (leBytes 2 ((first + j) % 65536))
+  pub outputs-more : (out : List ℕ) (j : ℕ) → Outputs out₀ n first out j → j < n → (at : ℕ) → at ≡ outputPlace j → (new : List ℕ)
+      → new ≡ sets out at (leBytes width ((first + j) % 4294967296))
       → Outputs out₀ n first new (j + 1)
-  outputs-more out j k h new e =
-      let f : ℕ → List ℕ = λ k. leBytes 2 (first + k) in
-      let len : length (joined (tabulate j f)) ≡ j * 2 = parts-length 2 j f (λ k h. length-leBytes 2 (first + k)) in
-      let p : 8 + length (joined (tabulate j f)) ≡ 8 + 2 * j = omega arith in
+  outputs-more out j k h at a new e =
+      let f : ℕ → List ℕ = λ k. leBytes width (first + k) in
+      let len : length (joined (tabulate j f)) ≡ j * width = parts-length width j f (λ k h. length-leBytes width (first + k)) in
+      let p : outputPlace 0 + length (joined (tabulate j f)) ≡ outputPlace j = omega arith in
       record {
         few = omega arith;
-        room = ap length e ∙ length-sets out (8 + 2 * j) (leBytes 2 ((first + j) % 65536)) ∙ k .room;
+        room = ap length e ∙ length-sets out at (leBytes width ((first + j) % 4294967296)) ∙ k .room;
         stored =
-            e ∙ ap (sets out (8 + 2 * j)) (leBytes-mod 2 (first + j))
-            ∙ ap (λ (x : List ℕ). sets x (8 + 2 * j) (f j)) (k .stored)
-            ∙ sym (ap (λ (i : ℕ). sets out₀ 8 (joined (tabulate i f))) (add-one j) ∙ ap (sets out₀ 8) (parts-snoc j f) ∙ sets-append (joined (tabulate j f)) (f j) out₀ 8
-            ∙ ap (λ (i : ℕ). sets (sets out₀ 8 (joined (tabulate j f))) i (f j)) p);
+            e ∙ ap₂ (sets out) a (leBytes-mod width (first + j))
+            ∙ ap (λ (x : List ℕ). sets x (outputPlace j) (f j)) (k .stored)
+            ∙ sym (ap (λ (i : ℕ). sets out₀ (outputPlace 0) (joined (tabulate i f))) (add-one j) ∙ ap (sets out₀ (outputPlace 0)) (parts-snoc j f) ∙ sets-append (joined (tabulate j f)) (f j) out₀ (outputPlace 0)
+            ∙ ap (λ (i : ℕ). sets (sets out₀ (outputPlace 0) (joined (tabulate j f))) i (f j)) p);
       }
 
-  pub outputs-all : (out : List ℕ) (j : ℕ) → Outputs out₀ n first out j → n ≤ j → out ≡ sets out₀ 8 (joined (tabulate n (λ k. leBytes 2 (first + k))))
+  pub outputs-all : (out : List ℕ) (j : ℕ) → Outputs out₀ n first out j → n ≤ j → out ≡ sets out₀ (outputPlace 0) (joined (tabulate n (λ k. leBytes width (first + k))))
   outputs-all out j k h =
       let e : j ≡ n = omega (arith, k .few) in
-      k .stored ∙ ap (λ (i : ℕ). sets out₀ 8 (joined (tabulate i (λ k. leBytes 2 (first + k))))) e
+      k .stored ∙ ap (λ (i : ℕ). sets out₀ (outputPlace 0) (joined (tabulate i (λ k. leBytes width (first + k))))) e

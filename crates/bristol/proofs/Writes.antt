@@ -15,12 +15,15 @@ use Rattle.refusal.specs.Outcome.{success, refuses}
 use Rattle.refusal.specs.declared.Refusal.{Refusal}
 use Rattle.bits.specs.Bits.{tabulate}
 use Rattle.bits.specs.Bytes.{leBytes}
+use Rattle.circuit.specs.Building.{front, builds}
+use Rattle.circuit.specs.File.{width}
+use Rattle.circuit.specs.Steps.{outputPlace, recordPlace}
 use Rattle.bristol_text.specs.Text.{Line, lines}
 use Rattle.bristol_text.specs.declared.Cursor.{Cursor}
 use Rattle.bristol.specs.Rules.{GateLine, Text, Reading, refused, says, isKnown, kindOn, gateOn, writes, fitsBelow, lastWire, gateElse22, gateLines}
 use Rattle.bristol.specs.Conversion.{slotOf, firstSlot, fields, recordBytes, joined, headerPart, outputPart, fileOf}
-use Rattle.bristol.specs.Operations.{writtenTo, conversion}
-use Rattle.bristol.specs.Steps.{Begun, HeaderTold, lineOf, gateOf, readAs, gateRead, firstGate, GateAt, Few, gatesAt, refusalOf, gateBefore, gatesFrom, Going, Output, Room, Started, recordsAt, stored, filed}
+use Rattle.bristol.specs.Operations.{conversion}
+use Rattle.bristol.specs.Steps.{Begun, HeaderTold, lineOf, gateOf, readAs, gateRead, firstGate, GateAt, Few, gatesAt, refusalOf, gateBefore, gatesFrom, Going, Output, Room, Started, stored, filed}
 use Rattle.bristol.specs.declared.Gate.{Gate}
 use Rattle.bristol.specs.declared.GateRead.{GateRead}
 use Rattle.bristol.specs.declared.GateRead.the-variants.{Read, Unknown, Malformed}
@@ -126,14 +129,14 @@ module _ (s : List ℕ) (z : Sizes) (out₀ x : List ℕ) where
   module _ (out : List ℕ) (g : Gate) (left at : ℕ) (k : Held s z out₀ x out g left at) where
     -- the record of the gate that is held, with the slot of the next
     pub held-more : 1 ≤ left → (r : GateRead) (next : ℕ) → GateAt s at r next → (h : Gate) → r ≡ Read h → (slot : ℕ) → slot ≡ writes (lineOf h) - z .inputs + 1
-        → (new : List ℕ) → new ≡ sets out (recordsAt (z .outputs) + 8 * (writes (lineOf g) - z .inputs)) (recordBytes (lineOf g) slot)
+        → (new : List ℕ) → new ≡ sets out (recordPlace (z .outputs) (writes (lineOf g) - z .inputs)) (recordBytes (lineOf g) slot)
         → Held s z out₀ x new h (left - 1) next
     unfolding stored firstSlot slotOf
     held-more p r next l h e slot f new q =
         let n = next-line s z left at (k .going) p r next l h e in
         record {
           few = omega (arith, k .few);
-          size = ap length q ∙ length-sets out (recordsAt (z .outputs) + 8 * (writes (lineOf g) - z .inputs)) (recordBytes (lineOf g) slot) ∙ k .size;
+          size = ap length q ∙ length-sets out (recordPlace (z .outputs) (writes (lineOf g) - z .inputs)) (recordBytes (lineOf g) slot) ∙ k .size;
           wire = n .wire;
           going = n .going;
           same =
@@ -142,7 +145,7 @@ module _ (s : List ℕ) (z : Sizes) (out₀ x : List ℕ) where
         }
 
     -- the last record
-    pub held-all : left ≤ 0 → (new : List ℕ) → new ≡ sets out (recordsAt (z .outputs) + 8 * (writes (lineOf g) - z .inputs)) (recordBytes (lineOf g) 0) → new ≡ x
+    pub held-all : left ≤ 0 → (new : List ℕ) → new ≡ sets out (recordPlace (z .outputs) (writes (lineOf g) - z .inputs)) (recordBytes (lineOf g) 0) → new ≡ x
     unfolding stored firstSlot
     held-all p new q =
         let e : left ≡ 0 = omega arith in
@@ -152,7 +155,7 @@ module _ (s : List ℕ) (z : Sizes) (out₀ x : List ℕ) where
 
 -- the stores of a header, the output wires and the records
 unfoldable wholeOf : ℕ → ℕ → ℕ → ℕ → List GateLine → List ℕ → List ℕ
-wholeOf I O G head gs out = stored I O gs (sets (sets out 0 (fields I O G head)) 8 (joined (tabulate O (λ k. leBytes 2 (I + G - O + k)))))
+wholeOf I O G head gs out = stored I O gs (sets (sets out 0 (fields I O G head)) (outputPlace 0) (joined (tabulate O (λ k. leBytes width (I + G - O + k)))))
 
 record SaysSome (x : Reading) : Type 0 where
   text : Text
@@ -190,8 +193,8 @@ module _ (s : List ℕ) (z : Sizes) (at : ℕ) (few : Few z) where
     unfolding gatesAt
     same-gates = gates-from (z .inputs) (z .outputs) (z .gates) t (z .gates) [] (lines (drop at s)) e
 
-    text-stored : (out : List ℕ) (head : ℕ) → recordsAt (z .outputs) + 8 * z .gates ≤ length out → head ≡ firstSlot (z .inputs) (gatesFrom (lines (drop at s)))
-        → wholeOf (z .inputs) (z .outputs) (z .gates) head (gatesFrom (lines (drop at s))) out ≡ fileOf t ++ drop (length (fileOf t)) out
+    text-stored : (out : List ℕ) (head : ℕ) → recordPlace (z .outputs) (z .gates) ≤ length out → head ≡ firstSlot (z .inputs) (gatesFrom (lines (drop at s)))
+        → wholeOf (z .inputs) (z .outputs) (z .gates) head (gatesFrom (lines (drop at s))) out ≡ front (fileOf t) out
     unfolding wholeOf headerPart outputPart lastWire
     text-stored out head room h =
         let a = inputs-are in
@@ -207,7 +210,7 @@ module _ (s : List ℕ) (z : Sizes) (at : ℕ) (few : Few z) where
     unfolding gatesAt
     going-start = record { above = []; good = good }
 
-    all-filed : (out : List ℕ) (head : ℕ) → recordsAt (z .outputs) + 8 * z .gates ≤ length out → head ≡ firstSlot (z .inputs) (gatesFrom (lines (drop at s)))
+    all-filed : (out : List ℕ) (head : ℕ) → recordPlace (z .outputs) (z .gates) ≤ length out → head ≡ firstSlot (z .inputs) (gatesFrom (lines (drop at s)))
         → wholeOf (z .inputs) (z .outputs) (z .gates) head (gatesFrom (lines (drop at s))) out ≡ filed (gatesAt s z at) out
     unfolding filed
     all-filed out head room h =
@@ -215,8 +218,8 @@ module _ (s : List ℕ) (z : Sizes) (at : ℕ) (few : Few z) where
         text-stored (k .text) (k .same) out head room h ∙ sym (ap (λ (x : Reading). filed x out) (k .same))
 
     -- a text without gates
-    pub filed-none : (out : List ℕ) → recordsAt (z .outputs) + 8 * z .gates ≤ length out → z .gates ≡ 0
-        → sets (sets out 0 (fields (z .inputs) (z .outputs) (z .gates) 0)) 8 (joined (tabulate (z .outputs) (λ k. leBytes 2 (z .inputs + z .gates - z .outputs + k)))) ≡ filed (gatesAt s z at) out
+    pub filed-none : (out : List ℕ) → recordPlace (z .outputs) (z .gates) ≤ length out → z .gates ≡ 0
+        → sets (sets out 0 (fields (z .inputs) (z .outputs) (z .gates) 0)) (outputPlace 0) (joined (tabulate (z .outputs) (λ k. leBytes width (z .inputs + z .gates - z .outputs + k)))) ≡ filed (gatesAt s z at) out
     unfolding wholeOf stored firstSlot gatesAt
     filed-none out room e =
         let ls = lines (drop at s) in
@@ -227,32 +230,32 @@ module _ (s : List ℕ) (z : Sizes) (at : ℕ) (few : Few z) where
         ∙ all-filed out 0 room (sym (ap (firstSlot (z .inputs)) none-left))
 
     -- a text with gates, of which g is the first
-    pub filed-some : (out : List ℕ) → recordsAt (z .outputs) + 8 * z .gates ≤ length out → (left next : ℕ) (g : Gate) → Next s z left at next g
+    pub filed-some : (out : List ℕ) → recordPlace (z .outputs) (z .gates) ≤ length out → (left next : ℕ) (g : Gate) → Next s z left at next g
         → (slot : ℕ) → slot ≡ writes (lineOf g) - z .inputs + 1
         → stored (z .inputs) (z .outputs) (lineOf g ∷ gatesFrom (lines (drop next s)))
-        (sets (sets out 0 (fields (z .inputs) (z .outputs) (z .gates) slot)) 8 (joined (tabulate (z .outputs) (λ k. leBytes 2 (z .inputs + z .gates - z .outputs + k))))) ≡ filed (gatesAt s z at) out
+        (sets (sets out 0 (fields (z .inputs) (z .outputs) (z .gates) slot)) (outputPlace 0) (joined (tabulate (z .outputs) (λ k. leBytes width (z .inputs + z .gates - z .outputs + k))))) ≡ filed (gatesAt s z at) out
     unfolding wholeOf firstSlot slotOf
     filed-some out room left next g n slot f =
         sym (ap (λ (gs : List GateLine). wholeOf (z .inputs) (z .outputs) (z .gates) slot gs out) (n .gates))
         ∙ all-filed out slot room (f ∙ sym (ap (firstSlot (z .inputs)) (n .gates)))
 
-    file-size : (t : Text) → gatesAt s z at ≡ says t → length (fileOf t) ≡ recordsAt (z .outputs) + 8 * z .gates
+    file-size : (t : Text) → gatesAt s z at ≡ says t → length (fileOf t) ≡ recordPlace (z .outputs) (z .gates)
     file-size t e = omega (arith, file-length t (sizes-accepted t e), outputs-are t e, gates-are t e)
 
     -- an output that is too short, and one that is long enough
-    pub convert-short : (out : List ℕ) → length out < recordsAt (z .outputs) + 8 * z .gates → refuses 6 (out ∷ []) ≡ conversion (gatesAt s z at) out
-    unfolding conversion
+    pub convert-short : (out : List ℕ) → length out < recordPlace (z .outputs) (z .gates) → refuses 6 (out ∷ []) ≡ conversion (gatesAt s z at) out
+    unfolding conversion builds
     convert-short out h =
         let k = some-text (gatesAt s z at) good in
         sym (ap (λ (x : Reading). conversion x out) (k .same) ∙ rw (lt-leb (length (fileOf (k .text))) (length out) (omega (arith, file-size (k .text) (k .same)))))
 
-    pub convert-long : (out : List ℕ) → recordsAt (z .outputs) + 8 * z .gates ≤ length out → (new : List ℕ) → new ≡ filed (gatesAt s z at) out
-        → record { answer = success ((recordsAt (z .outputs) + 8 * z .gates) ∷ []); left = new ∷ [] } ≡ conversion (gatesAt s z at) out
-    unfolding conversion writtenTo filed
-    convert-long out h new e =
+    pub convert-long : (out : List ℕ) → recordPlace (z .outputs) (z .gates) ≤ length out → (size : ℕ) → size ≡ recordPlace (z .outputs) (z .gates) → (new : List ℕ)
+        → new ≡ filed (gatesAt s z at) out → record { answer = success (size ∷ []); left = new ∷ [] } ≡ conversion (gatesAt s z at) out
+    unfolding conversion builds filed
+    convert-long out h size p new e =
         let k = some-text (gatesAt s z at) good in
-        let n : length (fileOf (k .text)) ≡ recordsAt (z .outputs) + 8 * z .gates = file-size (k .text) (k .same) in
-        let f : new ≡ fileOf (k .text) ++ drop (length (fileOf (k .text))) out = e ∙ ap (λ (x : Reading). filed x out) (k .same) in
+        let n : length (fileOf (k .text)) ≡ size = file-size (k .text) (k .same) ∙ sym p in
+        let f : new ≡ front (fileOf (k .text)) out = e ∙ ap (λ (x : Reading). filed x out) (k .same) in
         let l : leb (length (fileOf (k .text))) (length out) ≡ true = le-leb (length (fileOf (k .text))) (length out) (omega arith) in
         sym (ap (λ (x : Reading). conversion x out) (k .same) ∙ rw (l, f, n))
 

@@ -58,5 +58,5 @@ pub record Cases : Type 0 where
   pub wires-first : readText (counts ++ LF ∷ 49 ∷ 32 ∷ 48 ∷ LF ∷ []) ≡ refused 22
   -- 23 before 22: another kind on a line with a malformed number and no LF, "x EQ"
   pub kind-first : readText (headed (120 ∷ 32 ∷ 69 ∷ 81 ∷ [])) ≡ refused 23
-  -- 24: 5,000 gates, "5000 1"
-  pub gates-above : readText (53 ∷ 48 ∷ 48 ∷ 48 ∷ 32 ∷ 49 ∷ LF ∷ []) ≡ refused 24
+  -- 24: 100,001 gates, "100001 1"
+  pub gates-above : readText (49 ∷ 48 ∷ 48 ∷ 48 ∷ 48 ∷ 49 ∷ 32 ∷ 49 ∷ LF ∷ []) ≡ refused 24

@@ -12,6 +12,7 @@ use Rattle.bits.specs.Bits.{tabulate}
 use Rattle.bits.specs.Bytes.{leBytes}
 use Rattle.circuit.specs.Circuit as paper
 use Rattle.circuit.specs.File as file
+use Rattle.circuit.specs.File.{width}
 use Rattle.bristol.specs.Rules.{GateLine, xor, and, inv, Text, says, writes, lastWire, outputWires, meaning, readText}
 
 -- a gate line as a gate of our circuits
@@ -32,11 +33,11 @@ unfoldable pub firstSlot : ℕ → List GateLine → ℕ
 firstSlot I [] = 0
 firstSlot I (g ∷ gs) = slotOf I g
 
--- four fields of a circuit file, u16 each
+-- four fields of a circuit file: "All circuit file fields become u32"
 unfoldable pub fields : ℕ → ℕ → ℕ → ℕ → List ℕ
-fields a b c d = leBytes 2 a ++ (leBytes 2 b ++ (leBytes 2 c ++ leBytes 2 d))
+fields a b c d = leBytes width a ++ (leBytes width b ++ (leBytes width c ++ leBytes width d))
 
--- "kind u8 (1 XOR, 2 AND, 3 INV), zero u8, wires a and b (u16), next (u16, ..)": kind and zero are the two bytes of the kind
+-- "record 16 bytes: kind, a, b, next", the kind 1 for XOR, 2 for AND, 3 for INV
 unfoldable pub recordBytes : GateLine → ℕ → List ℕ
 recordBytes (xor a b c) next = fields 1 a b next
 recordBytes (and a b c) next = fields 2 a b next
@@ -45,7 +46,7 @@ recordBytes (inv a c) next = fields 3 a 0 next
 -- the record of the gate that writes wire w, and there always is one; its link leads to the gate on the next line: "the chain
 -- follows the text"
 unfoldable pub recordFor : ℕ → ℕ → List GateLine → List ℕ
-recordFor I w [] = leBytes 8 0
+recordFor I w [] = fields 0 0 0 0
 recordFor I w (g ∷ gs) = cond (eqb w (writes g)) (recordBytes g (firstSlot I gs)) (recordFor I w gs)
 
 -- the parts in order
@@ -53,12 +54,12 @@ unfoldable pub joined : List (List ℕ) → List ℕ
 joined [] = []
 joined (p ∷ ps) = p ++ joined ps
 
--- "Header: I, O, G, head (u16 each)", "then O output wire numbers (u16)", then the records in slot order
+-- "Header: I, O, G, head", "then O output wire numbers", then the records in slot order
 unfoldable pub headerPart : Text → List ℕ
 headerPart t = fields (t .inputs) (t .outputs) (length (t .gates)) (firstSlot (t .inputs) (t .gates))
 
 unfoldable pub outputPart : Text → List ℕ
-outputPart t = joined (tabulate (t .outputs) (λ j. leBytes 2 (lastWire t j)))
+outputPart t = joined (tabulate (t .outputs) (λ j. leBytes width (lastWire t j)))
 
 unfoldable pub recordPart : Text → List ℕ
 recordPart t = joined (tabulate (length (t .gates)) (λ j. recordFor (t .inputs) (t .inputs + j) (t .gates)))

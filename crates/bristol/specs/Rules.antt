@@ -172,7 +172,7 @@ inputLine G wires (l ∷ ls) =
     (cond (not (leb 1 (groupSum l) && leb (groupSum l) maxInputs)) (refused 24)
     (outputLine (groupSum l) G ls))
 
--- line 1: 22 malformed; 24 G above 4,096
+-- line 1: 22 malformed; 24 G above 100,000
 unfoldable pub countLine : List Line → Reading
 countLine [] = refused 22
 countLine (l ∷ ls) =

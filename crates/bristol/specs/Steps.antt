@@ -10,7 +10,10 @@ use lib.ListN.{length, getD, drop}
 use lib.Seq.{sets}
 use Rattle.refusal.specs.Refusal.{numberOf}
 use Rattle.bristol_text.specs.Text.{Line, lines, allNumbers, valueOf, sum}
+use Rattle.bits.specs.Bits.{bitVal, bitAt}
+use Rattle.circuit.specs.Building.{front}
 use Rattle.circuit.specs.File.{maxInputs, maxOutputs, maxGates}
+use Rattle.circuit.specs.Steps.{recordPlace}
 use Rattle.bristol.specs.Rules.{GateLine, xor, and, inv, Reading, refused, says, numbersOn, isCounts, isGroups, groupSum, kindOn, isKnown, gateOn, writes, gateLines}
 use Rattle.bristol.specs.Conversion.{firstSlot, recordBytes, fileOf}
 use Rattle.bristol.specs.declared.Counts.{Counts}
@@ -140,11 +143,11 @@ pub record GateAt (s : List ℕ) (at : ℕ) (r : GateRead) (next : ℕ) : Type 0
 
 -- the tests on a gate line's wires, where the flagged wires are written
 unfoldable pub flagged : List ℕ → ℕ → Bool
-flagged flags w = eqb (getD flags w 0) 1
+flagged flags w = bitAt flags w
 
 -- where a wire is written, on a line that writes wire c: 0 nowhere yet, 1 above, 2 here
 unfoldable pub writtenOn : List ℕ → ℕ → ℕ → ℕ
-writtenOn flags c w = cond (eqb w c) 2 (getD flags w 0)
+writtenOn flags c w = cond (eqb w c) 2 (bitVal (bitAt flags w))
 
 unfoldable pub mayRead : ℕ → List ℕ → ℕ → ℕ → Bool
 mayRead I flags c w = ltb w I || eqb (writtenOn flags c w) 1
@@ -203,14 +206,10 @@ pub record Output (z : Sizes) (w : ℕ) : Type 0 where
   pub low : z .inputs ≤ w
   pub high : w < z .inputs + z .gates
 
--- where the records start
-abbrev pub recordsAt : ℕ → ℕ
-recordsAt O = 8 + 2 * O
-
 -- a buffer with room for the file
 pub record Room (z : Sizes) (out : List ℕ) : Type 0 where
   pub few : Few z
-  pub room : recordsAt (z .outputs) + 8 * z .gates ≤ length out
+  pub room : recordPlace (z .outputs) (z .gates) ≤ length out
 
 -- a gate, and good lines from a place on with all the others
 pub record Started (s : List ℕ) (z : Sizes) (at w : ℕ) (out : List ℕ) : Type 0 where
@@ -222,9 +221,9 @@ pub record Started (s : List ℕ) (z : Sizes) (at w : ℕ) (out : List ℕ) : Ty
 -- the records of gate lines, stored one after the other
 unfoldable pub stored : ℕ → ℕ → List GateLine → List ℕ → List ℕ
 stored I O [] out = out
-stored I O (g ∷ gs) out = stored I O gs (sets out (recordsAt O + 8 * (writes g - I)) (recordBytes g (firstSlot I gs)))
+stored I O (g ∷ gs) out = stored I O gs (sets out (recordPlace O (writes g - I)) (recordBytes g (firstSlot I gs)))
 
 -- the file of what is read, at the front of a buffer
 unfoldable pub filed : Reading → List ℕ → List ℕ
 filed (refused k) out = out
-filed (says t) out = fileOf t ++ drop (length (fileOf t)) out
+filed (says t) out = front (fileOf t) out

@@ -12,6 +12,7 @@ use crate::heading::read_header;
 use crate::walk::check_gates;
 use crate::writing::write_file;
 use bristol_text::Cursor;
+use circuit::records::record_place;
 use refusal::Refusal;
 
 // Writes the file of a text whose lines are all good, if the output is long enough.
@@ -19,7 +20,7 @@ fn convert_good(text: &[u8], z: Sizes, c: Cursor, out: &mut [u8]) -> Answer
     requires { ⌜ Few z × (refusalOf (gatesAt (now text) z (c .at)) ≡ none) ⌝ }
     ensures { λ r. ⌜ outcome r (now (out .exit)) ≡ conversion (gatesAt (now (text .entry)) z (c .at)) (now (out .entry)) ⌝ }
 {
-    let size = 8 + 2 * z.outputs + 8 * z.gates;
+    let size = record_place(z.outputs, z.gates);
     if out.len() < size {
         return Answer::Refused(Refusal::BufferLength);
     }

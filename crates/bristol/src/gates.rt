@@ -5,7 +5,7 @@ ghost use Prim.Native.Nat.{_≤_};
 ghost use lib.ListN.{length};
 ghost use Rattle.bits.specs.Bytes.{sameBytes};
 ghost use Rattle.circuit.specs.File.{maxInputs, maxGates};
-ghost use Rattle.circuit.specs.Steps.{maxWires};
+ghost use Rattle.circuit.specs.Steps.{wireBytes};
 ghost use Rattle.bristol.specs.Rules.{kindNamed, kindOn, writes};
 ghost use Rattle.bristol.specs.Steps.{lineOf, gateRead, gateFrom, startsWith, kindFinding, formFinding, firstOf, GateAt, writtenOn, mayRead, mayWrite, fitsFlags};
 use crate::Finding;
@@ -19,6 +19,7 @@ use bristol_text::last_token;
 use bristol_text::next_line;
 use bristol_text::read_fields;
 use circuit::MAX_WIRES;
+use circuit::WIRE_BYTES;
 
 // Whether three bytes are three others.
 fn same3(a: u8, b: u8, c: u8, x: u8, y: u8, z: u8) -> bool
@@ -178,22 +179,22 @@ pub(crate) fn output_wire(g: Gate) -> usize
 }
 
 // Where a wire is written, on a line that writes wire `own`: 0 for nowhere yet, 1 for a line above, 2 for this line.
-fn written_on(flags: &[u8; MAX_WIRES], own: usize, wire: usize) -> u8
-    requires { ⌜ length (now flags) ≡ maxWires ⌝ }
+fn written_on(flags: &[u8; WIRE_BYTES], own: usize, wire: usize) -> u8
+    requires { ⌜ length (now flags) ≡ wireBytes ⌝ }
     ensures { λ r. ⌜ r ≡ writtenOn (now (flags .entry)) own wire ⌝ }
 {
     if wire == own {
         return 2;
     }
     if wire < MAX_WIRES {
-        return flags[wire];
+        return bits::bit(flags, wire);
     }
     0
 }
 
 // Whether a wire is an input or written on a line above, on a line that writes wire `own`.
-fn may_read(flags: &[u8; MAX_WIRES], inputs: usize, own: usize, wire: usize) -> bool
-    requires { ⌜ length (now flags) ≡ maxWires ⌝ }
+fn may_read(flags: &[u8; WIRE_BYTES], inputs: usize, own: usize, wire: usize) -> bool
+    requires { ⌜ length (now flags) ≡ wireBytes ⌝ }
     ensures { λ r. ⌜ r ≡ mayRead inputs (now (flags .entry)) own wire ⌝ }
 {
     if wire < inputs {
@@ -203,22 +204,22 @@ fn may_read(flags: &[u8; MAX_WIRES], inputs: usize, own: usize, wire: usize) -> 
 }
 
 // Whether a wire is no input, and its flag is not set.
-fn may_write(flags: &[u8; MAX_WIRES], inputs: usize, gates: usize, wire: usize) -> bool
-    requires { ⌜ (length (now flags) ≡ maxWires) × ((inputs ≤ maxInputs) × (gates ≤ maxGates)) ⌝ }
+fn may_write(flags: &[u8; WIRE_BYTES], inputs: usize, gates: usize, wire: usize) -> bool
+    requires { ⌜ (length (now flags) ≡ wireBytes) × ((inputs ≤ maxInputs) × (gates ≤ maxGates)) ⌝ }
     ensures { λ r. ⌜ r ≡ mayWrite inputs gates (now (flags .entry)) wire ⌝ }
 {
     if wire < inputs {
         return false;
     }
     if wire < inputs + gates {
-        return flags[wire] != 1;
+        return bits::bit(flags, wire) != 1;
     }
     false
 }
 
 // Whether a gate reads only inputs or wires written above, and writes another wire that is not written yet.
-pub(crate) fn fits(flags: &[u8; MAX_WIRES], inputs: usize, gates: usize, g: Gate) -> bool
-    requires { ⌜ (length (now flags) ≡ maxWires) × ((inputs ≤ maxInputs) × (gates ≤ maxGates)) ⌝ }
+pub(crate) fn fits(flags: &[u8; WIRE_BYTES], inputs: usize, gates: usize, g: Gate) -> bool
+    requires { ⌜ (length (now flags) ≡ wireBytes) × ((inputs ≤ maxInputs) × (gates ≤ maxGates)) ⌝ }
     ensures { λ r. ⌜ r ≡ fitsFlags inputs gates (now (flags .entry)) (lineOf g) ⌝ }
 {
     match g {

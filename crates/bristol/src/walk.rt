@@ -1,7 +1,7 @@
 // The walk over the gate lines, which tests them in their order.
 ghost use mathlib.Core.Path.{_≡_};
 ghost use lib.ListN.{length};
-ghost use Rattle.circuit.specs.Steps.{maxWires};
+ghost use Rattle.circuit.specs.Steps.{wireBytes};
 ghost use Rattle.bristol.specs.Steps.{Few, LineTold, verdict, refusalOf, gatesAt};
 use crate::Check;
 use crate::GateRead;
@@ -12,12 +12,12 @@ use crate::gates::next_gate;
 use crate::gates::output_wire;
 use bristol_text::Cursor;
 use bristol_text::next_line;
-use circuit::MAX_WIRES;
+use circuit::WIRE_BYTES;
 use refusal::Refusal;
 
 // Tests the next line as a gate line below those whose wires are flagged.
-fn check_line(s: &[u8], z: Sizes, c: Cursor, flags: &[u8; MAX_WIRES]) -> LineCheck
-    requires { ⌜ (length (now flags) ≡ maxWires) × Few z ⌝ }
+fn check_line(s: &[u8], z: Sizes, c: Cursor, flags: &[u8; WIRE_BYTES]) -> LineCheck
+    requires { ⌜ (length (now flags) ≡ wireBytes) × Few z ⌝ }
     ensures { λ r. ⌜ LineTold (now (s .entry)) z (c .at) (now (flags .entry)) r ⌝ }
 {
     let line = next_gate(s, c);
@@ -41,7 +41,7 @@ pub(crate) fn check_gates(s: &[u8], z: Sizes, c: Cursor) -> Check
     requires { ⌜ Few z ⌝ }
     ensures { λ r. ⌜ verdict r ≡ refusalOf (gatesAt (now (s .entry)) z (c .at)) ⌝ }
 {
-    let mut flags = [0u8; MAX_WIRES];
+    let mut flags = [0u8; WIRE_BYTES];
     let mut left = z.gates;
     let mut at = c.at;
     while 0 < left {
@@ -51,7 +51,7 @@ pub(crate) fn check_gates(s: &[u8], z: Sizes, c: Cursor) -> Check
                 return Check::Refused(k);
             }
             LineCheck::Writes(wire, next) => {
-                flags[wire] = 1;
+                bits::put_bit(&mut flags, wire, 1);
                 at = next.at;
             }
         }

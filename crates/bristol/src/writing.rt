@@ -8,37 +8,42 @@ ghost use lib.Seq.{sets};
 ghost use Rattle.bits.specs.Bits.{tabulate};
 ghost use Rattle.bits.specs.Bytes.{leBytes};
 ghost use Rattle.bristol_text.specs.Text.{lines};
+ghost use Rattle.circuit.specs.File.{width};
+ghost use Rattle.circuit.specs.Steps.{recordSize, outputPlace, recordPlace};
 ghost use Rattle.bristol.specs.Rules.{writes};
 ghost use Rattle.bristol.specs.Conversion.{fields, joined, recordBytes};
-ghost use Rattle.bristol.specs.Steps.{lineOf, gatesFrom, gatesAt, refusalOf, Output, Room, Started, recordsAt, stored, filed};
+ghost use Rattle.bristol.specs.Steps.{lineOf, gatesFrom, gatesAt, refusalOf, Output, Room, Started, stored, filed};
 use crate::Gate;
 use crate::GateRead;
 use crate::Sizes;
 use crate::gates::next_gate;
 use crate::gates::output_wire;
 use bristol_text::Cursor;
+use circuit::WIDTH;
+use circuit::records::output_place;
+use circuit::records::record_place;
 
 // Writes four fields.
 fn write_fields(out: &mut [u8], at: usize, a: usize, b: usize, c: usize, d: usize)
-    requires { ⌜ at + 8 ≤ length (now out) ⌝ }
+    requires { ⌜ at + recordSize ≤ length (now out) ⌝ }
     ensures { λ _. ⌜ now (out .exit) ≡ sets (now (out .entry)) at (fields a b c d) ⌝ }
 {
-    bits::write_u16(out, at, (a % 65536) as u16);
-    bits::write_u16(out, at + 2, (b % 65536) as u16);
-    bits::write_u16(out, at + 4, (c % 65536) as u16);
-    bits::write_u16(out, at + 6, (d % 65536) as u16);
+    bits::write_u32(out, at, (a % 4294967296) as u32);
+    bits::write_u32(out, at + WIDTH, (b % 4294967296) as u32);
+    bits::write_u32(out, at + 2 * WIDTH, (c % 4294967296) as u32);
+    bits::write_u32(out, at + 3 * WIDTH, (d % 4294967296) as u32);
 }
 
 // Writes the numbers of the output wires, which are the last wires.
 fn write_outputs(out: &mut [u8], z: Sizes)
     requires { ⌜ Room z (now out) ⌝ }
-    ensures { λ _. ⌜ now (out .exit) ≡ sets (now (out .entry)) 8 (joined (tabulate (z .outputs) (λ k. leBytes 2 (z .inputs + z .gates - z .outputs + k)))) ⌝ }
+    ensures { λ _. ⌜ now (out .exit) ≡ sets (now (out .entry)) (outputPlace 0) (joined (tabulate (z .outputs) (λ k. leBytes width (z .inputs + z .gates - z .outputs + k)))) ⌝ }
 {
     let n = z.outputs;
     let first = z.inputs + z.gates - z.outputs;
     let mut j = 0;
     while j < n {
-        bits::write_u16(out, 8 + 2 * j, ((first + j) % 65536) as u16);
+        bits::write_u32(out, output_place(j), ((first + j) % 4294967296) as u32);
         j += 1;
     }
 }
@@ -46,9 +51,9 @@ fn write_outputs(out: &mut [u8], z: Sizes)
 // Writes the record of a gate, whose link is `next`.
 fn write_record(out: &mut [u8], z: Sizes, g: Gate, next: usize)
     requires { ⌜ Room z (now out) × Output z (writes (lineOf g)) ⌝ }
-    ensures { λ _. ⌜ now (out .exit) ≡ sets (now (out .entry)) (recordsAt (z .outputs) + 8 * (writes (lineOf g) - z .inputs)) (recordBytes (lineOf g) next) ⌝ }
+    ensures { λ _. ⌜ now (out .exit) ≡ sets (now (out .entry)) (recordPlace (z .outputs) (writes (lineOf g) - z .inputs)) (recordBytes (lineOf g) next) ⌝ }
 {
-    let at = 8 + 2 * z.outputs + 8 * (output_wire(g) - z.inputs);
+    let at = record_place(z.outputs, output_wire(g) - z.inputs);
     match g {
         Gate::Xor(a, b, _) => write_fields(out, at, 1, a, b, next),
         Gate::And(a, b, _) => write_fields(out, at, 2, a, b, next),

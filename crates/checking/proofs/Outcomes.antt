@@ -3,10 +3,10 @@
 use mathlib.Core.Path.{_≡_, sym, ap, ap₂, _∙_}
 use mathlib.Core.Bool.{Bool, true, false, not, _&&_}
 use mathlib.Core.List.{List, []}
-use Prim.Native.Nat.{ℕ}
+use Prim.Native.Nat.{ℕ, _+_, _*_, _≤_, _<_}
 use borrow.Author.Tests.{eqb-true, leb-true}
 use lib.Dec.{eqb, leb}
-use lib.ListN.{length}
+use lib.ListN.{length, replicate}
 use Rattle.instance.specs.Steps.{Tree}
 use Rattle.mpc.specs.Steps.{Known}
 use Rattle.bits.specs.Bits.{oct, unusedZero}
@@ -15,14 +15,15 @@ use Rattle.refusal.specs.Refusal.{numberOf}
 use Rattle.refusal.specs.declared.Refusal.{Refusal}
 use Rattle.refusal.specs.Outcome.{Outcome, refuses}
 use Rattle.parties.specs.Parties.{heightOf, isPartyCount}
-use Rattle.circuit.specs.File.{circuitOf, Reading, legal, readCircuit}
-use Rattle.circuit.specs.Operations.{readOp, holds, onLegal}
+use Rattle.circuit.specs.File.{circuitOf, legal, readCircuit}
+use Rattle.circuit.specs.Operations.{readOp, holds, leaving}
 use Rattle.circuit.specs.Answers.{readPaper}
 use Rattle.circuit.specs.declared.Sizes.{Sizes}
 use Rattle.circuit.specs.declared.ReadAnswer.{ReadAnswer}
 use Rattle.circuit.specs.declared.ReadAnswer.the-variants as readAnswer
 use Rattle.circuit.proofs.Answered.{fell, held}
-use Rattle.mpc.proofs.Opened.{sized, opened-refused, opened-legal, circuit-outputs}
+use Rattle.mpc.proofs.Opened.{sized, circuit-outputs}
+use Rattle.mpc.proofs.Lent.{work-refused, work-short, work-left}
 use Rattle.proof.specs.Protocol.{statementOf, challenged}
 use Rattle.proof.specs.File.{headerM, headerTau, headerN, headerHstar, goodHeader}
 use Rattle.proof.specs.Check.{checkProof, checkLegal, checkOp}
@@ -90,13 +91,19 @@ module _ (s : List ℕ) (i o g a : ℕ) (k : Known s (sized i o g a)) (y message
             ∙ rw (held _ b2 lengths-right t2, held _ b3 unused-right t3, held _ b4 e4 t4)
 
 -- the file is read first
-module _ (s y message proof : List ℕ) (r : ReadAnswer) (e : readPaper r ≡ readOp s) where
+module _ (s y message proof work : List ℕ) (r : ReadAnswer) (e : readPaper r ≡ readOp s) where
   -- a refused file
-  pub check-refused : (k : Refusal) {slot : ℕ} → r ≡ readAnswer.Refused k slot → refuses (numberOf k) [] ≡ checkOp s y message proof
+  pub check-refused : (k : Refusal) {slot : ℕ} → r ≡ readAnswer.Refused k slot → leaving (refuses (numberOf k) []) work ≡ checkOp s y message proof work
   unfolding checkOp
-  check-refused k p = sym (ap (λ (x : Reading). onLegal x [] (checkLegal s y message proof)) (opened-refused s k r p e))
+  check-refused k p = work-refused s [] work (checkLegal s y message proof) r e k p
 
-  -- a legal file
-  pub check-read : (z : Sizes) → r ≡ readAnswer.Legal z → checkLegal s y message proof (circuitOf s) ≡ checkOp s y message proof
-  unfolding checkOp
-  check-read z p = sym (ap (λ (x : Reading). onLegal x [] (checkLegal s y message proof)) (opened-legal s z r p e))
+  -- then the work buffer is tested
+  module _ (z : Sizes) (p : r ≡ readAnswer.Legal z) (need : ℕ) (q : need ≡ 64 * (z .inputs + z .gates) + 4096) where
+    pub check-short : length work < need → leaving (refuses 6 []) work ≡ checkOp s y message proof work
+    unfolding checkOp
+    check-short l = work-short s [] work (checkLegal s y message proof) r e z p need q l
+
+    pub check-left : need ≤ length work → (o : Outcome) → o ≡ checkLegal s y message proof (circuitOf s)
+        → (x : List ℕ) → x ≡ replicate (length work) 0 → leaving o x ≡ checkOp s y message proof work
+    unfolding checkOp
+    check-left l o t x u = work-left s [] work (checkLegal s y message proof) r e z p need q l o t x u

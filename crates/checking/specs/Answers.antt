@@ -12,6 +12,6 @@ abbrev pub paper : Answer → outcomes.Answer
 paper Accepted = success []
 paper (Refused k) = refusal (numberOf k)
 
--- the answer; check is lent no buffer to fill
+-- the answer; check is lent no buffer to fill but its work buffer
 abbrev pub outcome : Answer → Outcome
 outcome r = record { answer = paper r; left = [] }

@@ -3,6 +3,7 @@ ghost use mathlib.Core.Path.{_≡_};
 ghost use Prim.Native.Nat.{suc, _+_, _*_, _^_, _≤_};
 ghost use lib.ListN.{length};
 ghost use Rattle.circuit.specs.File.{readCircuit, legal, circuitOf};
+ghost use Rattle.circuit.specs.Operations.{leaving};
 ghost use Rattle.masks.specs.Steps.{wireCount};
 ghost use Rattle.mpc.specs.Steps.{Known};
 ghost use Rattle.cover.specs.Masters.{height as «height-of»};
@@ -16,11 +17,13 @@ ghost use Rattle.checking.specs.Steps.{Headed};
 mod unused_bits;
 mod verifying;
 
+use bits::clear;
 use circuit::ReadAnswer;
 use circuit::Sizes;
 use circuit::reading::read;
 use cover::height;
 use cover::regrow;
+use mpc::lending::work_bytes;
 use mpc::tests::both;
 use mpc::tests::holds;
 use proof::Counts;
@@ -164,22 +167,21 @@ fn check_lent(
     check_from(s, z, k, y, message, proof, memory)
 }
 
-// The same with a work memory of its own.
-fn check_own(s: &[u8], z: Sizes, y: &[u8], message: &[u8], proof: &[u8]) -> Answer
-    requires { ⌜ (readCircuit (now s) ≡ legal (circuitOf (now s))) × Known (now s) z ⌝ }
-    ensures { λ r. ⌜ outcome r ≡ checkLegal (now (s .entry)) (now (y .entry)) (now (message .entry)) (now (proof .entry)) (circuitOf (now (s .entry))) ⌝ }
-{
-    let mut memory = [0u8; 299008];
-    check_lent(s, z, y, message, proof, &mut memory)
-}
-
-// Checks a proof that the circuit gives y on some witness, under the message.
-pub fn check(s: &[u8], y: &[u8], message: &[u8], proof: &[u8]) -> Answer
-    ensures { λ r. ⌜ outcome r ≡ checkOp (now (s .entry)) (now (y .entry)) (now (message .entry)) (now (proof .entry)) ⌝ }
+// Checks a proof that the circuit gives y on some witness, under the message. The work buffer is left all zero, but for a refusal up to
+// its test.
+pub fn check(s: &[u8], y: &[u8], message: &[u8], proof: &[u8], work: &mut [u8]) -> Answer
+    ensures { λ r. ⌜ leaving (outcome r) (now (work .exit)) ≡ checkOp (now (s .entry)) (now (y .entry)) (now (message .entry)) (now (proof .entry)) (now (work .entry)) ⌝ }
 {
     let answer = read(s);
     match answer {
         ReadAnswer::Refused(k, _) => Answer::Refused(k),
-        ReadAnswer::Legal(z) => check_own(s, z, y, message, proof),
+        ReadAnswer::Legal(z) => {
+            if work.len() < work_bytes(z) {
+                return Answer::Refused(Refusal::BufferLength);
+            }
+            let ended = check_lent(s, z, y, message, proof, work);
+            clear(work);
+            ended
+        }
     }
 }

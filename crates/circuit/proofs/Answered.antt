@@ -52,7 +52,7 @@ pub gates-count : (s : List ℕ) → length (gatesInOrder s) ≡ gatesOf s
 gates-count s = count-gates (fieldsOf s)
 
 -- a test that stands before a legal reading has not refused
-not-refused : (a : Bool) (k : ℕ) (x : Reading) (c : Circuit) → cond a (refused k 0) x ≡ legal c → (a ≡ false) × (x ≡ legal c)
+pub not-refused : (a : Bool) (k : ℕ) (x : Reading) (c : Circuit) → cond a (refused k 0) x ≡ legal c → (a ≡ false) × (x ≡ legal c)
 not-refused true k x c e = absurd (let z : _≡_ {A = ℕ} 0 1 = cc in omega arith)
 not-refused false k x c e = (refl, e)
 

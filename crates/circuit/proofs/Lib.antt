@@ -3,6 +3,7 @@ pub mod Answered
 pub mod Chain
 pub mod Faults
 pub mod Outcomes
+pub mod Places
 pub mod Readings
 pub mod Run
 pub mod Slots

@@ -3,7 +3,7 @@
 use mathlib.Core.Path.{_≡_, refl, sym, ap, ap₂, subst, _∙_, fun-ext}
 use mathlib.Core.Bool.{Bool, true, false, cond, _&&_, _||_}
 use mathlib.Core.List.{List, [], _∷_}
-use mathlib.Core.Logic.{inl, ⊎-elim, _≢_}
+use mathlib.Core.Logic.{inr, ⊎-elim, _≢_}
 use Prim.Native.Nat.{ℕ, zero, suc, _+_, _-_, _*_, _/_, _%_, _≤_, _<_}
 use native.Mathlib.Omega.{arith}
 use native.Mathlib.Numerals.{add-one}
@@ -27,7 +27,7 @@ use Rattle.circuit.specs.declared.Record.{Record}
 
 -- the width in use is known
 pub width-known : Known width
-width-known = inl refl
+width-known = inr refl
 
 -- what holds of 2 and of 4 holds of a known width
 by-width : (P : ℕ → Type 0) (w : ℕ) → Known w → P 2 → P 4 → P w

@@ -1,5 +1,6 @@
--- The circuit file as a list of numbers, its fields (document 01, "Circuit file"), and what reading it gives. Two numbers are the form of
--- a file: how many bytes a field has, and the most gates. In document 01 they are 2 ("u16") and 4,096.
+-- The circuit file as a list of numbers, its fields (document 01, "Circuit file"; document 02, order 7), and what reading it gives. Two
+-- numbers are the form of a file: how many bytes a field has, and the most gates. They are 4 ("All circuit file fields become u32") and
+-- 100,000; in the old form, that of document 01, they are 2 ("u16") and 4,096.
 -- Assumes nothing.
 use mathlib.Core.Bool.{Bool, true, not, cond, _&&_, _||_}
 use mathlib.Core.List.{List, [], _∷_, map}
@@ -40,7 +41,8 @@ outputWire x j = x (4 + j)
 abbrev pub recordAt : Fields → ℕ → ℕ
 recordAt x k = 4 + outputsOf x + 4 * (k - 1)
 
--- "kind u8 (1 XOR, 2 AND, 3 INV), zero u8, wires a and b (u16), next (u16, ..)": kind and zero are one field, the kind where zero is 0
+-- "record 16 bytes: kind, a, b, next; the zero byte goes": 1 XOR, 2 AND, 3 INV. In the old form ("kind u8 .., zero u8, wires a and b (u16),
+-- next (u16, ..)") kind and zero are one field, the kind where zero is 0
 abbrev pub kindOf : Fields → ℕ → ℕ
 kindOf x k = x (recordAt x k)
 
@@ -57,11 +59,11 @@ nextOf x k = x (recordAt x k + 3)
 abbrev pub fieldCount : Fields → ℕ
 fieldCount x = 4 + outputsOf x + 4 * gatesOf x
 
--- "I is 1..512, O 1..256, G 0..4,096": the limit on I
+-- "I is 1..512, O 1..256, ..": the limit on I
 abbrev pub maxInputs : ℕ
 maxInputs = 512
 
--- "I is 1..512, O 1..256, G 0..4,096": the limit on O
+-- "I is 1..512, O 1..256, ..": the limit on O
 abbrev pub maxOutputs : ℕ
 maxOutputs = 256
 
@@ -69,11 +71,11 @@ maxOutputs = 256
 unfoldable pub withinLimits : ℕ → Fields → Bool
 withinLimits m x = leb 1 (inputsOf x) && leb (inputsOf x) maxInputs && leb 1 (outputsOf x) && leb (outputsOf x) maxOutputs && leb (gatesOf x) m
 
--- the second refusal 1: "total not 8 + 2O + 8G", where fields have 2 bytes
+-- the second refusal 1: "the total length is 16 + 4O + 16G", and 8 + 2O + 8G in the old form
 unfoldable pub rightLength : ℕ → List ℕ → Bool
 rightLength w s = eqb (length s) (w * fieldCount (field w s))
 
--- refusal 3: "a record with another kind, a nonzero second byte, or INV with b not 0"
+-- refusal 3: "a record with another kind, [in the old form] a nonzero second byte, or INV with b not 0"
 unfoldable pub goodRecord : Fields → ℕ → Bool
 goodRecord x k = eqb (kindOf x k) 1 || eqb (kindOf x k) 2 || (eqb (kindOf x k) 3 && eqb (wireB x k) 0)
 
@@ -147,7 +149,7 @@ readFields x =
     (cond (not (goodWires x)) (refused 5 0)
     (legal (circuitOf x))))
 
--- "Read a circuit: 1 under 8 bytes; 2 I, O or G beyond limits; 1 total not 8 + 2O + 8G; .." for fields of w bytes and at most m gates
+-- "Read a circuit: 1 under [16] bytes; 2 I, O or G beyond limits; 1 total not [16 + 4O + 16G]; ..", for fields of w bytes and at most m gates
 unfoldable pub readWith : ℕ → ℕ → List ℕ → Reading
 readWith w m s =
     cond (ltb (length s) (w * 4)) (refused 1 0)

@@ -1,4 +1,4 @@
--- The circuit file in the form in use: document 01's, with fields of 2 bytes ("u16 each") and "G 0..4,096".
+-- The circuit file in the form in use (document 02, order 7): "All circuit file fields become u32", and "G rises to 100,000".
 -- What a name means is in Fields.antt, under the same name.
 -- Assumes nothing.
 use mathlib.Core.Bool.{Bool}
@@ -10,13 +10,13 @@ use Rattle.circuit.specs.Fields as fields
 pub use Rattle.circuit.specs.Fields.{maxInputs, maxOutputs, Reading, refused, legal}
 unfoldable pub use Rattle.circuit.specs.Fields.{readsWritten, onWalk}
 
--- "u16 each": the bytes of a field
+-- "All circuit file fields become u32": the bytes of a field
 abbrev pub width : ℕ
-width = 2
+width = 4
 
--- "I is 1..512, O 1..256, G 0..4,096": the limit on G
+-- "G rises to 100,000": the limit on G
 abbrev pub maxGates : ℕ
-maxGates = 4096
+maxGates = 100000
 
 -- the fields of a file
 abbrev pub fieldsOf : List ℕ → ℕ → ℕ

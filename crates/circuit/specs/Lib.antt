@@ -1,4 +1,5 @@
 pub mod Answers
+pub mod Building
 pub mod Chain
 pub mod Circuit
 pub mod Fields

@@ -1,4 +1,5 @@
--- What the tests of reading mean (document 01, "Circuit file"; document 02, order 2): the theorems on the chain, the wires and the fields.
+-- What the tests of reading mean (document 01, "Circuit file"; document 02, orders 2 and 7): the theorems on the chain, the wires and the
+-- fields.
 -- Assumes nothing.
 use mathlib.Core.Path.{_≡_}
 use mathlib.Core.Bool.{true}
@@ -119,8 +120,8 @@ pub record FieldsTheorem : Type 0 where
   pub alike : (w v m n : ℕ) (s t : List ℕ) → SameFields w v s t → m ≤ n → fields.readWith w m s ≢ refused 2 0
       → fields.readWith v n t ≡ fields.readWith w m s
 
--- Theorem, kind: of two bytes, a field is the number k of one byte exactly if its first byte is k and its second is zero: "kind u8 (..),
--- zero u8", for the kind of slot x
+-- Theorem, kind: in the old form, a field of two bytes is the number k of one byte exactly if its first byte is k and its second is zero:
+-- "kind u8 (..), zero u8", for the kind of slot x
 pub record KindTheorem : Type 0 where
   pub bytes : (s : List ℕ) → ((i : ℕ) → getD s i 0 < 256) → (x k : ℕ) → k < 256
       → let at : ℕ = 2 * fields.recordAt (fields.field 2 s) x in

@@ -1,10 +1,11 @@
--- The operations read and evaluate (document 01, "Each operation's refusals, in order"): answer and lent memory.
+-- The operations read and evaluate (document 01, "Each operation's refusals, in order"): answer and lent memory; and what the operations
+-- that are lent a work buffer have in common (document 02, order 7).
 -- Assumes nothing.
 use mathlib.Core.Bool.{Bool, _&&_}
-use mathlib.Core.List.{List, [], _∷_}
-use Prim.Native.Nat.{ℕ}
-use lib.Dec.{eqb}
-use lib.ListN.{length}
+use mathlib.Core.List.{List, [], _∷_, _++_}
+use Prim.Native.Nat.{ℕ, _+_, _*_}
+use lib.Dec.{eqb, leb}
+use lib.ListN.{length, replicate}
 use Rattle.bits.specs.Bits.{oct, pack, bitAt, unusedZero}
 use Rattle.refusal.specs.Outcome.{Answer, refusalAt, success, Outcome, refuses, done, unless}
 use Rattle.circuit.specs.Circuit.{Circuit, ands, evaluate}
@@ -23,6 +24,21 @@ readOp s = readAnswer (readCircuit s)
 abbrev pub onLegal : Reading → List (List ℕ) → (Circuit → Outcome) → Outcome
 onLegal (refused k x) lent f = refuses k lent
 onLegal (legal c) lent f = f c
+
+-- order 7: "a work buffer of 64(I + G) + 4,096 bytes or more"
+abbrev pub workBytes : Circuit → ℕ
+workBytes c = 64 * (c .inputs + length (c .gates)) + 4096
+
+-- the same answer, and this in the work buffer, which is the last of the lent buffers
+abbrev pub leaving : Outcome → List ℕ → Outcome
+leaving r work = record { answer = r .answer; left = r .left ++ work ∷ [] }
+
+-- order 7: "a shorter one gives 6, directly after the circuit is read. A call refused up to that test leaves it untouched, and every later
+-- ending, a refusal too, leaves it all zero"
+abbrev pub onLegalWork : Reading → List (List ℕ) → List ℕ → (Circuit → Outcome) → Outcome
+onLegalWork (refused k x) lent work f = refuses k (lent ++ work ∷ [])
+onLegalWork (legal c) lent work f =
+    unless (leb (workBytes c) (length work)) 6 (lent ++ work ∷ []) (leaving (f c) (replicate (length work) 0))
 
 -- a lent length as stated: k bits
 abbrev pub holds : ℕ → List ℕ → Bool

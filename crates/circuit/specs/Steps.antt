@@ -29,6 +29,17 @@ maxWires = maxInputs + maxGates
 abbrev pub wireBytes : ℕ
 wireBytes = oct maxWires
 
+-- the bytes of a record, and of the header
+abbrev pub recordSize : ℕ
+recordSize = width * 4
+
+-- where output wire j stands in a file, and slot j + 1 of a file with o outputs; for j = G this is the file's length
+abbrev pub outputPlace : ℕ → ℕ
+outputPlace j = width * (4 + j)
+
+abbrev pub recordPlace : ℕ → ℕ → ℕ
+recordPlace o j = width * (4 + o + 4 * j)
+
 -- parts of the file (Fields.antt, under the same names) in this form
 abbrev pub recordAt : List ℕ → ℕ → ℕ
 recordAt s = fields.recordAt (fieldsOf s)

@@ -7,19 +7,19 @@ mod tests;
 use refusal::Refusal;
 
 // The bytes of a field of the file.
-pub const WIDTH: usize = 2;
+pub const WIDTH: usize = 4;
 
 // The limits on I, O and G, and on the wires: MAX_INPUTS + MAX_GATES.
 pub const MAX_INPUTS: usize = 512;
 
 pub const MAX_OUTPUTS: usize = 256;
 
-pub const MAX_GATES: usize = 4096;
+pub const MAX_GATES: usize = 100000;
 
-pub const MAX_WIRES: usize = 4608;
+pub const MAX_WIRES: usize = 100512;
 
 // The bytes for a bit of each wire.
-pub const WIRE_BYTES: usize = 576;
+pub const WIRE_BYTES: usize = 12564;
 
 // A gate and the wires it reads.
 pub enum Gate {

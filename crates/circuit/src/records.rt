@@ -4,14 +4,14 @@ ghost use Prim.Native.Nat.{_+_, _*_, _≤_};
 ghost use lib.ListN.{length};
 ghost use Rattle.circuit.specs.Fields.{field};
 ghost use Rattle.circuit.specs.FieldSteps.{Known, Inside as InsideWith, recordOf as recordWith};
-ghost use Rattle.circuit.specs.File.{width, headOf, outputWire};
-ghost use Rattle.circuit.specs.Steps.{recordOf, Inside, andOne};
+ghost use Rattle.circuit.specs.File.{width, maxOutputs, maxGates, headOf, outputWire};
+ghost use Rattle.circuit.specs.Steps.{recordOf, Inside, outputPlace, recordPlace, andOne};
 use crate::Gate;
 use crate::Record;
 use crate::WIDTH;
 
 // Field k of a file with fields of that many bytes.
-pub(crate) fn field(s: &[u8], bytes: usize, k: usize) -> u32
+pub fn field(s: &[u8], bytes: usize, k: usize) -> u32
     requires { ⌜ Known bytes × (bytes * k + bytes ≤ length (now s)) ⌝ }
     ensures { λ r. ⌜ r ≡ field bytes (now (s .entry)) k ⌝ }
 {
@@ -71,6 +71,22 @@ pub fn output_wire(s: &[u8], j: usize) -> usize
     ensures { λ r. ⌜ r ≡ outputWire (now (s .entry)) j ⌝ }
 {
     field(s, WIDTH, 4 + j) as usize
+}
+
+// The place of output wire j in a file.
+pub fn output_place(j: usize) -> usize
+    requires { ⌜ j ≤ maxOutputs ⌝ }
+    ensures { λ r. ⌜ r ≡ outputPlace j ⌝ }
+{
+    WIDTH * (4 + j)
+}
+
+// The place of slot j + 1 in a file with that many outputs; for j = G this is the file's length.
+pub fn record_place(outputs: usize, j: usize) -> usize
+    requires { ⌜ (outputs ≤ maxOutputs) × (j ≤ maxGates) ⌝ }
+    ensures { λ r. ⌜ r ≡ recordPlace outputs j ⌝ }
+{
+    WIDTH * (4 + outputs + 4 * j)
 }
 
 // 1 for an AND gate, 0 for another.

@@ -41,11 +41,13 @@ fn print_answer(s: &[u8]) {
     }
 }
 
-// The longest circuit has 33,288 bytes; one byte more is a wrong length.
+// The longest file that is read; a longer one is a wrong length.
+const LONGEST: usize = 65536;
+
 fn main() {
-    let mut buffer = [0u8; 33289];
+    let mut buffer = [0u8; LONGEST + 1];
     let n = io::read_full(STDIN_FILENO, &mut buffer);
-    if n == 33289 {
+    if n == LONGEST + 1 {
         print_refusal(1, 0);
         return;
     }

@@ -5,12 +5,13 @@ use mathlib.Core.Path.{_≡_}
 use mathlib.Core.Bool.{true}
 use mathlib.Core.List.{List}
 use Prim.Native.Nat.{ℕ, _*_, _≤_, _<_}
-use lib.ListN.{length, getD}
+use lib.ListN.{length, getD, take}
 use Rattle.bits.specs.Bits.{oct, pack, bitAt, unusedZero}
 use Rattle.refusal.specs.Outcome.{Outcome, done}
 use Rattle.parties.specs.Parties.{isPartyCount}
 use Rattle.circuit.specs.Circuit.{Circuit, evaluate}
 use Rattle.circuit.specs.File.{legal, readCircuit}
+use Rattle.circuit.specs.Operations.{workBytes}
 use Rattle.plain.specs.Tapes.{rowBytes, usedBits, withRow, unusedRows}
 use Rattle.plain.specs.Showing.{Showing, showing}
 use Rattle.mpc.specs.Operations.{holdsShowing, showOp}
@@ -51,21 +52,28 @@ Hiding =
     → (w w′ : List ℕ) → Witness c w → Witness c w′ → pack (evaluate c (bitAt w)) ≡ pack (evaluate c (bitAt w′))
     → (r : List ℕ) → Row c n p r → (r′ : List ℕ) × Partner c n p tapes w w′ r r′
 
+-- the four parts of a showing in what a call of show leaves: the work buffer stands behind them
+abbrev pub fourParts : Outcome → List (List ℕ)
+fourParts o = take 4 (o .left)
+
 -- both calls succeed, and they fill their lent buffers alike
 pub record Alike (a b : Outcome) : Type 0 where
   pub filled : List (List ℕ)
   pub one : a ≡ done filled
   pub other : b ≡ done filled
 
--- the partner over calls of show on the file s of the circuit c, lent buffers of the right lengths whatever they hold: for every cut
--- the call with r under w and the call with r′ under w′ fill them alike, and with no other row does the call for the whole showing
+-- the partner over calls of show on the file s of the circuit c, lent buffers of the right lengths whatever they hold, and work buffers of
+-- one length that are long enough: for every cut the call with r under w and the call with r′ under w′ fill them alike, the work buffers
+-- too; and with no other row does the call for the whole showing fill its four parts so, whatever the work buffers' lengths
 pub record PartnerShown (s : List ℕ) (c : Circuit) (n p : ℕ) (tapes w w′ r r′ : List ℕ) : Type 0 where
   pub row : Row c n p r′
   pub cuts : (g : ℕ) → g ≤ length (c .gates) → (out out′ : Showing) → holdsShowing c n out ≡ true → holdsShowing c n out′ ≡ true
-      → Alike (showOp s n p g w (withRow c p r tapes) out) (showOp s n p g w′ (withRow c p r′ tapes) out′)
+      → (work work′ : List ℕ) → workBytes c ≤ length work → length work ≡ length work′
+      → Alike (showOp s n p g w (withRow c p r tapes) out work) (showOp s n p g w′ (withRow c p r′ tapes) out′ work′)
   pub only : (x : List ℕ) → Row c n p x → (out out′ : Showing) → holdsShowing c n out ≡ true → holdsShowing c n out′ ≡ true
-      → showOp s n p (length (c .gates)) w (withRow c p r tapes) out .left
-      ≡ showOp s n p (length (c .gates)) w′ (withRow c p x tapes) out′ .left
+      → (work work′ : List ℕ) → workBytes c ≤ length work → workBytes c ≤ length work′
+      → fourParts (showOp s n p (length (c .gates)) w (withRow c p r tapes) out work)
+      ≡ fourParts (showOp s n p (length (c .gates)) w′ (withRow c p x tapes) out′ work′)
       → x ≡ r′
 
 -- "Demand 3's first half is about showings, as show fills them": hiding over the operation

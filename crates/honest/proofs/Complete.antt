@@ -7,16 +7,16 @@ use Prim.Native.Nat.{ℕ, _<_}
 use native.Mathlib.Omega.{arith}
 use borrow.Author.Tests.{eqb-true}
 use lib.Dec.{leb}
-use lib.ListN.{length, take, drop}
+use lib.ListN.{length, take, drop, replicate}
 use lib.Seq.{take-at}
 use Rattle.bits.specs.Bits.{oct, pack, bitAt, unusedZero}
 use Rattle.bits.proofs.Equal.{same-eq}
 use Rattle.bits.proofs.Tabulate.{tabulate-cong}
-use Rattle.refusal.specs.Outcome.{done}
+use Rattle.refusal.specs.Outcome.{Outcome, done}
 use Rattle.parties.specs.Parties.{heightOf, isPartyCount}
 use Rattle.parties.proofs.Counts.{sizes}
 use Rattle.circuit.specs.Circuit.{Circuit, evaluate}
-use Rattle.circuit.specs.Operations.{holds}
+use Rattle.circuit.specs.Operations.{holds, leaving}
 use Rattle.hiding.specs.Hiding.{Witness}
 use Rattle.seeds.specs.Operations.{areCounts}
 use Rattle.seeds.proofs.Instances.{Fit, counts-fit}
@@ -28,6 +28,7 @@ use Rattle.proof.specs.File.{headerM, headerTau, headerN, headerHstar, goodHead
 use Rattle.proof.specs.Prove.{proofOf, witnesses}
 use Rattle.instance.specs.Opened.{openedRun}
 use Rattle.proof.specs.Check.{checkProof, checkLegal, checkOp}
+use Rattle.mpc.proofs.Succeeding.{work-enough}
 use Rattle.honest.specs.Theorems.{Complete}
 use Rattle.proof.proofs.Passing.{and-true}
 use Rattle.honest.proofs.Opened.{opened-output}
@@ -37,6 +38,7 @@ use Rattle.honest.proofs.Stretches.{commitments-given, online-given, un
 use Rattle.proof.proofs.Written.{length-proof, stretch-there, hstar-there, M-there, tau-there, n-there, good-there}
 use Rattle.proof.proofs.Passing.{has-height}
 use Rattle.honest.proofs.Proved.{proved}
+use Rattle.honest.proofs.Published.{same-circuit}
 use Rattle.honest.proofs.Tests.{ProofTests, proof-accepted}
 
 -- equal digests of all instances give one h*
@@ -122,15 +124,18 @@ module _ (c : Circuit) (M tau n : ℕ) (witness bound root : List ℕ) (root-siz
 -- every honest proof passes
 pub complete : Complete
 unfolding witnesses checkOp
-complete s witness y message root buffer left M tau n k bytes e =
-    let p = proved s witness y message root buffer left M tau n k e in
+complete s witness y message root buffer work left M tau n k bytes e d r lent long =
+    let p = proved s witness y message root buffer left M tau n k work e in
     let c : Circuit = p .circuit in
+    let same : d ≡ c = same-circuit s d c r (p .read) in
     let proof : List ℕ = proofOf c M tau n witness (statementOf M tau n s y message) root in
     let hw : Witness c witness = record {
       bytes = record { size = eqb-true (length witness) (oct (c .inputs)) (p .inputs); small = bytes };
       unused = p .unused-inputs;
     } in
     let q : take k left ≡ proof = ap (take k) (sym (p .content)) ∙ take-at proof (drop k buffer) k (p .size) in
-    rw (p .read, q)
-    (accepts c M tau n witness (statementOf M tau n s y message) root (eqb-true (length root) 16 (p .root-size)) y hw
-    (same-eq (pack (evaluate c (bitAt witness))) y (p .gives)) (p .counts) (p .parties) s message refl (and-true _ _ (p .outputs) (p .short)) (p .unused-outputs))
+    let a : checkLegal s y message proof c ≡ done [] =
+    accepts c M tau n witness (statementOf M tau n s y message) root (eqb-true (length root) 16 (p .root-size)) y hw
+    (same-eq (pack (evaluate c (bitAt witness))) y (p .gives)) (p .counts) (p .parties) s message refl (and-true _ _ (p .outputs) (p .short)) (p .unused-outputs) in
+    work-enough s c [] lent (checkLegal s y message (take k left)) (p .read) (rw same at long)
+    ∙ ap (λ (o : Outcome). leaving o (replicate (length lent) 0)) (ap (λ (x : List ℕ). checkLegal s y message x c) q ∙ a)

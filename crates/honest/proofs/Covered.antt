@@ -60,9 +60,9 @@ y-size s y message proof c r a = a .y-size ∙ ap (λ (z : Circuit). oct (length
 
 pub statement-covered : StatementCovered
 unfolding statementOf drawnFrom
-statement-covered s y message proof s′ y′ message′ proof′ c c′ r r′ e e′ i =
-    let a : Accepts s y message proof = check-is-published .sound s y message proof e in
-    let a′ : Accepts s′ y′ message′ proof′ = check-is-published .sound s′ y′ message′ proof′ e′ in
+statement-covered s y message proof work s′ y′ message′ proof′ work′ c c′ r r′ e e′ i =
+    let a : Accepts s y message proof = check-is-published .sound s y message proof work e in
+    let a′ : Accepts s′ y′ message′ proof′ = check-is-published .sound s′ y′ message′ proof′ work′ e′ in
     let k =
     statement-fixed (drawnFrom s y message proof) (drawnFrom s′ y′ message′ proof′) (drawn-fits s y message proof (a .header))
     (drawn-fits s′ y′ message′ proof′ (a′ .header)) i in

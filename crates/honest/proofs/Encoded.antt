@@ -106,6 +106,6 @@ file-encoded c bound file b g e =
 
 -- every accepted file
 pub accepted-encoding : AcceptedEncoding
-accepted-encoding s y message proof c b r e =
-    let h = check-is-published .sound s y message proof e in
+accepted-encoding s y message proof work c b r e =
+    let h = check-is-published .sound s y message proof work e in
     file-encoded c (boundIn s y message proof) proof b (h .header) (h .size ∙ ap (λ (z : Circuit). impliedLength z (boundIn s y message proof) proof) (same-circuit s (h .circuit) c (h .read) r))

@@ -1,17 +1,17 @@
 -- What prove leaves of its buffer.
 -- Assumes nothing.
 use mathlib.Core.Path.{_≡_, sym, ap, _∙_}
-use mathlib.Core.List.{List, [], _∷_}
+use mathlib.Core.List.{List}
 use Prim.Native.Nat.{ℕ, _≤_}
 use native.Mathlib.Omega.{arith}
 use borrow.Author.Tests.{eqb-true, leb-true}
 use lib.ListN.{length, drop, length-append, length-drop}
 use lib.Seq.{drop-at}
-use Rattle.refusal.specs.Outcome.{success}
 use Rattle.circuit.specs.Circuit.{Circuit}
 use Rattle.proof.specs.Protocol.{statementOf}
 use Rattle.proof.specs.File.{proofRoom}
-use Rattle.proof.specs.Prove.{proofOf, proveOp}
+use Rattle.proof.specs.Prove.{proofOf}
+use Rattle.honest.specs.Theorems.{Proves}
 use Rattle.honest.proofs.Proved.{proved}
 use Rattle.proof.proofs.Room.{proof-fits}
 
@@ -22,10 +22,10 @@ pub record Kept (buffer left : List ℕ) (k : ℕ) : Type 0 where
   pub beyond : drop k left ≡ drop k buffer
 
 -- a prove that succeeds writes inside its buffer alone: "bytes beyond it stay"
-pub prove-keeps : (s witness y message root buffer left : List ℕ) (M tau n k : ℕ)
-    → proveOp s witness y message root M tau n buffer ≡ record { answer = success (k ∷ []); left = left ∷ [] } → Kept buffer left k
-prove-keeps s witness y message root buffer left M tau n k e =
-    let p = proved s witness y message root buffer left M tau n k e in
+pub prove-keeps : (s witness y message root buffer work left : List ℕ) (M tau n k : ℕ) → Proves s witness y message root M tau n buffer work k left
+    → Kept buffer left k
+prove-keeps s witness y message root buffer work left M tau n k e =
+    let p = proved s witness y message root buffer left M tau n k work e in
     let c : Circuit = p .circuit in
     let proof : List ℕ = proofOf c M tau n witness (statementOf M tau n s y message) root in
     let size : length proof ≡ k = p .size in

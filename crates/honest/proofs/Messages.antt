@@ -83,8 +83,8 @@ module _ (c : Circuit) (n : ℕ) (s : List ℕ) (b : AllBytes s) where
 -- in every accepted file
 pub messages-as-sent : MessagesAsSent
 unfolding decode
-messages-as-sent s y message proof c b r e j p x l f =
-    let h = check-is-published .sound s y message proof e in
+messages-as-sent s y message proof work c b r e j p x l f =
+    let h = check-is-published .sound s y message proof work e in
     let q : h .circuit ≡ c = same-circuit s (h .circuit) c (h .read) r in
     let n : ℕ = decodeHeader proof .n in
     let M : ℕ = decodeHeader proof .M in

@@ -5,19 +5,20 @@ use mathlib.Core.Bool.{Bool, true, _&&_}
 use mathlib.Core.List.{List, [], _∷_, _++_}
 use Prim.Native.Nat.{ℕ}
 use lib.Dec.{eqb, leb}
-use lib.ListN.{length, drop}
+use lib.ListN.{length, drop, replicate}
 use Rattle.bits.specs.Bits.{unusedZero}
 use Rattle.bits.proofs.Tests.{and-true-left, and-true-right}
 use Rattle.refusal.specs.Outcome.{Answer, success, Outcome, unless}
 use Rattle.parties.specs.Parties.{isPartyCount}
 use Rattle.circuit.specs.Circuit.{Circuit}
-use Rattle.circuit.specs.File.{Reading, refused, legal, readCircuit}
-use Rattle.circuit.specs.Operations.{onLegal, holds}
+use Rattle.circuit.specs.File.{legal, readCircuit}
+use Rattle.circuit.specs.Operations.{holds}
 use Rattle.seeds.specs.Operations.{areCounts}
 use Rattle.proof.specs.File.{proofRoom}
 use Rattle.proof.specs.Protocol.{statementOf}
 use Rattle.proof.specs.Prove.{proofOf, witnesses, written, proveLegal, proveOp}
-use Rattle.proof.proofs.Passing.{succeeded, refused-not, unless-test, unless-rest}
+use Rattle.mpc.proofs.Succeeding.{succeeded, unless-test, unless-rest, work-succeeded}
+use Rattle.honest.specs.Theorems.{Proves}
 
 -- the outcome is a success that says k and leaves `left` in the buffer
 module _ (s witness y message root buffer left : List ℕ) (M tau n k : ℕ) where
@@ -99,13 +100,9 @@ module _ (s witness y message root buffer left : List ℕ) (M tau n k : ℕ) whe
         content = wrote-content (proofOf c M tau n witness (statementOf M tau n s y message) root) e4;
       }
 
-  -- of what was read
-  proved-read : (r : Reading) → readCircuit s ≡ r
-      → onLegal r (buffer ∷ []) (proveLegal s witness y message root M tau n buffer) ≡ succeeded (k ∷ []) (left ∷ []) → Proved
-  proved-read (refused x slot) r e = absurd (refused-not x (buffer ∷ []) (k ∷ []) (left ∷ []) e)
-  proved-read (legal c) r e = proved-legal c r e
-
   -- all of it follows from the outcome
-  pub proved : proveOp s witness y message root M tau n buffer ≡ succeeded (k ∷ []) (left ∷ []) → Proved
+  pub proved : (work : List ℕ) → Proves s witness y message root M tau n buffer work k left → Proved
   unfolding proveOp
-  proved e = proved-read (readCircuit s) refl e
+  proved work e =
+      let h = work-succeeded s (buffer ∷ []) work (proveLegal s witness y message root M tau n buffer) (k ∷ []) (left ∷ []) (replicate (length work) 0) e in
+      proved-legal (h .circuit) (h .read) (h .rest)

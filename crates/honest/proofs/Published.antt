@@ -3,7 +3,7 @@
 use mathlib.Core.Path.{_≡_, refl, sym, ap, ap₂, subst, _∙_}
 use mathlib.Core.Bool.{Bool, true, _&&_}
 use mathlib.Core.List.{List, flatten}
-use Prim.Native.Nat.{ℕ, _+_, _<_}
+use Prim.Native.Nat.{ℕ, _+_, _≤_, _<_}
 use native.Mathlib.Omega.{arith}
 use borrow.Author.Tests.{eq-eqb, eqb-true, le-leb, leb-true, lt-ltb}
 use lib.Dec.{eqb, leb}
@@ -16,6 +16,7 @@ use Rattle.parties.specs.Parties.{heightOf, isPartyCount}
 use Rattle.parties.proofs.Counts.{sizes}
 use Rattle.circuit.specs.Circuit.{Circuit}
 use Rattle.circuit.specs.File.{legal, readCircuit}
+use Rattle.circuit.specs.Operations.{workBytes}
 use Rattle.plain.specs.Run.{Transcript}
 use Rattle.plain.specs.Tapes.{andsOf}
 use Rattle.hashing.specs.Inputs.{commitmentsInput, onlineInput, allCommitmentsInput, allOnlineInput}
@@ -29,7 +30,7 @@ use Rattle.proof.specs.Protocol.{hstarOf, statementOf, challenged}
 use Rattle.proof.specs.File.{headerM, headerTau, headerN, headerZero, headerHstar, headerBytes, nodesAt, masterAt, goodHeader, proofBytes, stretchAt}
 use Rattle.honest.specs.Response.{Unchosen, Chosen, Sent, unchosen, chosen, Response, answered, Header, decodeHeader, boundIn, challengeIn, decodeSent, bytesFrom, nodesBytes, decode, impliedLength, UnusedZero}
 use Rattle.honest.specs.Verification.{all, seed*, honestCom, openedCom, simulation, msgs, Verified}
-use Rattle.honest.specs.Theorems.{GoodHeader, Accepts, CheckIsPublished, AcceptedLength}
+use Rattle.honest.specs.Theorems.{Accepted, GoodHeader, Accepts, CheckIsPublished, AcceptedLength}
 use Rattle.proof.proofs.Passing.{and-true}
 use Rattle.honest.proofs.Tests.{ProofTests, CheckTests, passed, accepted}
 use Rattle.honest.proofs.Asking.{Below, challenged-below}
@@ -321,19 +322,26 @@ accept-tests s y message proof h =
       proof-tests = subst (TestsWith c s y message proof) (header-is proof) tests;
     }
 
--- check is the published check
-pub check-is-published : CheckIsPublished
-check-is-published = record {
-  sound = λ s y message proof e. tests-accept s y message proof (passed s y message proof e);
-  complete = λ s y message proof h. accepted s y message proof (accept-tests s y message proof h);
-}
-
 -- a circuit that is read is read as one
 pub same-circuit : (s : List ℕ) (c d : Circuit) → readCircuit s ≡ legal c → readCircuit s ≡ legal d → c ≡ d
 same-circuit s c d e f = cc
 
+-- check accepts where the published check does
+published-accepted : (s y message proof work : List ℕ) (h : Accepts s y message proof) → workBytes (h .circuit) ≤ length work → Accepted s y message proof work
+published-accepted s y message proof work h long =
+    let t : CheckTests s y message proof = accept-tests s y message proof h in
+    let same : h .circuit ≡ t .circuit = same-circuit s (h .circuit) (t .circuit) (h .read) (t .read) in
+    accepted s y message proof work t (subst (λ (c : Circuit). workBytes c ≤ length work) same long)
+
+-- check is the published check
+pub check-is-published : CheckIsPublished
+check-is-published = record {
+  sound = λ s y message proof work e. tests-accept s y message proof (passed s y message proof work e);
+  complete = published-accepted;
+}
+
 -- the length of every accepted proof is the one its challenge implies
 pub accepted-length : AcceptedLength
-accepted-length s y message proof c r e =
-    let h = check-is-published .sound s y message proof e in
+accepted-length s y message proof work c r e =
+    let h = check-is-published .sound s y message proof work e in
     h .size ∙ ap (λ (z : Circuit). impliedLength z (boundIn s y message proof) proof) (same-circuit s (h .circuit) c (h .read) r)

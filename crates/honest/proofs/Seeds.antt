@@ -2,7 +2,7 @@
 -- Assumes nothing.
 use mathlib.Core.Path.{_≡_, refl, sym, ap, _∙_}
 use mathlib.Core.Bool.{true, false}
-use mathlib.Core.List.{List, [], _∷_}
+use mathlib.Core.List.{List}
 use Prim.Native.Nat.{ℕ, _<_}
 use native.Mathlib.Omega.{arith}
 use borrow.Author.Tests.{eqb-true}
@@ -19,13 +19,13 @@ use Rattle.seeds.proofs.Instances.{Fit, counts-fit}
 use Rattle.instance.specs.Instance.{Asked, opened, isChosen}
 use Rattle.proof.specs.Protocol.{firstMessage, statementOf, challenged}
 use Rattle.proof.specs.File.{headerBytes, hides, nodesAt, masterAt}
-use Rattle.proof.specs.Prove.{proofOf, proveOp}
-use Rattle.proof.proofs.Passing.{succeeded, has-height}
+use Rattle.proof.specs.Prove.{proofOf}
+use Rattle.proof.proofs.Passing.{has-height}
 use Rattle.proof.proofs.Chosen.{some-chosen}
 use Rattle.proof.proofs.Written.{master-there, hstar-there, M-there, tau-there, n-there}
 use Rattle.honest.specs.Response.{Header, decodeHeader, boundIn, challengeIn, nodesBytes, decode}
 use Rattle.honest.specs.Verification.{seed*}
-use Rattle.honest.specs.Theorems.{SeedsFollow, SeedsFromCover}
+use Rattle.honest.specs.Theorems.{Proves, SeedsFollow, SeedsFromCover}
 use Rattle.honest.proofs.Decoded.{header-is}
 use Rattle.honest.proofs.Published.{counts-good}
 use Rattle.honest.proofs.Proved.{proved}
@@ -99,14 +99,14 @@ unfolding masterAt nodesAt nodesBytes
 seed-at M ask file j = refl
 
 -- in the bytes that prove writes, seed*_j is the master of j
-seed-honest : (s witness y message root buffer left : List ℕ) (M tau n k : ℕ) (c : Circuit)
-    → proveOp s witness y message root M tau n buffer ≡ succeeded (k ∷ []) (left ∷ [])
+seed-honest : (s witness y message root buffer work left : List ℕ) (M tau n k : ℕ) (c : Circuit)
+    → Proves s witness y message root M tau n buffer work k left
     → (j : ℕ) → j < M → challengeIn (boundIn s y message (take k left)) (take k left) j ≡ opened
     → seed* M (challengeIn (boundIn s y message (take k left)) (take k left)) (decode c (boundIn s y message (take k left)) (take k left)) j
     ≡ masterOf M root j
 unfolding isChosen
-seed-honest s witness y message root buffer left M tau n k c e j h a =
-    let p = proved s witness y message root buffer left M tau n k e in
+seed-honest s witness y message root buffer work left M tau n k c e j h a =
+    let p = proved s witness y message root buffer left M tau n k work e in
     let d : Circuit = p .circuit in
     let bound : List ℕ = statementOf M tau n s y message in
     let size : length root ≡ 16 = eqb-true (length root) 16 (p .root-size) in
@@ -128,5 +128,5 @@ seeds-from-cover = record {
   follow = λ bound proof g.
       seeds-follow (decodeHeader proof .M) (decodeHeader proof .tau) (decodeHeader proof .n) (decodeHeader proof .hstar) bound (counts-good proof (decodeHeader proof) g)
       (g .parties);
-  honest = λ s witness y message root buffer left M tau n k c r e. seed-honest s witness y message root buffer left M tau n k c e;
+  honest = λ s witness y message root buffer work left M tau n k c r e. seed-honest s witness y message root buffer work left M tau n k c e;
 }

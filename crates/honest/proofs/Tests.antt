@@ -6,21 +6,23 @@ use mathlib.Core.List.{List, []}
 use Prim.Native.Nat.{ℕ, _≤_, _<_}
 use borrow.Author.Tests.{eq-eqb, eqb-true, le-leb, leb-true}
 use lib.Dec.{eqb, leb}
-use lib.ListN.{length}
+use lib.ListN.{length, replicate}
 use Rattle.bits.specs.Bits.{oct, pack, unusedZero}
 use Rattle.bits.specs.Bytes.{sameBytes}
 use Rattle.bits.proofs.Equal.{same-eq, eq-same}
 use Rattle.bits.proofs.Tests.{and-true-left, and-true-right}
 use Rattle.refusal.specs.Outcome.{Outcome, done, unless}
 use Rattle.circuit.specs.Circuit.{Circuit}
-use Rattle.circuit.specs.File.{Reading, refused, legal, readCircuit}
-use Rattle.circuit.specs.Operations.{holds, onLegal}
+use Rattle.circuit.specs.File.{legal, readCircuit}
+use Rattle.circuit.specs.Operations.{holds, workBytes, leaving}
 use Rattle.instance.specs.Instance.{Asked, opened, hiding}
 use Rattle.proof.specs.Protocol.{hstarOf, statementOf, challenged}
 use Rattle.proof.specs.File.{headerM, headerTau, headerN, headerHstar, goodHeader, proofBytes, masterAt, stretchAt}
 use Rattle.instance.specs.Opened.{openedRun, stretchCommitments, stretchOnline, stretchUnused, stretchOutput}
 use Rattle.proof.specs.Check.{every, checkProof, checkLegal, checkOp}
-use Rattle.proof.proofs.Passing.{refused-not, unless-test, unless-rest, and-true, every-at, all-every}
+use Rattle.mpc.proofs.Succeeding.{unless-test, unless-rest, work-enough, work-succeeded}
+use Rattle.proof.proofs.Passing.{and-true, every-at, all-every}
+use Rattle.honest.specs.Theorems.{Accepted}
 
 -- the tests of a proof whose header is good, where h* is hstar, and `ask` says what is asked of each instance
 pub record ProofTests (c : Circuit) (y proof hstar : List ℕ) (M n : ℕ) (ask : ℕ → Asked) : Type 0 where
@@ -140,21 +142,19 @@ module _ (s y message proof : List ℕ) (c : Circuit) where
         proof-tests = proof-passed c y proof (headerM proof) (headerN proof) asks (unless-rest (goodHeader proof) 11 [] _ [] [] e2);
       }
 
--- whatever was read
-read-passed : (s y message proof : List ℕ) (r : Reading) → readCircuit s ≡ r → onLegal r [] (checkLegal s y message proof) ≡ done [] → CheckTests s y message proof
-read-passed s y message proof (refused k slot) r e = absurd (refused-not k [] [] [] e)
-read-passed s y message proof (legal c) r e = legal-passed s y message proof c r e
-
 -- all tests pass where check accepts
-pub passed : (s y message proof : List ℕ) → checkOp s y message proof ≡ done [] → CheckTests s y message proof
+pub passed : (s y message proof work : List ℕ) → Accepted s y message proof work → CheckTests s y message proof
 unfolding checkOp
-passed s y message proof e = read-passed s y message proof (readCircuit s) refl e
+passed s y message proof work e =
+    let h = work-succeeded s [] work (checkLegal s y message proof) [] [] (replicate (length work) 0) e in
+    legal-passed s y message proof (h .circuit) (h .read) (h .rest)
 
 -- and check accepts where they pass
-pub accepted : (s y message proof : List ℕ) → CheckTests s y message proof → checkOp s y message proof ≡ done []
+pub accepted : (s y message proof work : List ℕ) (h : CheckTests s y message proof) → workBytes (h .circuit) ≤ length work → Accepted s y message proof work
 unfolding checkOp
-accepted s y message proof h =
+accepted s y message proof work h long =
     let c = h .circuit in
     let a : sizes s y message proof c ≡ true = and-true _ _ (eq-eqb _ _ (h .y-size)) (le-leb (length message) 4096 (h .short)) in
     let b : rest s y message proof c ≡ done [] = proof-accepted c y proof (headerM proof) (headerN proof) (asks s y message proof c) (h .proof-tests) in
-    ap (λ (x : Reading). onLegal x [] (checkLegal s y message proof)) (h .read) ∙ (legal-tests s y message proof c ∙ rw (a, h .y-unused, h .header, b))
+    let d : checkLegal s y message proof c ≡ done [] = legal-tests s y message proof c ∙ rw (a, h .y-unused, h .header, b) in
+    work-enough s c [] work (checkLegal s y message proof) (h .read) long ∙ ap (λ (o : Outcome). leaving o (replicate (length work) 0)) d

@@ -5,7 +5,7 @@ use mathlib.Core.Bool.{true}
 use mathlib.Core.List.{List, [], _∷_}
 use Prim.Native.Nat.{ℕ, _≤_}
 use borrow.Author.Tests.{eq-eqb, le-leb}
-use lib.ListN.{length, length-map}
+use lib.ListN.{length, replicate, length-map}
 use Rattle.bits.specs.Bits.{oct, pack, bitAt, unusedZero}
 use Rattle.bits.proofs.Packing.{length-pack, unused-pack}
 use Rattle.bits.proofs.Equal.{eq-same}
@@ -13,6 +13,8 @@ use Rattle.refusal.specs.Outcome.{success, Outcome}
 use Rattle.parties.specs.Parties.{isPartyCount}
 use Rattle.circuit.specs.Circuit.{Circuit, evalGates, evaluate}
 use Rattle.circuit.specs.File.{legal, readCircuit}
+use Rattle.circuit.specs.Operations.{workBytes, leaving}
+use Rattle.mpc.proofs.Succeeding.{work-enough}
 use Rattle.seeds.specs.Operations.{areCounts}
 use Rattle.cover.specs.Masters.{masterOf}
 use Rattle.proof.specs.Protocol.{firstMessage, statementOf, challenged}
@@ -65,16 +67,20 @@ module _ (c : Circuit) (witness y message root buffer : List ℕ) (M tau n : ℕ
         y-given,
       )
 
-  -- prove writes the proof
-  pub prove-writes : (s : List ℕ) → readCircuit s ≡ legal c
-      → proveOp s witness y message root M tau n buffer ≡ written (proofOf c M tau n witness (statementOf M tau n s y message) root) buffer
+  -- prove writes the proof, and leaves its work buffer all zero
+  pub prove-writes : (s work : List ℕ) → readCircuit s ≡ legal c → workBytes c ≤ length work
+      → proveOp s witness y message root M tau n buffer work
+      ≡ leaving (written (proofOf c M tau n witness (statementOf M tau n s y message) root) buffer) (replicate (length work) 0)
   unfolding proveOp
-  prove-writes s e = rw e (legal-writes s)
+  prove-writes s work e long =
+      work-enough s c (buffer ∷ []) work (proveLegal s witness y message root M tau n buffer) e long
+      ∙ ap (λ (o : Outcome). leaving o (replicate (length work) 0)) (legal-writes s)
 
   -- and answers its length
-  pub prove-answers : (s : List ℕ) → readCircuit s ≡ legal c
-      → proveOp s witness y message root M tau n buffer .answer
+  pub prove-answers : (s work : List ℕ) → readCircuit s ≡ legal c → workBytes c ≤ length work
+      → proveOp s witness y message root M tau n buffer work .answer
       ≡ success (proofBytes c M n (challenged M tau n (firstMessage c M n witness (masterOf M root)) (statementOf M tau n s y message)) ∷ [])
   unfolding written
-  prove-answers s e =
-      ap (λ (o : Outcome). o .answer) (prove-writes s e) ∙ ap (λ (k : ℕ). success (k ∷ [])) (length-proof c M tau n witness (statementOf M tau n s y message) root (h .rootSize))
+  prove-answers s work e long =
+      ap (λ (o : Outcome). o .answer) (prove-writes s work e long)
+      ∙ ap (λ (k : ℕ). success (k ∷ [])) (length-proof c M tau n witness (statementOf M tau n s y message) root (h .rootSize))

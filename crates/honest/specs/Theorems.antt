@@ -4,13 +4,14 @@ use mathlib.Core.Path.{_≡_}
 use mathlib.Core.Bool.{true, false}
 use mathlib.Core.List.{List, [], _∷_}
 use Prim.Native.Nat.{ℕ, _+_, _^_, _≤_, _<_}
-use lib.ListN.{length, getD, take}
+use lib.ListN.{length, getD, take, replicate}
 use Rattle.bits.specs.Bits.{oct, unusedZero}
 use Rattle.keccak.specs.Sponge.{sha3-256}
 use Rattle.refusal.specs.Outcome.{success, done}
 use Rattle.parties.specs.Parties.{isPartyCount}
 use Rattle.circuit.specs.Circuit.{Circuit}
 use Rattle.circuit.specs.File.{readCircuit, legal}
+use Rattle.circuit.specs.Operations.{workBytes}
 use Rattle.hashing.specs.Inputs.{challengeInput}
 use Rattle.choice.specs.Challenge.{maxInstances}
 use Rattle.seeds.specs.Operations.{maxMessage}
@@ -28,13 +29,22 @@ use Rattle.honest.specs.Verification.{seed*, msgs, Verified}
 abbrev pub AllBytes : List ℕ → Type 0
 AllBytes s = (k : ℕ) → getD s k 0 < 256
 
+-- check, lent this work buffer, accepts, and leaves the buffer all zero
+abbrev pub Accepted : List ℕ → List ℕ → List ℕ → List ℕ → List ℕ → Type 0
+Accepted s y message proof work = checkOp s y message proof work ≡ done (replicate (length work) 0 ∷ [])
+
+-- prove writes k bytes into a buffer, which then holds `left`, and leaves its work buffer all zero
+abbrev pub Proves : List ℕ → List ℕ → List ℕ → List ℕ → List ℕ → ℕ → ℕ → ℕ → List ℕ → List ℕ → ℕ → List ℕ → Type 0
+Proves s witness y message root M tau n buffer work k left =
+    proveOp s witness y message root M tau n buffer work ≡ record { answer = success (k ∷ []); left = left ∷ replicate (length work) 0 ∷ [] }
+
 -- Theorem, every honest proof passes: where prove writes k bytes into a buffer, check accepts those bytes under the same circuit, y and
--- message
+-- message, with every work buffer that is long enough, whatever it holds
 abbrev pub Complete : Type 0
 Complete =
-    (s witness y message root buffer left : List ℕ) (M tau n k : ℕ) → AllBytes witness
-    → proveOp s witness y message root M tau n buffer ≡ record { answer = success (k ∷ []); left = left ∷ [] }
-    → checkOp s y message (take k left) ≡ done []
+    (s witness y message root buffer work left : List ℕ) (M tau n k : ℕ) → AllBytes witness
+    → Proves s witness y message root M tau n buffer work k left
+    → (c : Circuit) → readCircuit s ≡ legal c → (lent : List ℕ) → workBytes c ≤ length lent → Accepted s y message (take k left) lent
 
 -- the header of a proof file: "11 a header under 38 bytes, out of limits or with its zero byte not 0"; "M is 2..512, τ 1..M−1, n 2, 4, 8
 -- or 16"
@@ -68,10 +78,11 @@ pub record Accepts (s y message proof : List ℕ) : Type 0 where
   pub verified : Verified circuit y (decodeHeader proof .hstar) (decodeHeader proof .M) (decodeHeader proof .n)
       (challengeIn (boundIn s y message proof) proof) (decode circuit (boundIn s y message proof) proof)
 
--- Theorem, check is the published check: a proof is accepted exactly where that holds
+-- Theorem, check is the published check: a proof is accepted exactly where that holds, with every work buffer that is long enough
 pub record CheckIsPublished : Type 0 where
-  pub sound : (s y message proof : List ℕ) → checkOp s y message proof ≡ done [] → Accepts s y message proof
-  pub complete : (s y message proof : List ℕ) → Accepts s y message proof → checkOp s y message proof ≡ done []
+  pub sound : (s y message proof work : List ℕ) → Accepted s y message proof work → Accepts s y message proof
+  pub complete : (s y message proof work : List ℕ) (a : Accepts s y message proof) → workBytes (a .circuit) ≤ length work
+      → Accepted s y message proof work
 
 -- "from which every unhidden leaf among the M follows and no hidden one does" (document 02, order 5): exactly one opened node is at or
 -- above the master of j ∉ C, and none is at or above that of j ∈ C
@@ -84,8 +95,8 @@ pub record SeedsFollow (M : ℕ) (challenge : ℕ → Asked) : Type 0 where
 -- and none at or above another; and in the bytes that prove writes each seed*_j of step 2 is the master of its instance, from the root
 pub record SeedsFromCover : Type 0 where
   pub follow : (bound proof : List ℕ) → GoodHeader proof (decodeHeader proof) → SeedsFollow (decodeHeader proof .M) (challengeIn bound proof)
-  pub honest : (s witness y message root buffer left : List ℕ) (M tau n k : ℕ) (c : Circuit) → readCircuit s ≡ legal c
-      → proveOp s witness y message root M tau n buffer ≡ record { answer = success (k ∷ []); left = left ∷ [] }
+  pub honest : (s witness y message root buffer work left : List ℕ) (M tau n k : ℕ) (c : Circuit) → readCircuit s ≡ legal c
+      → Proves s witness y message root M tau n buffer work k left
       → (j : ℕ) → j < M → challengeIn (boundIn s y message (take k left)) (take k left) j ≡ opened
       → seed* M (challengeIn (boundIn s y message (take k left)) (take k left)) (decode c (boundIn s y message (take k left)) (take k left)) j
       ≡ masterOf M root j
@@ -94,7 +105,7 @@ pub record SeedsFromCover : Type 0 where
 -- file does
 abbrev pub AcceptedEncoding : Type 0
 AcceptedEncoding =
-    (s y message proof : List ℕ) (c : Circuit) → AllBytes proof → readCircuit s ≡ legal c → checkOp s y message proof ≡ done []
+    (s y message proof work : List ℕ) (c : Circuit) → AllBytes proof → readCircuit s ≡ legal c → Accepted s y message proof work
     → proof ≡ encode (decodeHeader proof) (decode c (boundIn s y message proof) proof)
 
 -- Theorem: what is encoded is decoded again, where the header's numbers fit their bytes, and the response is to its challenge and has the
@@ -112,14 +123,14 @@ pub record EncodingDecodes : Type 0 where
 -- Theorem: in every accepted file, the messages of party p that go into h'_j are those sent
 abbrev pub MessagesAsSent : Type 0
 MessagesAsSent =
-    (s y message proof : List ℕ) (c : Circuit) → AllBytes proof → readCircuit s ≡ legal c → checkOp s y message proof ≡ done []
+    (s y message proof work : List ℕ) (c : Circuit) → AllBytes proof → readCircuit s ≡ legal c → Accepted s y message proof work
     → (j p : ℕ) (x : Chosen) → j < decodeHeader proof .M → decode c (boundIn s y message proof) proof .sent j ≡ chosen p x
     → msgs c (decodeHeader proof .n) j p x p ≡ x .msgs-p
 
 -- Theorem: the length of every accepted proof is the one its challenge implies
 abbrev pub AcceptedLength : Type 0
 AcceptedLength =
-    (s y message proof : List ℕ) (c : Circuit) → readCircuit s ≡ legal c → checkOp s y message proof ≡ done []
+    (s y message proof work : List ℕ) (c : Circuit) → readCircuit s ≡ legal c → Accepted s y message proof work
     → length proof ≡ impliedLength c (boundIn s y message proof) proof
 
 -- the input of the challenge of a file, under the circuit file s, y and message
@@ -141,6 +152,6 @@ pub record OneStatement (s y message proof s′ y′ message′ proof′ : List 
 -- n, their circuit files have one SHA3-256, and, where the outputs of the circuits have equally many bytes, y and message are the same
 abbrev pub StatementCovered : Type 0
 StatementCovered =
-    (s y message proof s′ y′ message′ proof′ : List ℕ) (c c′ : Circuit) → readCircuit s ≡ legal c → readCircuit s′ ≡ legal c′
-    → checkOp s y message proof ≡ done [] → checkOp s′ y′ message′ proof′ ≡ done [] → inputIn s y message proof ≡ inputIn s′ y′ message′ proof′
+    (s y message proof work s′ y′ message′ proof′ work′ : List ℕ) (c c′ : Circuit) → readCircuit s ≡ legal c → readCircuit s′ ≡ legal c′
+    → Accepted s y message proof work → Accepted s′ y′ message′ proof′ work′ → inputIn s y message proof ≡ inputIn s′ y′ message′ proof′
     → OneStatement s y message proof s′ y′ message′ proof′ c c′

@@ -13,6 +13,7 @@ use Rattle.circuit.specs.Circuit.{ands}
 use Rattle.circuit.specs.Chain.{walkFrom}
 use Rattle.circuit.specs.Fields as fields
 use Rattle.circuit.specs.File.{legal, onWalk, readsWritten, circuitOf, readCircuit}
+use Rattle.circuit.specs.Operations.{workBytes}
 use Rattle.choice.specs.Challenge.{streamOf, instances, hiddenParties, Ascending, more, Sound}
 use Rattle.seeds.specs.Operations.{areCounts}
 use Rattle.choice.proofs.Challenges.{challenge-sound}
@@ -36,6 +37,11 @@ inputs-K = refl
 room-K : proofRoom (circuitOf circuitK) 4 1 2 ≡ 233
 unfolding proofRoom fields.circuitOf leAt fields.field fields.gatesInOrder fields.chainFrom fields.gateAt ands heightOf
 room-K = refl
+
+-- the least work buffer
+work-K : workBytes (circuitOf circuitK) ≡ 4288
+unfolding fields.circuitOf leAt fields.field fields.gatesInOrder fields.chainFrom fields.gateAt
+work-K = refl
 
 -- the two rows of the table
 first-row : proofSizes 0 ≡ replicate 4 217
@@ -66,9 +72,9 @@ size-by-party (i ∷ []) (q ∷ q′ ∷ ps) p k s e f = absurd (omega (arith, s
 size-by-party (i ∷ i′ ∷ is) (q ∷ ps) p k s e f = absurd (omega (arith, s .count))
 
 -- what is lent passes the tests of prove
-passes : (witness y message root buffer : List ℕ) → ProveInputs witness y message root buffer → Passes (circuitOf circuitK) witness y message root buffer 4 1 2
+passes : (witness y message root buffer work : List ℕ) → ProveInputs witness y message root buffer work → Passes (circuitOf circuitK) witness y message root buffer 4 1 2
 unfolding areCounts isPartyCount heightOf
-passes witness y message root buffer h =
+passes witness y message root buffer work h =
     record {
       counts = refl;
       parties = refl;
@@ -81,24 +87,24 @@ passes witness y message root buffer h =
     }
 
 -- prove answers the length that its hidden party decides
-answers : (witness y message root buffer : List ℕ) (p k : ℕ) → ProveInputs witness y message root buffer → proofSizes p ≡ replicate 4 k
-    → hiddenParty witness y message root ≡ p → proveOp circuitK witness y message root 4 1 2 buffer .answer ≡ success (k ∷ [])
+answers : (witness y message root buffer work : List ℕ) (p k : ℕ) → ProveInputs witness y message root buffer work → proofSizes p ≡ replicate 4 k
+    → hiddenParty witness y message root ≡ p → proveOp circuitK witness y message root 4 1 2 buffer work .answer ≡ success (k ∷ [])
 unfolding hiddenParty challenged
-answers witness y message root buffer p k h f e =
+answers witness y message root buffer work p k h f e =
     let hstar : List ℕ = firstMessage (circuitOf circuitK) 4 2 witness (masterOf 4 root) in
     let bound : List ℕ = statementOf 4 1 2 circuitK y message in
     let stream : List ℕ = streamOf 1 hstar bound in
-    prove-answers (circuitOf circuitK) witness y message root buffer 4 1 2 (passes witness y message root buffer h) circuitK read-K
+    prove-answers (circuitOf circuitK) witness y message root buffer 4 1 2 (passes witness y message root buffer work h) circuitK work read-K (rw work-K (h .work-room))
     ∙ ap (λ (n : ℕ). success (n ∷ []))
     (size-by-party (instances 4 1 stream) (hiddenParties 1 2 stream) p k (challenge-sound 4 1 2 hstar bound (omega arith) (omega arith)) e f)
 
 -- m10, M = 4, τ = 1, n = 2: 217 bytes if p = 0, 216 if p = 1
 pub m10-proved : M10
 unfolding hiddenParty
-m10-proved witness y message root buffer h =
+m10-proved witness y message root buffer work h =
     let hstar : List ℕ = firstMessage (circuitOf circuitK) 4 2 witness (masterOf 4 root) in
     record {
       party = challenge-sound 4 1 2 hstar (statementOf 4 1 2 circuitK y message) (omega arith) (omega arith) .hidden 0;
-      first = answers witness y message root buffer 0 217 h first-row;
-      last = answers witness y message root buffer 1 216 h last-row;
+      first = answers witness y message root buffer work 0 217 h first-row;
+      last = answers witness y message root buffer work 1 216 h last-row;
     }

@@ -1,4 +1,6 @@
 pub mod Opened
+pub mod Lent
+pub mod Succeeding
 pub mod Asks
 pub mod Places
 pub mod Tested

@@ -22,7 +22,7 @@ use Rattle.walk.specs.Steps.{layoutOf}
 use Rattle.packing.proofs.Prepared.{corrections-prepared}
 use Rattle.packed.specs.Steps.{Held, tapesHeld, correctionsHeld}
 use Rattle.packed.proofs.Runs.{room-held, room-masks}
-use Rattle.mpc.specs.Steps.{Known, workBytes, Working, Placed, TapesFit, withTapes, withBoth, prepared}
+use Rattle.mpc.specs.Steps.{Known, Working, Placed, TapesFit, withTapes, withBoth, prepared}
 
 -- the part of a memory m from a to e, for as many bytes as x has from place A on
 module _ (m x : List ℕ) (A a e : ℕ) (ea : a ≡ A) (ee : e ≡ A + length x) (h : A + length x ≤ length m) where
@@ -74,10 +74,6 @@ module _ (z : Sizes) (l : Layout) (e : l ≡ layoutOf z) where
 -- a memory that is as long is a work memory too
 pub working-kept : (z : Sizes) (n : ℕ) (m k : List ℕ) → length k ≡ length m → Working z n m → Working z n k
 working-kept z n m k e w = record { parties = w .parties; room = omega (arith, e, w .room) }
-
--- the work memory that an operation makes
-pub own-room : (s : List ℕ) (z : Sizes) → Known s z → workBytes z ≤ length (replicate {A = ℕ} 299008 0)
-own-room s z k = omega (arith, length-replicate {A = ℕ} 299008 0, k .legal .laid .few-inputs, k .legal .laid .few-gates)
 
 -- the first bytes of 32 zeros, for the outputs
 module _ (s : List ℕ) (z : Sizes) (k : Known s z) (size : ℕ) (e : size ≡ oct (z .outputs)) where

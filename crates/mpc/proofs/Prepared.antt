@@ -1,18 +1,18 @@
 -- What prepare answers and leaves: the corrections, and each refusal.
 -- Assumes nothing.
 use mathlib.Core.Path.{_≡_, sym, ap, ap₂, _∙_}
-use mathlib.Core.Bool.{Bool, true, false, not, _&&_}
-use mathlib.Core.List.{List, [], _∷_}
-use Prim.Native.Nat.{ℕ, _+_, _*_}
+use mathlib.Core.Bool.{Bool, true, false, not, cond, _&&_, _||_}
+use mathlib.Core.List.{List, [], _∷_, _++_}
+use Prim.Native.Nat.{ℕ, _+_, _*_, _≤_, _<_}
 use lib.Dec.{eqb}
-use lib.ListN.{length}
+use lib.ListN.{length, drop, replicate}
 use Rattle.bits.specs.Bits.{oct, pack}
 use Rattle.refusal.specs.declared.Refusal.{Refusal}
 use Rattle.refusal.specs.declared.Refusal.the-variants.{BufferLength, UnusedBits, Parameter}
 use Rattle.parties.specs.Parties.{heightOf}
 use Rattle.parties.proofs.Counts.{count-yes, count-no}
-use Rattle.circuit.specs.File.{circuitOf, Reading}
-use Rattle.circuit.specs.Operations.{readOp, onLegal, holds}
+use Rattle.circuit.specs.File.{circuitOf}
+use Rattle.circuit.specs.Operations.{readOp, holds}
 use Rattle.circuit.specs.Answers.{readPaper}
 use Rattle.circuit.specs.declared.Sizes.{Sizes}
 use Rattle.circuit.specs.declared.ReadAnswer.{ReadAnswer}
@@ -22,9 +22,11 @@ use Rattle.plain.specs.Tapes.{andsOf, unusedRows}
 use Rattle.plain.specs.Showing.{correctionBits}
 use Rattle.mpc.specs.Operations.{holdsRows, tapeBits, prepareLegal, prepareOp}
 use Rattle.mpc.specs.Answers.{outcome}
-use Rattle.mpc.specs.Steps.{Known}
+use Rattle.mpc.specs.Steps.{Known, memoryBytes, isDone}
+use Rattle.mpc.specs.declared.Answer.{Answer}
 use Rattle.mpc.specs.declared.Answer.the-variants.{Done, Refused}
-use Rattle.mpc.proofs.Opened.{sized, opened-refused, opened-legal, circuit-inputs, circuit-ands}
+use Rattle.mpc.proofs.Opened.{sized, circuit-inputs, circuit-ands}
+use Rattle.mpc.proofs.Lent.{all-cleared, work-refused, work-short, work-left}
 
 -- the answers on a legal file
 module _ (s : List ℕ) (i o g a : ℕ) (k : Known s (sized i o g a)) (n h : ℕ) (tapes out : List ℕ) (count : h ≡ heightOf n) where
@@ -62,11 +64,19 @@ module _ (s : List ℕ) (i o g a : ℕ) (k : Known s (sized i o g a)) (n h : ℕ
     prepare-done t u z w x y = rw (count-yes n (λ z. more (count ∙ z)), held _ r tested t, held _ u z w, y)
 
 -- the file is read first
-module _ (s : List ℕ) (n : ℕ) (tapes out : List ℕ) (r : ReadAnswer) (e : readPaper r ≡ readOp s) where
-  pub prepare-refused : (k : Refusal) {slot : ℕ} → r ≡ readAnswer.Refused k slot → outcome (Refused k) (out ∷ []) ≡ prepareOp s n tapes out
+module _ (s : List ℕ) (n : ℕ) (tapes out work : List ℕ) (r : ReadAnswer) (e : readPaper r ≡ readOp s) where
+  pub prepare-refused : (k : Refusal) {slot : ℕ} → r ≡ readAnswer.Refused k slot → outcome (Refused k) (out ∷ work ∷ []) ≡ prepareOp s n tapes out work
   unfolding prepareOp
-  prepare-refused k p = sym (ap (λ (x : Reading). onLegal x (out ∷ []) (prepareLegal n tapes out)) (opened-refused s k r p e))
+  prepare-refused k p = work-refused s (out ∷ []) work (prepareLegal n tapes out) r e k p
 
-  pub prepare-read : (z : Sizes) → r ≡ readAnswer.Legal z → prepareLegal n tapes out (circuitOf s) ≡ prepareOp s n tapes out
-  unfolding prepareOp
-  prepare-read z p = sym (ap (λ (x : Reading). onLegal x (out ∷ []) (prepareLegal n tapes out)) (opened-legal s z r p e))
+  -- then the work buffer is tested
+  module _ (z : Sizes) (p : r ≡ readAnswer.Legal z) (need : ℕ) (q : need ≡ memoryBytes z) where
+    pub prepare-short : length work < need → outcome (Refused BufferLength) (out ∷ work ∷ []) ≡ prepareOp s n tapes out work
+    unfolding prepareOp
+    prepare-short l = work-short s (out ∷ []) work (prepareLegal n tapes out) r e z p need q l
+
+    pub prepare-left : need ≤ length work → (a : Answer) (x : List ℕ) → outcome a (x ∷ []) ≡ prepareLegal n tapes out (circuitOf s)
+        → (k : ℕ) (m w : List ℕ) → w ≡ cond (true || isDone a) (replicate k 0 ++ drop k m) m → k ≡ length work → length m ≡ length work
+        → outcome a (x ∷ w ∷ []) ≡ prepareOp s n tapes out work
+    unfolding prepareOp
+    prepare-left l a x t k m w u v j = work-left s (out ∷ []) work (prepareLegal n tapes out) r e z p need q l (outcome a (x ∷ [])) t w (all-cleared a k work m w u v j)

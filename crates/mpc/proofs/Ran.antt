@@ -1,20 +1,20 @@
 -- What run answers and leaves: masked inputs, broadcast rows and output as the work memory gives them, and each refusal.
 -- Assumes nothing.
 use mathlib.Core.Path.{_≡_, sym, ap, ap₂, _∙_}
-use mathlib.Core.Bool.{Bool, true, false, not, _&&_}
-use mathlib.Core.List.{List, [], _∷_}
-use Prim.Native.Nat.{ℕ, _+_, _*_}
+use mathlib.Core.Bool.{Bool, true, false, not, cond, _&&_, _||_}
+use mathlib.Core.List.{List, [], _∷_, _++_}
+use Prim.Native.Nat.{ℕ, _+_, _*_, _≤_, _<_}
 use borrow.Author.Tests.{eqb-true, not-false}
 use lib.Dec.{eqb}
-use lib.ListN.{length}
+use lib.ListN.{length, drop, replicate}
 use Rattle.bits.specs.Bits.{oct, pack, bitAt, unusedZero}
 use Rattle.bits.proofs.Tests.{and-true-left, and-true-right}
 use Rattle.refusal.specs.declared.Refusal.{Refusal}
 use Rattle.refusal.specs.declared.Refusal.the-variants.{BufferLength, UnusedBits, Parameter}
 use Rattle.parties.specs.Parties.{heightOf}
 use Rattle.parties.proofs.Counts.{count-yes, count-no}
-use Rattle.circuit.specs.File.{circuitOf, Reading}
-use Rattle.circuit.specs.Operations.{readOp, onLegal}
+use Rattle.circuit.specs.File.{circuitOf}
+use Rattle.circuit.specs.Operations.{readOp}
 use Rattle.circuit.specs.Answers.{readPaper}
 use Rattle.circuit.specs.declared.Sizes.{Sizes}
 use Rattle.circuit.specs.declared.ReadAnswer.{ReadAnswer}
@@ -27,9 +27,11 @@ use Rattle.packed.specs.Steps.{broadcastBytes, tapesHeld, correctionsHeld, ranM
 use Rattle.packed.proofs.Runs.{rows-ran}
 use Rattle.mpc.specs.Operations.{ran, runLegal, runOp}
 use Rattle.mpc.specs.Answers.{outcome}
-use Rattle.mpc.specs.Steps.{Known, Working, TapesFit, RunLent, withBoth}
+use Rattle.mpc.specs.Steps.{Known, memoryBytes, Working, TapesFit, RunLent, withBoth, isDone}
+use Rattle.mpc.specs.declared.Answer.{Answer}
 use Rattle.mpc.specs.declared.Answer.the-variants.{Done, Refused}
-use Rattle.mpc.proofs.Opened.{sized, opened-refused, opened-legal, circuit-inputs, circuit-outputs, circuit-ands}
+use Rattle.mpc.proofs.Opened.{sized, circuit-inputs, circuit-outputs, circuit-ands}
+use Rattle.mpc.proofs.Lent.{all-cleared, work-refused, work-short, work-left}
 use Rattle.mpc.proofs.Places.{working-kept, memory-held, placed, both-length, both-tapes, both-corrections}
 
 -- what the run in a work memory leaves: m1 the memory with the tapes and the corrections brought in, m2 the memory after the run
@@ -135,11 +137,23 @@ module _ (s : List ℕ) (i o g a : ℕ) (k : Known s (sized i o g a)) (n h : ℕ
           ap (outcome Done) z ∙ rw (count-yes n (λ z. more (count ∙ z)), held _ r (e ∙ lengths-right) t, held _ b5 unused-right u)
 
 -- the file is read first
-module _ (s : List ℕ) (n : ℕ) (w tapes corr masked rows y : List ℕ) (r : ReadAnswer) (e : readPaper r ≡ readOp s) where
-  pub run-refused : (k : Refusal) {slot : ℕ} → r ≡ readAnswer.Refused k slot → outcome (Refused k) (masked ∷ rows ∷ y ∷ []) ≡ runOp s n w tapes corr masked rows y
+module _ (s : List ℕ) (n : ℕ) (w tapes corr masked rows y work : List ℕ) (r : ReadAnswer) (e : readPaper r ≡ readOp s) where
+  pub run-refused : (k : Refusal) {slot : ℕ} → r ≡ readAnswer.Refused k slot
+      → outcome (Refused k) (masked ∷ rows ∷ y ∷ work ∷ []) ≡ runOp s n w tapes corr masked rows y work
   unfolding runOp
-  run-refused k p = sym (ap (λ (x : Reading). onLegal x (masked ∷ rows ∷ y ∷ []) (runLegal n w tapes corr masked rows y)) (opened-refused s k r p e))
+  run-refused k p = work-refused s (masked ∷ rows ∷ y ∷ []) work (runLegal n w tapes corr masked rows y) r e k p
 
-  pub run-read : (z : Sizes) → r ≡ readAnswer.Legal z → runLegal n w tapes corr masked rows y (circuitOf s) ≡ runOp s n w tapes corr masked rows y
-  unfolding runOp
-  run-read z p = sym (ap (λ (x : Reading). onLegal x (masked ∷ rows ∷ y ∷ []) (runLegal n w tapes corr masked rows y)) (opened-legal s z r p e))
+  -- then the work buffer is tested
+  module _ (z : Sizes) (p : r ≡ readAnswer.Legal z) (need : ℕ) (q : need ≡ memoryBytes z) where
+    pub run-short : length work < need → outcome (Refused BufferLength) (masked ∷ rows ∷ y ∷ work ∷ []) ≡ runOp s n w tapes corr masked rows y work
+    unfolding runOp
+    run-short l = work-short s (masked ∷ rows ∷ y ∷ []) work (runLegal n w tapes corr masked rows y) r e z p need q l
+
+    pub run-left : need ≤ length work → (a : Answer) (x1 x2 x3 : List ℕ)
+        → outcome a (x1 ∷ x2 ∷ x3 ∷ []) ≡ runLegal n w tapes corr masked rows y (circuitOf s) → (k : ℕ) (m x : List ℕ)
+        → x ≡ cond (true || isDone a) (replicate k 0 ++ drop k m) m → k ≡ length work → length m ≡ length work
+        → outcome a (x1 ∷ x2 ∷ x3 ∷ x ∷ []) ≡ runOp s n w tapes corr masked rows y work
+    unfolding runOp
+    run-left l a x1 x2 x3 t k m x u v j =
+        work-left s (masked ∷ rows ∷ y ∷ []) work (runLegal n w tapes corr masked rows y) r e z p need q l (outcome a (x1 ∷ x2 ∷ x3 ∷ [])) t x
+        (all-cleared a k work m x u v j)

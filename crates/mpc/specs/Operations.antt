@@ -1,6 +1,7 @@
 -- The operations prepare, run, show and replay: answer and lent memory (document 01, "Each operation's refusals, in order"):
 -- "1 to 5 [by document 02, order 2: 1, 2, 3, 19, 20, 21 and 5], then 8 for n, 9 for p at or above n or a cut above G, 6 a lent
 -- length not as stated, 7 a nonzero unused bit, each where the operation has that input." "A refusal returns its number alone, and all lent buffers hold what they held."
+-- By document 02, order 7, each is lent a work buffer last: it is tested directly after the circuit is read, and is left all zero.
 -- Assumes nothing.
 use mathlib.Core.Bool.{Bool, not, _&&_, _||_}
 use mathlib.Core.List.{List, [], _∷_}
@@ -13,7 +14,7 @@ use Rattle.refusal.specs.Outcome.{Outcome, done, unless}
 use Rattle.parties.specs.Parties.{isPartyCount}
 use Rattle.circuit.specs.Circuit.{Circuit}
 use Rattle.circuit.specs.File.{readCircuit}
-use Rattle.circuit.specs.Operations.{onLegal, holds}
+use Rattle.circuit.specs.Operations.{onLegalWork, holds}
 use Rattle.plain.specs.Run.{Transcript}
 use Rattle.plain.specs.Tapes.{andsOf, tapeRow, unusedRows}
 use Rattle.plain.specs.Showing.{correctionBits, maskedInputs, runOn, rowsOf, Showing, showing, replayOf}
@@ -38,8 +39,8 @@ prepareLegal n tapes out c =
     (unless (unusedRows c n tapes n) 7 lent
     (done (pack (correctionBits c n tapes) ∷ []))))
 
-unfoldable pub prepareOp : List ℕ → ℕ → List ℕ → List ℕ → Outcome
-prepareOp s n tapes out = onLegal (readCircuit s) (out ∷ []) (prepareLegal n tapes out)
+unfoldable pub prepareOp : List ℕ → ℕ → List ℕ → List ℕ → List ℕ → Outcome
+prepareOp s n tapes out work = onLegalWork (readCircuit s) (out ∷ []) work (prepareLegal n tapes out)
 
 -- the outputs of a run: "the masked inputs, n broadcast rows and y"
 unfoldable pub ran : Circuit → ℕ → List ℕ → List ℕ → List ℕ → List (List ℕ)
@@ -59,9 +60,9 @@ runLegal n witness tapes corrections masked rows y c =
     (unless (unusedZero (c .inputs) witness && unusedRows c n tapes n && unusedZero (andsOf c) corrections) 7 lent
     (done (ran c n witness tapes corrections))))
 
-unfoldable pub runOp : List ℕ → ℕ → List ℕ → List ℕ → List ℕ → List ℕ → List ℕ → List ℕ → Outcome
-runOp s n witness tapes corrections masked rows y =
-    onLegal (readCircuit s) (masked ∷ rows ∷ y ∷ []) (runLegal n witness tapes corrections masked rows y)
+unfoldable pub runOp : List ℕ → ℕ → List ℕ → List ℕ → List ℕ → List ℕ → List ℕ → List ℕ → List ℕ → Outcome
+runOp s n witness tapes corrections masked rows y work =
+    onLegalWork (readCircuit s) (masked ∷ rows ∷ y ∷ []) work (runLegal n witness tapes corrections masked rows y)
 
 -- a showing's four parts
 abbrev pub partsOf : Showing → List (List ℕ)
@@ -83,8 +84,8 @@ showLegal n p cut witness tapes out c =
     (unless (unusedZero (c .inputs) witness && unusedRows c n tapes n) 7 lent
     (done (partsOf (showing c n p cut witness tapes))))))
 
-unfoldable pub showOp : List ℕ → ℕ → ℕ → ℕ → List ℕ → List ℕ → Showing → Outcome
-showOp s n p cut witness tapes out = onLegal (readCircuit s) (partsOf out) (showLegal n p cut witness tapes out)
+unfoldable pub showOp : List ℕ → ℕ → ℕ → ℕ → List ℕ → List ℕ → Showing → List ℕ → Outcome
+showOp s n p cut witness tapes out work = onLegalWork (readCircuit s) (partsOf out) work (showLegal n p cut witness tapes out)
 
 -- "7 also for a nonzero hidden row, or nonzero corrections with p = n − 1"
 unfoldable pub unusedShowing : Circuit → ℕ → ℕ → Showing → Bool
@@ -105,5 +106,5 @@ replayLegal n p x y rows c =
     (unless (unusedShowing c n p x && unusedZero (length (c .outputs)) y) 7 lent
     (unless (sameBytes (pack (r .output)) y) 10 lent (done (rowsOf n r ∷ []))))))
 
-unfoldable pub replayOp : List ℕ → ℕ → ℕ → Showing → List ℕ → List ℕ → Outcome
-replayOp s n p x y rows = onLegal (readCircuit s) (rows ∷ []) (replayLegal n p x y rows)
+unfoldable pub replayOp : List ℕ → ℕ → ℕ → Showing → List ℕ → List ℕ → List ℕ → Outcome
+replayOp s n p x y rows work = onLegalWork (readCircuit s) (rows ∷ []) work (replayLegal n p x y rows)

@@ -1,7 +1,7 @@
 -- What only the contracts of steps use: no definition of the paper stands here.
 -- Assumes nothing.
 use mathlib.Core.Path.{_≡_}
-use mathlib.Core.Bool.{true}
+use mathlib.Core.Bool.{Bool, true, false}
 use mathlib.Core.List.{List}
 use Prim.Native.Nat.{ℕ, _+_, _*_, _≤_}
 use lib.ListN.{length}
@@ -15,6 +15,13 @@ use Rattle.plain.specs.Tapes.{unusedRows}
 use Rattle.masks.specs.Steps.{wireCount, rowsFrom, worked, correctionsOf}
 use Rattle.planes.specs.Steps.{Room, correctionsAt, rowsAt, seedsAt}
 use Rattle.walk.specs.Steps.{layoutOf}
+use Rattle.mpc.specs.declared.Answer.{Answer}
+use Rattle.mpc.specs.declared.Answer.the-variants.{Done, Refused}
+
+-- whether an answer is a success
+abbrev pub isDone : Answer → Bool
+isDone Done = true
+isDone (Refused k) = false
 
 -- a legal file with its I, O, G and A
 pub record Known (s : List ℕ) (z : Sizes) : Type 0 where
@@ -27,13 +34,13 @@ pub record Parties (n : ℕ) : Type 0 where
   pub few : n ≤ 16
 
 -- the bytes of a circuit's work memory
-abbrev pub workBytes : Sizes → ℕ
-workBytes z = 64 * wireCount z + 4096
+abbrev pub memoryBytes : Sizes → ℕ
+memoryBytes z = 64 * wireCount z + 4096
 
 -- n parties, with a work memory
 pub record Working (z : Sizes) (n : ℕ) (m : List ℕ) : Type 0 where
   pub parties : Parties n
-  pub room : workBytes z ≤ length m
+  pub room : memoryBytes z ≤ length m
 
 -- a memory that holds the planes, the corrections and the tape rows of n parties
 pub record Placed (z : Sizes) (n : ℕ) (m : List ℕ) : Type 0 where

@@ -1,5 +1,6 @@
 // A circuit run by n parties on masked values: preparing the corrections, and the run.
 pub mod holding;
+pub mod lending;
 pub mod preparing;
 pub mod running;
 pub mod tests;

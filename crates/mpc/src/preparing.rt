@@ -8,10 +8,12 @@ ghost use Rattle.circuit.specs.File.{circuitOf};
 ghost use Rattle.plain.specs.Showing.{correctionBits};
 ghost use Rattle.mpc.specs.Operations.{prepareLegal, prepareOp};
 ghost use Rattle.mpc.specs.Answers.{outcome};
-ghost use Rattle.mpc.specs.Steps.{Known, TapesFit, Working, workBytes, PrepareLent, prepared};
+ghost use Rattle.mpc.specs.Steps.{Known, TapesFit, Working, memoryBytes, PrepareLent, prepared};
 use crate::Answer;
 use crate::holding::give_corrections;
 use crate::holding::hold_tapes;
+use crate::lending::clear_after;
+use crate::lending::work_bytes;
 use crate::tests::both;
 use crate::tests::holds;
 use crate::tests::holds_rows;
@@ -55,7 +57,7 @@ fn prepare_lent(
     corrections: &mut [u8],
     memory: &mut [u8],
 ) -> Answer
-    requires { ⌜ Known (now s) z × (workBytes z ≤ length (now memory)) ⌝ }
+    requires { ⌜ Known (now s) z × (memoryBytes z ≤ length (now memory)) ⌝ }
     ensures { λ r. ⌜ outcome r (now (corrections .exit) ∷ []) ≡ prepareLegal n (now (tapes .entry)) (now (corrections .entry)) (circuitOf (now (s .entry))) ⌝ }
 {
     if parties::height(n) == 0 {
@@ -75,14 +77,23 @@ fn prepare_lent(
     Answer::Done
 }
 
-// Fills the corrections from the tapes of n parties, or refuses and leaves them as they were.
-pub fn prepare(s: &[u8], n: u32, tapes: &[u8], corrections: &mut [u8]) -> Answer
-    ensures { λ r. ⌜ outcome r (now (corrections .exit) ∷ []) ≡ prepareOp (now (s .entry)) n (now (tapes .entry)) (now (corrections .entry)) ⌝ }
+// Fills the corrections from the tapes of n parties, or refuses and leaves them as they were. The work buffer is left all zero, but for
+// a refusal up to its test.
+pub fn prepare(s: &[u8], n: u32, tapes: &[u8], corrections: &mut [u8], work: &mut [u8]) -> Answer
+    ensures { λ r. ⌜ outcome r (now (corrections .exit) ∷ now (work .exit) ∷ []) ≡ prepareOp (now (s .entry)) n (now (tapes .entry)) (now (corrections .entry)) (now (work .entry)) ⌝ }
 {
-    let mut memory = [0u8; 299008];
     let answer = read(s);
     match answer {
         ReadAnswer::Refused(k, _) => Answer::Refused(k),
-        ReadAnswer::Legal(z) => prepare_lent(s, z, n, tapes, corrections, &mut memory),
+        ReadAnswer::Legal(z) => {
+            let all = work.len();
+            let need = work_bytes(z);
+            if all < need {
+                return Answer::Refused(Refusal::BufferLength);
+            }
+            let ended = prepare_lent(s, z, n, tapes, corrections, work);
+            clear_after(ended, true, all, work);
+            ended
+        }
     }
 }

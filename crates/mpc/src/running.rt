@@ -9,9 +9,11 @@ ghost use Rattle.bits.specs.Bits.{oct};
 ghost use Rattle.circuit.specs.File.{maxInputs, maxOutputs, maxGates, circuitOf};
 ghost use Rattle.mpc.specs.Operations.{ran, runLegal, runOp};
 ghost use Rattle.mpc.specs.Answers.{outcome};
-ghost use Rattle.mpc.specs.Steps.{Known, Working, workBytes, RunLent};
+ghost use Rattle.mpc.specs.Steps.{Known, Working, memoryBytes, RunLent};
 use crate::Answer;
 use crate::holding::hold;
+use crate::lending::clear_after;
+use crate::lending::work_bytes;
 use crate::tests::both;
 use crate::tests::holds;
 use crate::tests::holds_rows;
@@ -85,7 +87,7 @@ fn run_lent(
     y: &mut [u8],
     memory: &mut [u8],
 ) -> Answer
-    requires { ⌜ Known (now s) z × (workBytes z ≤ length (now memory)) ⌝ }
+    requires { ⌜ Known (now s) z × (memoryBytes z ≤ length (now memory)) ⌝ }
     ensures { λ r. ⌜ outcome r (now (masked .exit) ∷ now (rows .exit) ∷ now (y .exit) ∷ []) ≡ runLegal n (now (witness .entry)) (now (tapes .entry)) (now (corrections .entry)) (now (masked .entry)) (now (rows .entry)) (now (y .entry)) (circuitOf (now (s .entry))) ⌝ }
 {
     if parties::height(n) == 0 {
@@ -117,7 +119,8 @@ fn run_lent(
     Answer::Done
 }
 
-// Runs the circuit on a witness: fills the masked inputs, n broadcast rows and y, or refuses and leaves them as they were.
+// Runs the circuit on a witness: fills the masked inputs, n broadcast rows and y, or refuses and leaves them as they were. The work buffer
+// is left all zero, but for a refusal up to its test.
 pub fn run(
     s: &[u8],
     n: u32,
@@ -127,24 +130,22 @@ pub fn run(
     masked: &mut [u8],
     rows: &mut [u8],
     y: &mut [u8],
+    work: &mut [u8],
 ) -> Answer
-    ensures { λ r. ⌜ outcome r (now (masked .exit) ∷ now (rows .exit) ∷ now (y .exit) ∷ []) ≡ runOp (now (s .entry)) n (now (witness .entry)) (now (tapes .entry)) (now (corrections .entry)) (now (masked .entry)) (now (rows .entry)) (now (y .entry)) ⌝ }
+    ensures { λ r. ⌜ outcome r (now (masked .exit) ∷ now (rows .exit) ∷ now (y .exit) ∷ now (work .exit) ∷ []) ≡ runOp (now (s .entry)) n (now (witness .entry)) (now (tapes .entry)) (now (corrections .entry)) (now (masked .entry)) (now (rows .entry)) (now (y .entry)) (now (work .entry)) ⌝ }
 {
-    let mut memory = [0u8; 299008];
     let answer = read(s);
     match answer {
         ReadAnswer::Refused(k, _) => Answer::Refused(k),
-        ReadAnswer::Legal(z) => run_lent(
-            s,
-            z,
-            n,
-            witness,
-            tapes,
-            corrections,
-            masked,
-            rows,
-            y,
-            &mut memory,
-        ),
+        ReadAnswer::Legal(z) => {
+            let all = work.len();
+            let need = work_bytes(z);
+            if all < need {
+                return Answer::Refused(Refusal::BufferLength);
+            }
+            let ended = run_lent(s, z, n, witness, tapes, corrections, masked, rows, y, work);
+            clear_after(ended, true, all, work);
+            ended
+        }
     }
 }

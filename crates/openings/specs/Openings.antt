@@ -67,27 +67,37 @@ TwoOpenings =
     → WitnessOf c y (unmasked c n (x .tapes) (x .maskedInputs))
 
 -- the same over calls on the file s of the circuit c: if both calls of replay, lent y, succeed and leave those rows, evaluating those
--- bytes succeeds and fills y, into a lent buffer of the right length, whatever it holds
+-- bytes succeeds and fills y, into a lent buffer of the right length, whatever it holds; whatever the work buffers are and hold
 abbrev pub TwoOpeningsReplayed : Type 0
 TwoOpeningsReplayed =
-    (s : List ℕ) (c : Circuit) → readCircuit s ≡ legal c → (n p q : ℕ) → p ≢ q → (x : Parts) → Right c n x → (y out out′ filled : List ℕ)
-    → replayOp s n p (opening c n x p) y out ≡ done (x .rows ∷ []) → replayOp s n q (opening c n x q) y out′ ≡ done (x .rows ∷ [])
+    (s : List ℕ) (c : Circuit) → readCircuit s ≡ legal c → (n p q : ℕ) → p ≢ q → (x : Parts) → Right c n x → (y out out′ filled work work′ worked worked′ : List ℕ)
+    → replayOp s n p (opening c n x p) y out work ≡ done (x .rows ∷ worked ∷ [])
+    → replayOp s n q (opening c n x q) y out′ work′ ≡ done (x .rows ∷ worked′ ∷ [])
     → holds (length (c .outputs)) filled ≡ true → evaluateOp s (unmasked c n (x .tapes) (x .maskedInputs)) filled ≡ done (y ∷ [])
 
--- "the case that wrong corrections can break it": document 01's circuit K, one AND gate of inputs 0 and 1
+-- "the case that wrong corrections can break it": document 01's circuit K in the form in use, one AND gate of inputs 0 and 1
 abbrev pub circuitK : List ℕ
 circuitK =
-    0x02 ∷ 0x00 ∷ 0x01 ∷ 0x00 ∷ 0x01 ∷ 0x00 ∷ 0x01 ∷ 0x00 ∷ 0x02 ∷ 0x00 ∷ 0x02 ∷ 0x00 ∷ 0x00 ∷ 0x00 ∷ 0x01 ∷ 0x00 ∷ 0x00 ∷ 0x00 ∷ []
+    0x02 ∷ 0x00 ∷ 0x00 ∷ 0x00 ∷ 0x01 ∷ 0x00 ∷ 0x00 ∷ 0x00 ∷ 0x01 ∷ 0x00 ∷ 0x00 ∷ 0x00 ∷ 0x01 ∷ 0x00 ∷ 0x00 ∷ 0x00 ∷
+    0x02 ∷ 0x00 ∷ 0x00 ∷ 0x00 ∷ 0x02 ∷ 0x00 ∷ 0x00 ∷ 0x00 ∷ 0x00 ∷ 0x00 ∷ 0x00 ∷ 0x00 ∷ 0x01 ∷ 0x00 ∷ 0x00 ∷ 0x00 ∷
+    0x00 ∷ 0x00 ∷ 0x00 ∷ 0x00 ∷ []
 
 -- n = 2, tape rows 13 and 3 as in m6, where the right correction is 1; here it is 0
 abbrev pub wrong : Parts
 wrong = record { tapes = 13 ∷ 3 ∷ []; corrections = 0 ∷ []; maskedInputs = 1 ∷ []; rows = 2 ∷ 1 ∷ [] }
 
+-- a work buffer of the least length for K, as it is lent and as it is left
+abbrev pub work : List ℕ
+work = replicate 4288 255
+
+abbrev pub cleared : List ℕ
+cleared = replicate 4288 0
+
 -- both replays succeed with y = 0 and leave those rows; the bytes are 3, and evaluating them gives 1
 pub record WrongCorrections : Type 0 where
   pub reads : readCircuit circuitK ≡ legal (circuitOf circuitK)
-  pub right : prepareOp circuitK 2 (wrong .tapes) (255 ∷ []) ≡ done ((1 ∷ []) ∷ [])
-  pub first : replayOp circuitK 2 0 (opening (circuitOf circuitK) 2 wrong 0) (0 ∷ []) (255 ∷ 255 ∷ []) ≡ done (wrong .rows ∷ [])
-  pub second : replayOp circuitK 2 1 (opening (circuitOf circuitK) 2 wrong 1) (0 ∷ []) (255 ∷ 255 ∷ []) ≡ done (wrong .rows ∷ [])
+  pub right : prepareOp circuitK 2 (wrong .tapes) (255 ∷ []) work ≡ done ((1 ∷ []) ∷ cleared ∷ [])
+  pub first : replayOp circuitK 2 0 (opening (circuitOf circuitK) 2 wrong 0) (0 ∷ []) (255 ∷ 255 ∷ []) work ≡ done (wrong .rows ∷ cleared ∷ [])
+  pub second : replayOp circuitK 2 1 (opening (circuitOf circuitK) 2 wrong 1) (0 ∷ []) (255 ∷ 255 ∷ []) work ≡ done (wrong .rows ∷ cleared ∷ [])
   pub bytes : unmasked (circuitOf circuitK) 2 (wrong .tapes) (wrong .maskedInputs) ≡ 3 ∷ []
   pub gives : evaluateOp circuitK (3 ∷ []) (255 ∷ []) ≡ done ((1 ∷ []) ∷ [])

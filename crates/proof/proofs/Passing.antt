@@ -1,8 +1,7 @@
--- Tests that an operation has passed.
+-- Tests of all instances, and of a party count.
 -- Assumes nothing.
 use mathlib.Core.Path.{_≡_, refl, sym, ap, _∙_}
 use mathlib.Core.Bool.{Bool, true, false, _&&_}
-use mathlib.Core.List.{List}
 use mathlib.Core.Logic.{⊎-elim}
 use Prim.Native.Nat.{ℕ, zero, suc, _<_}
 use native.Mathlib.Omega.{arith}
@@ -10,31 +9,7 @@ use Rattle.bits.proofs.Numbers.{lt-or-le}
 use Rattle.bits.proofs.Tests.{and-true-left, and-true-right}
 use Rattle.parties.specs.Parties.{heightOf, isPartyCount}
 use Rattle.parties.proofs.Counts.{count-no}
-use Rattle.refusal.specs.Outcome.{Answer, refusal, success, Outcome, refuses, unless}
 use Rattle.proof.specs.Check.{every}
-
--- the outcome of a success
-abbrev pub succeeded : List ℕ → List (List ℕ) → Outcome
-succeeded vs left = record { answer = success vs; left = left }
-
--- a refusal is no success
-pub refused-not : (k : ℕ) (lent : List (List ℕ)) (vs : List ℕ) (left : List (List ℕ)) → refuses k lent ≡ succeeded vs left → ⊥
-refused-not k lent vs left e =
-    let a : _≡_ {A = Answer} (refusal k) (success vs) = ap (λ (o : Outcome). o .answer) e in
-    let z : _≡_ {A = ℕ} 0 1 = cc in
-    omega arith
-
--- an operation that succeeds has passed its first test
-pub unless-test : (b : Bool) (k : ℕ) (lent : List (List ℕ)) (o : Outcome) (vs : List ℕ) (left : List (List ℕ))
-    → unless b k lent o ≡ succeeded vs left → b ≡ true
-unless-test true k lent o vs left e = refl
-unless-test false k lent o vs left e = absurd (refused-not k lent vs left e)
-
--- and succeeds by what follows
-pub unless-rest : (b : Bool) (k : ℕ) (lent : List (List ℕ)) (o : Outcome) (vs : List ℕ) (left : List (List ℕ))
-    → unless b k lent o ≡ succeeded vs left → o ≡ succeeded vs left
-unless-rest true k lent o vs left e = e
-unless-rest false k lent o vs left e = absurd (refused-not k lent vs left e)
 
 -- both tests of an AND hold
 pub and-true : (a b : Bool) → a ≡ true → b ≡ true → a && b ≡ true

@@ -11,7 +11,7 @@ use lib.Dec.{eqb}
 use Rattle.bits.specs.Bits.{oct}
 use Rattle.parties.proofs.Counts.{height-small}
 use Rattle.circuit.specs.Circuit.{Circuit}
-use Rattle.circuit.specs.File.{circuitOf}
+use Rattle.circuit.specs.File.{maxInputs, maxOutputs, maxGates, circuitOf}
 use Rattle.cover.specs.Masters.{coverBytes}
 use Rattle.mpc.specs.Steps.{Known}
 use Rattle.plain.specs.Tapes.{andsOf}
@@ -39,6 +39,10 @@ pub size-opened : (c : Circuit) (n p : ℕ) → p ≡ n → 32 ≡ stretchBytes 
 unfolding stretchBytes
 size-opened c n p e = sym (ap (stretchBytes c n) (ask-opened n p e))
 
+-- the bytes of a stretch at most: siblings of four heights, corrections, com_p, masked inputs and a row
+abbrev pub maxStretch : ℕ
+maxStretch = 16 * 4 + oct maxGates + 32 + oct maxInputs + oct (maxGates + maxOutputs)
+
 -- a legal circuit
 module _ (s : List ℕ) (i o g a : ℕ) (k : Known s (sized i o g a)) where
   -- the stretch of a chosen instance, of which v bytes are corrections
@@ -50,24 +54,24 @@ module _ (s : List ℕ) (i o g a : ℕ) (k : Known s (sized i o g a)) where
       let q : stretchBytes (circuitOf s) n (askOf n p) ≡ stretchBytes (circuitOf s) n (hiding p) = ap (stretchBytes (circuitOf s) n) (ask-hiding n p other) in
       omega arith
 
-  -- the corrections that are sent have 512 bytes at most
-  pub sent-few : (n p v : ℕ) → v ≡ cond (eqb (suc p) n) 0 (oct a) → v ≤ 512
+  -- the corrections that are sent are those of a legal file at most
+  pub sent-few : (n p v : ℕ) → v ≡ cond (eqb (suc p) n) 0 (oct a) → v ≤ oct maxGates
   sent-few n p v e = rw e (go (eqb (suc p) n))
     where
-      go : (b : Bool) → cond b 0 (oct a) ≤ 512
+      go : (b : Bool) → cond b 0 (oct a) ≤ oct maxGates
       go true = omega arith
       go false = omega (arith, ands-few s i o g a k)
 
-  corrections-few : (n p : ℕ) → correctionBytes (circuitOf s) n p ≤ 512
+  corrections-few : (n p : ℕ) → correctionBytes (circuitOf s) n p ≤ oct maxGates
   unfolding correctionBytes
   corrections-few n p = go (eqb (suc p) n)
     where
-      go : (b : Bool) → cond b 0 (oct (andsOf (circuitOf s))) ≤ 512
+      go : (b : Bool) → cond b 0 (oct (andsOf (circuitOf s))) ≤ oct maxGates
       go true = omega arith
       go false = omega (arith, circuit-ands s i o g a k, ands-few s i o g a k)
 
-  -- no stretch is longer than 2048 bytes
-  pub stretch-few : (n : ℕ) (q : Asked) → stretchBytes (circuitOf s) n q ≤ 2048
+  -- no stretch is longer
+  pub stretch-few : (n : ℕ) (q : Asked) → stretchBytes (circuitOf s) n q ≤ maxStretch
   unfolding stretchBytes
   stretch-few n opened = omega arith
   stretch-few n (hiding p) =

@@ -1,34 +1,30 @@
--- The work memory of a proof, and the bytes of y.
+-- The bytes of y.
 -- Assumes nothing.
 use mathlib.Core.Path.{_≡_}
 use mathlib.Core.Bool.{true, _&&_}
 use mathlib.Core.List.{List}
-use Prim.Native.Nat.{ℕ, _+_, _*_, _≤_}
+use Prim.Native.Nat.{ℕ, _≤_}
 use native.Mathlib.Omega.{arith}
 use borrow.Author.Tests.{leb-true}
 use lib.Dec.{leb}
-use lib.ListN.{length, length-replicate, replicate}
+use lib.ListN.{length}
 use Rattle.bits.specs.Bits.{oct}
 use Rattle.bits.proofs.Tests.{and-true-left, and-true-right}
 use Rattle.circuit.specs.Fields as fields
-use Rattle.circuit.specs.File.{inputsOf, outputsOf, gatesOf, withinLimits, circuitOf, legal, readCircuit}
+use Rattle.circuit.specs.File.{maxInputs, maxOutputs, maxGates, inputsOf, outputsOf, gatesOf, withinLimits, circuitOf, legal, readCircuit}
 use Rattle.circuit.proofs.Answered.{passed}
 use Rattle.seeds.specs.Operations.{maxOutputBytes}
 use Rattle.mpc.specs.Steps.{Known}
 use Rattle.mpc.proofs.Opened.{sized}
 
--- an array of 299008 zeros holds the work memory of a legal file
-pub work-few : (s : List ℕ) (i o g a : ℕ) → Known s (sized i o g a) → 64 * (i + g) + 4096 ≤ length (replicate {A = ℕ} 299008 0)
-work-few s i o g a k = omega (arith, k .legal .laid .few-inputs, k .legal .laid .few-gates, length-replicate {A = ℕ} 299008 0)
-
 -- a circuit that was read has an output
 some-output : (s : List ℕ) → withinLimits s ≡ true → 1 ≤ outputsOf s
 unfolding fields.withinLimits
 some-output s e =
-    let i = leb 1 (inputsOf s) && leb (inputsOf s) 512 in
+    let i = leb 1 (inputsOf s) && leb (inputsOf s) maxInputs in
     let o = leb 1 (outputsOf s) in
-    let few = leb (outputsOf s) 256 in
-    leb-true 1 (outputsOf s) (and-true-right i o (and-true-left (i && o) few (and-true-left (i && o && few) (leb (gatesOf s) 4096) e)))
+    let few = leb (outputsOf s) maxOutputs in
+    leb-true 1 (outputsOf s) (and-true-right i o (and-true-left (i && o) few (and-true-left (i && o && few) (leb (gatesOf s) maxGates) e)))
 
 -- so y has 1 to 32 bytes
 pub output-bytes : (s : List ℕ) (i o g a : ℕ) → Known s (sized i o g a) → readCircuit s ≡ legal (circuitOf s) → (y : List ℕ) → length y ≡ oct o

@@ -10,7 +10,7 @@ use Rattle.bits.specs.Bytes.{sameBytes}
 use Rattle.refusal.specs.Outcome.{Outcome, done, unless}
 use Rattle.circuit.specs.Circuit.{Circuit}
 use Rattle.circuit.specs.File.{readCircuit}
-use Rattle.circuit.specs.Operations.{onLegal, holds}
+use Rattle.circuit.specs.Operations.{onLegalWork, holds}
 use Rattle.seeds.specs.Operations.{maxMessage}
 use Rattle.instance.specs.Instance.{Asked}
 use Rattle.instance.specs.Opened.{stretchCommitments, stretchOnline, stretchUnused, stretchOutput}
@@ -46,6 +46,7 @@ checkLegal s y message proof c =
     (challenged (headerM proof) (headerTau proof) (headerN proof) (headerHstar proof)
     (statementOf (headerM proof) (headerTau proof) (headerN proof) s y message)))))
 
--- "Check: 1 to 5" (by document 02, order 2: 1, 2, 3, 19, 20, 21 and 5), then these; it is lent no buffer to fill
-unfoldable pub checkOp : List ℕ → List ℕ → List ℕ → List ℕ → Outcome
-checkOp s y message proof = onLegal (readCircuit s) [] (checkLegal s y message proof)
+-- "Check: 1 to 5" (by document 02, order 2: 1, 2, 3, 19, 20, 21 and 5), then the work buffer (order 7), then these; it is lent no other
+-- buffer to fill
+unfoldable pub checkOp : List ℕ → List ℕ → List ℕ → List ℕ → List ℕ → Outcome
+checkOp s y message proof work = onLegalWork (readCircuit s) [] work (checkLegal s y message proof)

@@ -11,7 +11,7 @@ use Rattle.refusal.specs.Outcome.{success, Outcome, unless}
 use Rattle.parties.specs.Parties.{isPartyCount}
 use Rattle.circuit.specs.Circuit.{Circuit, evaluate}
 use Rattle.circuit.specs.File.{readCircuit}
-use Rattle.circuit.specs.Operations.{onLegal, holds}
+use Rattle.circuit.specs.Operations.{onLegalWork, holds}
 use Rattle.seeds.specs.Operations.{maxMessage, areCounts}
 use Rattle.cover.specs.Masters.{masterOf, coverOf}
 use Rattle.instance.specs.Instance.{Asked}
@@ -47,7 +47,7 @@ proveLegal s witness y message root M tau n buffer c =
     (unless (witnesses c witness y) 10 lent
     (written (proofOf c M tau n witness (statementOf M tau n s y message) root) buffer))))
 
--- "Prove: 1 to 5" (by document 02, order 2: 1, 2, 3, 19, 20, 21 and 5), then these
-unfoldable pub proveOp : List ℕ → List ℕ → List ℕ → List ℕ → List ℕ → ℕ → ℕ → ℕ → List ℕ → Outcome
-proveOp s witness y message root M tau n buffer =
-    onLegal (readCircuit s) (buffer ∷ []) (proveLegal s witness y message root M tau n buffer)
+-- "Prove: 1 to 5" (by document 02, order 2: 1, 2, 3, 19, 20, 21 and 5), then the work buffer (order 7), then these
+unfoldable pub proveOp : List ℕ → List ℕ → List ℕ → List ℕ → List ℕ → ℕ → ℕ → ℕ → List ℕ → List ℕ → Outcome
+proveOp s witness y message root M tau n buffer work =
+    onLegalWork (readCircuit s) (buffer ∷ []) work (proveLegal s witness y message root M tau n buffer)

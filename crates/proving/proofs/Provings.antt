@@ -3,25 +3,26 @@
 use mathlib.Core.Path.{_≡_, sym, ap, ap₂, _∙_}
 use mathlib.Core.Bool.{Bool, true, false, not, _&&_}
 use mathlib.Core.List.{List, [], _∷_, _++_}
-use Prim.Native.Nat.{ℕ, _≤_}
+use Prim.Native.Nat.{ℕ, _≤_, _+_, _*_, _<_}
 use native.Mathlib.Omega.{arith}
 use borrow.Author.Tests.{eqb-true, leb-true}
 use lib.Dec.{eqb, leb}
-use lib.ListN.{length, drop}
+use lib.ListN.{length, drop, replicate}
 use Rattle.mpc.specs.Steps.{WitnessFits, Known}
 use Rattle.bits.specs.Bits.{oct, unusedZero}
 use Rattle.bits.proofs.Tests.{and-true-left, and-true-right}
 use Rattle.refusal.specs.declared.Refusal.{Refusal}
 use Rattle.refusal.specs.declared.Refusal.the-variants.{BufferLength, UnusedBits, Parameter, Output}
 use Rattle.parties.specs.Parties.{heightOf, isPartyCount}
-use Rattle.circuit.specs.File.{circuitOf, Reading, legal, readCircuit}
-use Rattle.circuit.specs.Operations.{readOp, onLegal}
+use Rattle.circuit.specs.File.{circuitOf, legal, readCircuit}
+use Rattle.circuit.specs.Operations.{readOp, leaving}
 use Rattle.circuit.specs.Answers.{readPaper}
 use Rattle.circuit.specs.declared.Sizes.{Sizes}
 use Rattle.circuit.specs.declared.ReadAnswer.{ReadAnswer}
 use Rattle.circuit.specs.declared.ReadAnswer.the-variants as readAnswer
 use Rattle.circuit.proofs.Answered.{fell, held}
-use Rattle.mpc.proofs.Opened.{sized, opened-refused, opened-legal, circuit-inputs, circuit-outputs}
+use Rattle.mpc.proofs.Opened.{sized, circuit-inputs, circuit-outputs}
+use Rattle.mpc.proofs.Lent.{work-refused, work-short, work-left}
 use Rattle.seeds.specs.Operations.{areCounts}
 use Rattle.seeds.proofs.Instances.{counts-fit}
 use Rattle.instance.specs.Steps.{Tree}
@@ -31,6 +32,7 @@ use Rattle.proof.specs.Protocol.{statementOf}
 use Rattle.proof.specs.Prove.{proofOf, witnesses, written, proveLegal, proveOp}
 use Rattle.proving.specs.Steps.{Tested}
 use Rattle.proving.specs.Answers.{outcome}
+use Rattle.proving.specs.declared.Answer.{Answer}
 use Rattle.proving.specs.declared.Answer.the-variants.{Written, Refused}
 
 -- five tests that hold together
@@ -150,14 +152,20 @@ module _ (s : List ℕ) (i o g a : ℕ) (k : Known s (sized i o g a)) (w y messa
                 ∙ rw (held _ b2 counts-right t2, held _ b3 (f3 ∙ lent-right) t3, held _ b6 unused-right t6, held _ b7 f7 t)
 
 -- the file is read first
-module _ (s w y message root : List ℕ) (m tau n : ℕ) (buffer : List ℕ) (r : ReadAnswer) (e : readPaper r ≡ readOp s) where
+module _ (s w y message root : List ℕ) (m tau n : ℕ) (buffer work : List ℕ) (r : ReadAnswer) (e : readPaper r ≡ readOp s) where
   -- a refused file
-  pub prove-refused : (k : Refusal) {slot : ℕ} → r ≡ readAnswer.Refused k slot → outcome (Refused k) buffer ≡ proveOp s w y message root m tau n buffer
+  pub prove-refused : (k : Refusal) {slot : ℕ} → r ≡ readAnswer.Refused k slot
+      → leaving (outcome (Refused k) buffer) work ≡ proveOp s w y message root m tau n buffer work
   unfolding proveOp
-  prove-refused k p = sym (ap (λ (x : Reading). onLegal x (buffer ∷ []) (proveLegal s w y message root m tau n buffer)) (opened-refused s k r p e))
+  prove-refused k p = work-refused s (buffer ∷ []) work (proveLegal s w y message root m tau n buffer) r e k p
 
-  -- a legal file
-  pub prove-read : (z : Sizes) → r ≡ readAnswer.Legal z
-      → proveLegal s w y message root m tau n buffer (circuitOf s) ≡ proveOp s w y message root m tau n buffer
-  unfolding proveOp
-  prove-read z p = sym (ap (λ (x : Reading). onLegal x (buffer ∷ []) (proveLegal s w y message root m tau n buffer)) (opened-legal s z r p e))
+  -- then the work buffer is tested
+  module _ (z : Sizes) (p : r ≡ readAnswer.Legal z) (need : ℕ) (q : need ≡ 64 * (z .inputs + z .gates) + 4096) where
+    pub prove-short : length work < need → leaving (outcome (Refused BufferLength) buffer) work ≡ proveOp s w y message root m tau n buffer work
+    unfolding proveOp
+    prove-short l = work-short s (buffer ∷ []) work (proveLegal s w y message root m tau n buffer) r e z p need q l
+
+    pub prove-left : need ≤ length work → (a : Answer) (filled : List ℕ) → outcome a filled ≡ proveLegal s w y message root m tau n buffer (circuitOf s)
+        → (x : List ℕ) → x ≡ replicate (length work) 0 → leaving (outcome a filled) x ≡ proveOp s w y message root m tau n buffer work
+    unfolding proveOp
+    prove-left l a filled t x u = work-left s (buffer ∷ []) work (proveLegal s w y message root m tau n buffer) r e z p need q l (outcome a filled) t x u

@@ -28,14 +28,14 @@ module _ (s : List ℕ) (i o g a : ℕ) (k : Known s (sized i o g a)) where
     chosen = 16 * h + z + 32 + (x + y)
 
     -- they are few
-    chosen-few : chosen ≤ 1216
+    chosen-few : chosen ≤ 32768
     chosen-few =
         omega
         (arith, ands-low s i o g a k, k .legal .laid .few-inputs, k .legal .laid .few-outputs, k .legal .laid .few-gates, height-small n, tree .height)
 
     -- of all of them
-    all-few : tau * chosen ≤ 622592
-    all-few = let b : tau ≤ 512 = omega arith in let p : tau * chosen ≤ 512 * 1216 = mul-le-mul b chosen-few in p
+    all-few : tau * chosen ≤ 16777216
+    all-few = let b : tau ≤ 512 = omega arith in let p : tau * chosen ≤ 512 * 32768 = mul-le-mul b chosen-few in p
 
     -- their number fits
     pub all-fit : Fits w64 (tau * chosen)

@@ -6,6 +6,7 @@ ghost use lib.Dec.{eqb, leb};
 ghost use lib.ListN.{length};
 ghost use Rattle.bits.specs.Bits.{oct};
 ghost use Rattle.circuit.specs.File.{readCircuit, legal, circuitOf};
+ghost use Rattle.circuit.specs.Operations.{leaving};
 ghost use Rattle.masks.specs.Steps.{wireCount};
 ghost use Rattle.mpc.specs.Steps.{Known, WitnessFits};
 ghost use Rattle.choice.specs.Challenge.{maxInstances};
@@ -18,10 +19,12 @@ ghost use Rattle.proving.specs.Answers.{outcome};
 mod responding;
 mod writing;
 
+use bits::clear;
 use circuit::ReadAnswer;
 use circuit::Sizes;
 use circuit::evaluation::evaluate;
 use circuit::reading::read;
+use mpc::lending::work_bytes;
 use mpc::tests::both;
 use mpc::tests::holds;
 use proof::Counts;
@@ -126,40 +129,8 @@ fn prove_lent(
     Answer::Written(prove_in(s, z, k, witness, y, message, root, buffer, memory))
 }
 
-// The same with a work memory of its own.
-fn prove_own(
-    s: &[u8],
-    z: Sizes,
-    witness: &[u8],
-    y: &[u8],
-    message: &[u8],
-    root: &[u8],
-    m: u32,
-    tau: u32,
-    n: u32,
-    buffer: &mut [u8],
-) -> Answer
-    requires { ⌜ (readCircuit (now s) ≡ legal (circuitOf (now s))) × Known (now s) z ⌝ }
-    ensures { λ r. ⌜ outcome r (now (buffer .exit)) ≡ proveLegal (now (s .entry)) (now (witness .entry)) (now (y .entry)) (now (message .entry)) (now (root .entry)) m tau n (now (buffer .entry)) (circuitOf (now (s .entry))) ⌝ }
-{
-    let mut memory = [0u8; 299008];
-    prove_lent(
-        s,
-        z,
-        witness,
-        y,
-        message,
-        root,
-        m,
-        tau,
-        n,
-        buffer,
-        &mut memory,
-    )
-}
-
 // Proves that the circuit gives y on the witness: writes a proof into the buffer and answers its length, or refuses and leaves the
-// buffer as it was.
+// buffer as it was. The work buffer is left all zero, but for a refusal up to its test.
 pub fn prove(
     s: &[u8],
     witness: &[u8],
@@ -170,12 +141,20 @@ pub fn prove(
     tau: u32,
     n: u32,
     buffer: &mut [u8],
+    work: &mut [u8],
 ) -> Answer
-    ensures { λ r. ⌜ outcome r (now (buffer .exit)) ≡ proveOp (now (s .entry)) (now (witness .entry)) (now (y .entry)) (now (message .entry)) (now (root .entry)) m tau n (now (buffer .entry)) ⌝ }
+    ensures { λ r. ⌜ leaving (outcome r (now (buffer .exit))) (now (work .exit)) ≡ proveOp (now (s .entry)) (now (witness .entry)) (now (y .entry)) (now (message .entry)) (now (root .entry)) m tau n (now (buffer .entry)) (now (work .entry)) ⌝ }
 {
     let answer = read(s);
     match answer {
         ReadAnswer::Refused(k, _) => Answer::Refused(k),
-        ReadAnswer::Legal(z) => prove_own(s, z, witness, y, message, root, m, tau, n, buffer),
+        ReadAnswer::Legal(z) => {
+            if work.len() < work_bytes(z) {
+                return Answer::Refused(Refusal::BufferLength);
+            }
+            let ended = prove_lent(s, z, witness, y, message, root, m, tau, n, buffer, work);
+            clear(work);
+            ended
+        }
     }
 }

@@ -8,7 +8,7 @@ use native.Mathlib.Omega.{arith}
 use native.Mathlib.Numerals.{add-one}
 use borrow.Author.Tests.{lt-ltb, le-ltb, eqb-true}
 use lib.Dec.{eqb}
-use lib.ListN.{length, take, length-append}
+use lib.ListN.{length, take, drop, replicate, length-append}
 use lib.Seq.{take-at}
 use Rattle.bits.specs.Bits.{oct, pack, unusedZero}
 use Rattle.bits.specs.Bytes.{sameBytes, rowOf}
@@ -17,8 +17,8 @@ use Rattle.refusal.specs.declared.Refusal.{Refusal}
 use Rattle.refusal.specs.declared.Refusal.the-variants.{BufferLength, UnusedBits, Parameter, Index, Output}
 use Rattle.parties.specs.Parties.{heightOf, isPartyCount}
 use Rattle.parties.proofs.Counts.{count-yes, count-no}
-use Rattle.circuit.specs.File.{circuitOf, Reading}
-use Rattle.circuit.specs.Operations.{readOp, onLegal, holds}
+use Rattle.circuit.specs.File.{circuitOf}
+use Rattle.circuit.specs.Operations.{readOp, holds}
 use Rattle.circuit.specs.Answers.{readPaper}
 use Rattle.circuit.specs.declared.Sizes.{Sizes}
 use Rattle.circuit.specs.declared.ReadAnswer.{ReadAnswer}
@@ -31,9 +31,11 @@ use Rattle.packed.specs.Steps.{broadcastBytes, tapesHeld, correctionsHeld, show
 use Rattle.packed.proofs.Runs.{rows-replayed}
 use Rattle.mpc.specs.Operations.{holdsRows, holdsShowing, broadcastBits, unusedShowing, replayLegal, replayOp}
 use Rattle.mpc.specs.Answers.{outcome}
-use Rattle.mpc.specs.Steps.{Known, Working, TapesFit, ShowingFits, withBoth}
+use Rattle.mpc.specs.Steps.{Known, memoryBytes, Working, TapesFit, ShowingFits, withBoth, isDone}
+use Rattle.mpc.specs.declared.Answer.{Answer}
 use Rattle.mpc.specs.declared.Answer.the-variants.{Done, Refused}
-use Rattle.mpc.proofs.Opened.{sized, opened-refused, opened-legal, circuit-inputs, circuit-outputs, circuit-ands, circuit-row}
+use Rattle.mpc.proofs.Opened.{sized, circuit-inputs, circuit-outputs, circuit-ands, circuit-row}
+use Rattle.mpc.proofs.Lent.{all-cleared, work-refused, work-short, work-left}
 use Rattle.mpc.proofs.Places.{working-kept, memory-held, placed, both-length, both-tapes, both-corrections}
 
 -- six tests, one after the other
@@ -188,11 +190,20 @@ module _ (s : List ℕ) (i o g a : ℕ) (k : Known s (sized i o g a)) (n p : ℕ
                 rw (counts, lt-ltb p n hp, held _ r (e ∙ lengths) t, held _ d tested z, sym ew ∙ c, f)
 
 -- the file is read first
-module _ (s : List ℕ) (n p : ℕ) (x : Showing) (y rows : List ℕ) (r : ReadAnswer) (e : readPaper r ≡ readOp s) where
-  pub replay-refused : (k : Refusal) {slot : ℕ} → r ≡ readAnswer.Refused k slot → outcome (Refused k) (rows ∷ []) ≡ replayOp s n p x y rows
+module _ (s : List ℕ) (n p : ℕ) (x : Showing) (y rows work : List ℕ) (r : ReadAnswer) (e : readPaper r ≡ readOp s) where
+  pub replay-refused : (k : Refusal) {slot : ℕ} → r ≡ readAnswer.Refused k slot → outcome (Refused k) (rows ∷ work ∷ []) ≡ replayOp s n p x y rows work
   unfolding replayOp
-  replay-refused k q = sym (ap (λ (z : Reading). onLegal z (rows ∷ []) (replayLegal n p x y rows)) (opened-refused s k r q e))
+  replay-refused k q = work-refused s (rows ∷ []) work (replayLegal n p x y rows) r e k q
 
-  pub replay-read : (z : Sizes) → r ≡ readAnswer.Legal z → replayLegal n p x y rows (circuitOf s) ≡ replayOp s n p x y rows
-  unfolding replayOp
-  replay-read z q = sym (ap (λ (t : Reading). onLegal t (rows ∷ []) (replayLegal n p x y rows)) (opened-legal s z r q e))
+  -- then the work buffer is tested
+  module _ (z : Sizes) (q : r ≡ readAnswer.Legal z) (need : ℕ) (f : need ≡ memoryBytes z) where
+    pub replay-short : length work < need → outcome (Refused BufferLength) (rows ∷ work ∷ []) ≡ replayOp s n p x y rows work
+    unfolding replayOp
+    replay-short l = work-short s (rows ∷ []) work (replayLegal n p x y rows) r e z q need f l
+
+    pub replay-left : need ≤ length work → (a : Answer) (filled : List ℕ) → outcome a (filled ∷ []) ≡ replayLegal n p x y rows (circuitOf s)
+        → (k : ℕ) (m w : List ℕ) → w ≡ cond (true || isDone a) (replicate k 0 ++ drop k m) m → k ≡ length work → length m ≡ length work
+        → outcome a (filled ∷ w ∷ []) ≡ replayOp s n p x y rows work
+    unfolding replayOp
+    replay-left l a filled t k m w u v j =
+        work-left s (rows ∷ []) work (replayLegal n p x y rows) r e z q need f l (outcome a (filled ∷ [])) t w (all-cleared a k work m w u v j)

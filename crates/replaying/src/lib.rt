@@ -14,12 +14,14 @@ ghost use Rattle.walk.specs.Steps.{layoutOf};
 ghost use Rattle.packed.specs.Steps.{broadcastBytes, rowsSent};
 ghost use Rattle.mpc.specs.Operations.{unusedShowing, replayLegal, replayOp};
 ghost use Rattle.mpc.specs.Answers.{outcome};
-ghost use Rattle.mpc.specs.Steps.{Known, Working, workBytes, ShowingFits};
+ghost use Rattle.mpc.specs.Steps.{Known, Working, memoryBytes, ShowingFits};
 use circuit::ReadAnswer;
 use circuit::Sizes;
 use circuit::reading::read;
 use mpc::Answer;
 use mpc::holding::hold;
+use mpc::lending::clear_after;
+use mpc::lending::work_bytes;
 use mpc::tests::both;
 use mpc::tests::either;
 use mpc::tests::holds;
@@ -135,7 +137,7 @@ fn replay_lent(
     rows: &mut [u8],
     memory: &mut [u8],
 ) -> Answer
-    requires { ⌜ Known (now s) z × (workBytes z ≤ length (now memory)) ⌝ }
+    requires { ⌜ Known (now s) z × (memoryBytes z ≤ length (now memory)) ⌝ }
     ensures { λ r. ⌜ outcome r (now (rows .exit) ∷ []) ≡ replayLegal n p (record { tapes = now (tapes .entry); corrections = now (corrections .entry); maskedInputs = now (masked .entry); row = now (row .entry) }) (now (y .entry)) (now (rows .entry)) (circuitOf (now (s .entry))) ⌝ }
 {
     if parties::height(n) == 0 {
@@ -163,7 +165,8 @@ fn replay_lent(
     }
 }
 
-// Replays an opened run: fills n broadcast rows where its output is y, or refuses and leaves them as they were.
+// Replays an opened run: fills n broadcast rows where its output is y, or refuses and leaves them as they were. The work buffer is left
+// all zero, but for a refusal up to its test.
 pub fn replay(
     s: &[u8],
     n: u32,
@@ -174,25 +177,22 @@ pub fn replay(
     row: &[u8],
     y: &[u8],
     rows: &mut [u8],
+    work: &mut [u8],
 ) -> Answer
-    ensures { λ r. ⌜ outcome r (now (rows .exit) ∷ []) ≡ replayOp (now (s .entry)) n p (record { tapes = now (tapes .entry); corrections = now (corrections .entry); maskedInputs = now (masked .entry); row = now (row .entry) }) (now (y .entry)) (now (rows .entry)) ⌝ }
+    ensures { λ r. ⌜ outcome r (now (rows .exit) ∷ now (work .exit) ∷ []) ≡ replayOp (now (s .entry)) n p (record { tapes = now (tapes .entry); corrections = now (corrections .entry); maskedInputs = now (masked .entry); row = now (row .entry) }) (now (y .entry)) (now (rows .entry)) (now (work .entry)) ⌝ }
 {
-    let mut memory = [0u8; 299008];
     let answer = read(s);
     match answer {
         ReadAnswer::Refused(k, _) => Answer::Refused(k),
-        ReadAnswer::Legal(z) => replay_lent(
-            s,
-            z,
-            n,
-            p,
-            tapes,
-            corrections,
-            masked,
-            row,
-            y,
-            rows,
-            &mut memory,
-        ),
+        ReadAnswer::Legal(z) => {
+            let all = work.len();
+            let need = work_bytes(z);
+            if all < need {
+                return Answer::Refused(Refusal::BufferLength);
+            }
+            let ended = replay_lent(s, z, n, p, tapes, corrections, masked, row, y, rows, work);
+            clear_after(ended, true, all, work);
+            ended
+        }
     }
 }

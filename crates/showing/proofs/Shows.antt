@@ -1,7 +1,7 @@
 -- What show makes and answers: the bits that a cut shows, the hidden row, the four parts, and each refusal.
 -- Assumes nothing.
 use mathlib.Core.Path.{_≡_, sym, ap, ap₂, _∙_, fun-ext}
-use mathlib.Core.Bool.{Bool, true, false, not, cond, _&&_}
+use mathlib.Core.Bool.{Bool, true, false, not, cond, _&&_, _||_}
 use mathlib.Core.List.{List, [], _∷_, _++_}
 use Prim.Native.Nat.{ℕ, suc, _+_, _*_, _≤_, _<_}
 use native.Mathlib.Omega.{arith}
@@ -17,8 +17,8 @@ use Rattle.refusal.specs.declared.Refusal.the-variants.{BufferLength, UnusedBit
 use Rattle.parties.specs.Parties.{heightOf}
 use Rattle.parties.proofs.Counts.{count-yes, count-no}
 use Rattle.circuit.specs.Circuit.{Circuit}
-use Rattle.circuit.specs.File.{circuitOf, Reading}
-use Rattle.circuit.specs.Operations.{readOp, onLegal, holds}
+use Rattle.circuit.specs.File.{circuitOf}
+use Rattle.circuit.specs.Operations.{readOp, holds}
 use Rattle.circuit.specs.Answers.{readPaper}
 use Rattle.circuit.specs.declared.Sizes.{Sizes}
 use Rattle.circuit.specs.declared.ReadAnswer.{ReadAnswer}
@@ -35,9 +35,11 @@ use Rattle.packed.specs.Steps.{Held, broadcastBytes, tapesHeld, correctionsHeld
 use Rattle.packed.proofs.Runs.{row-ran}
 use Rattle.mpc.specs.Operations.{holdsRows, tapeBits, partsOf, holdsShowing, showLegal, showOp}
 use Rattle.mpc.specs.Answers.{outcome}
-use Rattle.mpc.specs.Steps.{Known, Working, TapesFit, ShowLent, ShowingFits, prepared}
+use Rattle.mpc.specs.Steps.{Known, memoryBytes, Working, TapesFit, ShowLent, ShowingFits, prepared, isDone}
+use Rattle.mpc.specs.declared.Answer.{Answer}
 use Rattle.mpc.specs.declared.Answer.the-variants.{Done, Refused}
-use Rattle.mpc.proofs.Opened.{sized, opened-refused, opened-legal, circuit-inputs, circuit-outputs, circuit-gates, circuit-ands, circuit-row}
+use Rattle.mpc.proofs.Opened.{sized, circuit-inputs, circuit-outputs, circuit-gates, circuit-ands, circuit-row}
+use Rattle.mpc.proofs.Lent.{all-cleared, work-refused, work-short, work-left}
 use Rattle.mpc.proofs.Places.{working-kept, memory-held, prepared-length, prepared-tapes, prepared-corrections}
 use Rattle.showing.proofs.Shown.{shown-few}
 
@@ -224,11 +226,23 @@ module _ (s : List ℕ) (i o g a : ℕ) (k : Known s (sized i o g a)) (n h p cut
         show-done α filled full = rw (count-yes n (λ z. more (count ∙ z)), held _ r tested t, held _ q (f ∙ lengths) v, held _ z used α, full)
 
 -- the file is read first
-module _ (s : List ℕ) (n p cut : ℕ) (w tapes : List ℕ) (out : Showing) (r : ReadAnswer) (e : readPaper r ≡ readOp s) where
-  pub show-refused : (k : Refusal) {slot : ℕ} → r ≡ readAnswer.Refused k slot → outcome (Refused k) (partsOf out) ≡ showOp s n p cut w tapes out
+module _ (s : List ℕ) (n p cut : ℕ) (w tapes : List ℕ) (out : Showing) (work : List ℕ) (r : ReadAnswer) (e : readPaper r ≡ readOp s) where
+  pub show-refused : (k : Refusal) {slot : ℕ} → r ≡ readAnswer.Refused k slot
+      → outcome (Refused k) (out .tapes ∷ out .corrections ∷ out .maskedInputs ∷ out .row ∷ work ∷ []) ≡ showOp s n p cut w tapes out work
   unfolding showOp
-  show-refused k q = sym (ap (λ (x : Reading). onLegal x (partsOf out) (showLegal n p cut w tapes out)) (opened-refused s k r q e))
+  show-refused k q = work-refused s (partsOf out) work (showLegal n p cut w tapes out) r e k q
 
-  pub show-read : (z : Sizes) → r ≡ readAnswer.Legal z → showLegal n p cut w tapes out (circuitOf s) ≡ showOp s n p cut w tapes out
-  unfolding showOp
-  show-read z q = sym (ap (λ (x : Reading). onLegal x (partsOf out) (showLegal n p cut w tapes out)) (opened-legal s z r q e))
+  -- then the work buffer is tested
+  module _ (z : Sizes) (q : r ≡ readAnswer.Legal z) (need : ℕ) (f : need ≡ memoryBytes z) where
+    pub show-short : length work < need
+        → outcome (Refused BufferLength) (out .tapes ∷ out .corrections ∷ out .maskedInputs ∷ out .row ∷ work ∷ []) ≡ showOp s n p cut w tapes out work
+    unfolding showOp
+    show-short l = work-short s (partsOf out) work (showLegal n p cut w tapes out) r e z q need f l
+
+    pub show-left : need ≤ length work → (a : Answer) (x1 x2 x3 x4 : List ℕ)
+        → outcome a (x1 ∷ x2 ∷ x3 ∷ x4 ∷ []) ≡ showLegal n p cut w tapes out (circuitOf s) → (k : ℕ) (m x : List ℕ)
+        → x ≡ cond (true || isDone a) (replicate k 0 ++ drop k m) m → k ≡ length work → length m ≡ length work
+        → outcome a (x1 ∷ x2 ∷ x3 ∷ x4 ∷ x ∷ []) ≡ showOp s n p cut w tapes out work
+    unfolding showOp
+    show-left l a x1 x2 x3 x4 t k m x u v j =
+        work-left s (partsOf out) work (showLegal n p cut w tapes out) r e z q need f l (outcome a (x1 ∷ x2 ∷ x3 ∷ x4 ∷ [])) t x (all-cleared a k work m x u v j)

@@ -15,7 +15,7 @@ ghost use Rattle.walk.specs.Steps.{layoutOf};
 ghost use Rattle.packed.specs.Steps.{broadcastBytes, tapesHeld, correctionsHeld, ranMemory, sentBit};
 ghost use Rattle.mpc.specs.Operations.{partsOf, showLegal, showOp};
 ghost use Rattle.mpc.specs.Answers.{outcome};
-ghost use Rattle.mpc.specs.Steps.{Known, Working, Placed, workBytes, ShowLent, ShowingFits};
+ghost use Rattle.mpc.specs.Steps.{Known, Working, Placed, memoryBytes, ShowLent, ShowingFits};
 use crate::cuts::shown_bits;
 use bits::clear;
 use circuit::ReadAnswer;
@@ -23,6 +23,8 @@ use circuit::Sizes;
 use circuit::reading::read;
 use mpc::Answer;
 use mpc::holding::give_corrections;
+use mpc::lending::clear_after;
+use mpc::lending::work_bytes;
 use mpc::preparing::prepare_held;
 use mpc::tests::both;
 use mpc::tests::holds;
@@ -151,7 +153,7 @@ fn show_lent(
     row: &mut [u8],
     memory: &mut [u8],
 ) -> Answer
-    requires { ⌜ Known (now s) z × (workBytes z ≤ length (now memory)) ⌝ }
+    requires { ⌜ Known (now s) z × (memoryBytes z ≤ length (now memory)) ⌝ }
     ensures { λ r. ⌜ outcome r (now (blanked .exit) ∷ now (corrections .exit) ∷ now (masked .exit) ∷ now (row .exit) ∷ []) ≡ showLegal n p cut (now (witness .entry)) (now (tapes .entry)) (record { tapes = now (blanked .entry); corrections = now (corrections .entry); maskedInputs = now (masked .entry); row = now (row .entry) }) (circuitOf (now (s .entry))) ⌝ }
 {
     if parties::height(n) == 0 {
@@ -188,7 +190,8 @@ fn show_lent(
     Answer::Done
 }
 
-// Shows the run with party p hidden, cut after some gates: fills the four parts, or refuses and leaves them as they were.
+// Shows the run with party p hidden, cut after some gates: fills the four parts, or refuses and leaves them as they were. The work buffer
+// is left all zero, but for a refusal up to its test.
 pub fn show(
     s: &[u8],
     n: u32,
@@ -200,26 +203,35 @@ pub fn show(
     corrections: &mut [u8],
     masked: &mut [u8],
     row: &mut [u8],
+    work: &mut [u8],
 ) -> Answer
-    ensures { λ r. ⌜ outcome r (now (blanked .exit) ∷ now (corrections .exit) ∷ now (masked .exit) ∷ now (row .exit) ∷ []) ≡ showOp (now (s .entry)) n p cut (now (witness .entry)) (now (tapes .entry)) (record { tapes = now (blanked .entry); corrections = now (corrections .entry); maskedInputs = now (masked .entry); row = now (row .entry) }) ⌝ }
+    ensures { λ r. ⌜ outcome r (now (blanked .exit) ∷ now (corrections .exit) ∷ now (masked .exit) ∷ now (row .exit) ∷ now (work .exit) ∷ []) ≡ showOp (now (s .entry)) n p cut (now (witness .entry)) (now (tapes .entry)) (record { tapes = now (blanked .entry); corrections = now (corrections .entry); maskedInputs = now (masked .entry); row = now (row .entry) }) (now (work .entry)) ⌝ }
 {
-    let mut memory = [0u8; 299008];
     let answer = read(s);
     match answer {
         ReadAnswer::Refused(k, _) => Answer::Refused(k),
-        ReadAnswer::Legal(z) => show_lent(
-            s,
-            z,
-            n,
-            p,
-            cut,
-            witness,
-            tapes,
-            blanked,
-            corrections,
-            masked,
-            row,
-            &mut memory,
-        ),
+        ReadAnswer::Legal(z) => {
+            let all = work.len();
+            let need = work_bytes(z);
+            if all < need {
+                return Answer::Refused(Refusal::BufferLength);
+            }
+            let ended = show_lent(
+                s,
+                z,
+                n,
+                p,
+                cut,
+                witness,
+                tapes,
+                blanked,
+                corrections,
+                masked,
+                row,
+                work,
+            );
+            clear_after(ended, true, all, work);
+            ended
+        }
     }
 }

@@ -1,17 +1,22 @@
 -- Different answers stay different: in what the C functions say, and so in the paper's terms.
 -- Assumes nothing.
-use mathlib.Core.Path.{_≡_, refl, sym, ap, ap₂}
+use mathlib.Core.Path.{_≡_, refl, sym, ap, ap₂, _∙_}
 use mathlib.Core.List.{List, [], _∷_}
 use Prim.Native.Nat.{ℕ}
 use native.Mathlib.Omega.{arith}
 use Rattle.refusal.specs.declared.Refusal.{Refusal}
 use Rattle.refusal.specs.Refusal.{numberOf}
+use Rattle.refusal.specs.Outcome.{Answer, refusalAt, success}
 use Rattle.refusal.proofs.Laws.{numberOf-injective, numberOf-range}
 use Rattle.circuit.specs.Answers.{readPaper, evaluatePaper}
 use Rattle.circuit.specs.declared.ReadAnswer.the-variants as readAnswer
 use Rattle.circuit.specs.declared.EvaluateAnswer.the-variants as evaluateAnswer
 use Rattle.bristol.specs.Answers as bristol
 use Rattle.bristol.specs.declared.Answer.the-variants as convertAnswer
+use Rattle.upgrade.specs.Answers as upgrading
+use Rattle.upgrade.specs.Upgrade.{upgradeOp}
+use Rattle.upgrade.specs.declared.Answer.the-variants as upgradeAnswer
+use Rattle.upgrade.proofs.Small.{told, slot-same}
 use Rattle.mpc.specs.Answers as mpc
 use Rattle.mpc.specs.declared.Answer.the-variants as mpcAnswer
 use Rattle.seeds.specs.Operations as seeds
@@ -47,6 +52,25 @@ read-status lent (readAnswer.Legal x) (readAnswer.Refused k y) e = not-zero k (a
 read-status lent (readAnswer.Refused k x) (readAnswer.Legal y) e = not-zero k (sym (ap (λ (p : (ℕ × List ℕ) × ℕ). p .0 .0) e))
 read-status lent (readAnswer.Refused k x) (readAnswer.Refused l y) e =
     ap₂ readAnswer.Refused (numberOf-injective k l (ap (λ (p : (ℕ × List ℕ) × ℕ). p .0 .0) e)) (ap (λ (p : (ℕ × List ℕ) × ℕ). p .1) e)
+
+upgrade-status : (lent : List ℕ) → Injective (λ a. readReported lent (upgrading.paper a))
+unfolding status values slot
+upgrade-status lent (upgradeAnswer.Written x) (upgradeAnswer.Written y) e =
+    let f : _≡_ {A = List ℕ} (x ∷ []) (y ∷ []) = ap (λ (p : (ℕ × List ℕ) × ℕ). p .0 .1) e in
+    let g : x ≡ y = cc in
+    ap upgradeAnswer.Written g
+upgrade-status lent (upgradeAnswer.Written x) (upgradeAnswer.Refused k y) e = not-zero k (ap (λ (p : (ℕ × List ℕ) × ℕ). p .0 .0) e)
+upgrade-status lent (upgradeAnswer.Refused k x) (upgradeAnswer.Written y) e = not-zero k (sym (ap (λ (p : (ℕ × List ℕ) × ℕ). p .0 .0) e))
+upgrade-status lent (upgradeAnswer.Refused k x) (upgradeAnswer.Refused l y) e =
+    ap₂ upgradeAnswer.Refused (numberOf-injective k l (ap (λ (p : (ℕ × List ℕ) × ℕ). p .0 .0) e)) (ap (λ (p : (ℕ × List ℕ) × ℕ). p .1) e)
+
+slot-told : (a : Answer) → slot a ≡ told a
+unfolding slot
+slot-told (refusalAt k x) = refl
+slot-told (success vs) = refl
+
+upgrade-slot : (s out : List ℕ) → slot (upgradeOp s [] .answer) ≡ slot (upgradeOp s out .answer)
+upgrade-slot s out = slot-told _ ∙ slot-same s [] out ∙ sym (slot-told _)
 
 evaluate-status : Injective (λ a. status (evaluatePaper a))
 unfolding status
@@ -108,7 +132,7 @@ shelf-status vs (shelfAnswer.Refused k) (shelfAnswer.Refused l) e = ap shelfAnsw
 -- the C functions say different things of different answers
 pub different-statuses : DifferentStatuses
 different-statuses =
-    record { read = read-status; evaluate = evaluate-status; convert = convert-status; run = run-status; derive = derive-status; prove = prove-status; check = check-status; shelf = shelf-status }
+    record { read = read-status; evaluate = evaluate-status; convert = convert-status; upgrade = upgrade-status; upgrade-slot = upgrade-slot; run = run-status; derive = derive-status; prove = prove-status; check = check-status; shelf = shelf-status }
 
 -- and so do the paper's terms
 pub different-answers : DifferentAnswers
@@ -118,6 +142,7 @@ different-answers =
       read = before readPaper (readReported []) (read-status []);
       evaluate = before evaluatePaper status evaluate-status;
       convert = before bristol.paper (reported []) (convert-status []);
+      upgrade = before upgrading.paper (readReported []) (upgrade-status []);
       run = before mpc.paper status run-status;
       derive = before seeds.paper status derive-status;
       prove = before proving.paper (reported []) (prove-status []);

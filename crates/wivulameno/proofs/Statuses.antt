@@ -5,8 +5,8 @@ use mathlib.Core.List.{List, [], _∷_}
 use Prim.Native.Nat.{ℕ, _<_, _^_}
 use Rattle.refusal.specs.Refusal.{numberOf}
 use Rattle.refusal.specs.declared.Refusal.{Refusal}
-use Rattle.refusal.specs.Outcome.{Answer, refusal, success, Outcome}
-use Rattle.circuit.specs.Operations.{readOp}
+use Rattle.refusal.specs.Outcome.{Answer, refusalAt, success, Outcome}
+use Rattle.circuit.specs.Operations.{readOp, leaving}
 use Rattle.circuit.specs.Answers.{readPaper, outcome}
 use Rattle.circuit.specs.declared.Sizes.{Sizes}
 use Rattle.circuit.specs.declared.ReadAnswer.{ReadAnswer}
@@ -17,6 +17,11 @@ use Rattle.circuit.proofs.Small.{read-small, slot-small}
 use Rattle.bristol.specs.Answers.{outcome as convertOutcome}
 use Rattle.bristol.specs.declared.Answer.{Answer as ConvertAnswer}
 use Rattle.bristol.specs.declared.Answer.the-variants as convertAnswer
+use Rattle.upgrade.specs.Upgrade.{upgradeOp}
+use Rattle.upgrade.specs.Answers.{outcome as upgradeOutcome}
+use Rattle.upgrade.specs.declared.Answer.{Answer as UpgradeAnswer}
+use Rattle.upgrade.specs.declared.Answer.the-variants as upgradeAnswer
+use Rattle.upgrade.proofs.Small.{slot-small as upgrade-slot-small}
 use Rattle.shelf.specs.Operations.{outcome as shelfOutcome}
 use Rattle.shelf.specs.declared.Answer.{Answer as ShelfAnswer}
 use Rattle.shelf.specs.declared.Answer.the-variants as shelfAnswer
@@ -154,48 +159,85 @@ seeds-refused o r k n y e f h =
     (h ∙ ap (λ (x : Outcome). status (x .answer)) g, ap (λ (x : Outcome). x .left) g)
 
 -- a proof that is accepted
-pub check-done : (o : Outcome) (r : CheckAnswer) → r ≡ checkAnswer.Accepted → checkOutcome r ≡ o → _≡_ {A = ℕ} 0 (status (o .answer))
+pub check-done : (o : Outcome) (r : CheckAnswer) (work : List ℕ) → r ≡ checkAnswer.Accepted → leaving (checkOutcome r) work ≡ o
+    → (_≡_ {A = ℕ} 0 (status (o .answer))) × ((work ∷ []) ≡ o .left)
 unfolding status
-check-done o r e f = ap (λ (x : Outcome). status (x .answer)) (ap checkOutcome (sym e) ∙ f)
+check-done o r work e f =
+    let g : leaving (checkOutcome checkAnswer.Accepted) work ≡ o = ap (λ (x : CheckAnswer). leaving (checkOutcome x) work) (sym e) ∙ f in
+    (ap (λ (x : Outcome). status (x .answer)) g, ap (λ (x : Outcome). x .left) g)
 
 -- one that is refused
-pub check-refused : (o : Outcome) (r : CheckAnswer) (k : Refusal) (n : ℕ) → r ≡ checkAnswer.Refused k → checkOutcome r ≡ o → n ≡ numberOf k
-    → n ≡ status (o .answer)
+pub check-refused : (o : Outcome) (r : CheckAnswer) (k : Refusal) (n : ℕ) (work : List ℕ) → r ≡ checkAnswer.Refused k → leaving (checkOutcome r) work ≡ o
+    → n ≡ numberOf k → (n ≡ status (o .answer)) × ((work ∷ []) ≡ o .left)
 unfolding status
-check-refused o r k n e f h = h ∙ ap (λ (x : Outcome). status (x .answer)) (ap checkOutcome (sym e) ∙ f)
+check-refused o r k n work e f h =
+    let g : leaving (checkOutcome (checkAnswer.Refused k)) work ≡ o = ap (λ (x : CheckAnswer). leaving (checkOutcome x) work) (sym e) ∙ f in
+    (h ∙ ap (λ (x : Outcome). status (x .answer)) g, ap (λ (x : Outcome). x .left) g)
 
--- a file that is written: 0, its length, and the buffer
-written-done : {A : Type 0} (f : A → List ℕ → Outcome) (o : Outcome) (r w : A) (k : ℕ) (b lent : List ℕ)
-    → f w b ≡ record { answer = success (k ∷ []); left = b ∷ [] } → r ≡ w → f r b ≡ o
-    → (_≡_ {A = ℕ} 0 (status (o .answer))) × (((k ∷ []) ≡ values (o .answer) lent) × ((b ∷ []) ≡ o .left))
+-- a file that is written: 0, its length, and the buffers
+written-done : {A : Type 0} (f : A → Outcome) (o : Outcome) (r w : A) (k : ℕ) (left : List (List ℕ)) (lent : List ℕ)
+    → f w ≡ record { answer = success (k ∷ []); left = left } → r ≡ w → f r ≡ o
+    → (_≡_ {A = ℕ} 0 (status (o .answer))) × (((k ∷ []) ≡ values (o .answer) lent) × (left ≡ o .left))
 unfolding status values
-written-done {A} f o r w k b lent d e h =
-    let g : _≡_ {A = Outcome} (record { answer = success (k ∷ []); left = b ∷ [] }) o = sym d ∙ ap (λ (x : A). f x b) (sym e) ∙ h in
+written-done {A} f o r w k left lent d e h =
+    let g : _≡_ {A = Outcome} (record { answer = success (k ∷ []); left = left }) o = sym d ∙ ap f (sym e) ∙ h in
     (ap (λ (x : Outcome). status (x .answer)) g, (ap (λ (x : Outcome). values (x .answer) lent) g, ap (λ (x : Outcome). x .left) g))
 
--- one that is refused: its number, and the buffers as they were
-written-refused : {A : Type 0} (f : A → List ℕ → Outcome) (o : Outcome) (r w : A) (k : Refusal) (n : ℕ) (b lent : List ℕ)
-    → f w b ≡ record { answer = refusal (numberOf k); left = b ∷ [] } → r ≡ w → f r b ≡ o
-    → n ≡ numberOf k → (n ≡ status (o .answer)) × ((lent ≡ values (o .answer) lent) × ((b ∷ []) ≡ o .left))
+-- one that is refused: its number, and the buffers
+written-refused : {A : Type 0} (f : A → Outcome) (o : Outcome) (r w : A) (k : Refusal) {x : ℕ} (n : ℕ) (left : List (List ℕ)) (lent : List ℕ)
+    → f w ≡ record { answer = refusalAt (numberOf k) x; left = left } → r ≡ w → f r ≡ o
+    → n ≡ numberOf k → (n ≡ status (o .answer)) × ((lent ≡ values (o .answer) lent) × (left ≡ o .left))
 unfolding status values
-written-refused {A} f o r w k n b lent d e h q =
-    let g : _≡_ {A = Outcome} (record { answer = refusal (numberOf k); left = b ∷ [] }) o = sym d ∙ ap (λ (x : A). f x b) (sym e) ∙ h in
+written-refused {A} f o r w k {x} n left lent d e h q =
+    let g : _≡_ {A = Outcome} (record { answer = refusalAt (numberOf k) x; left = left }) o = sym d ∙ ap f (sym e) ∙ h in
     (q ∙ ap (λ (x : Outcome). status (x .answer)) g, (ap (λ (x : Outcome). values (x .answer) lent) g, ap (λ (x : Outcome). x .left) g))
 
 -- a proof
-pub prove-done : (o : Outcome) (r : ProveAnswer) (k : ℕ) (b lent : List ℕ) → r ≡ proveAnswer.Written k → proveOutcome r b ≡ o
-    → (_≡_ {A = ℕ} 0 (status (o .answer))) × (((k ∷ []) ≡ values (o .answer) lent) × ((b ∷ []) ≡ o .left))
-prove-done o r k b lent e f = written-done proveOutcome o r (proveAnswer.Written k) k b lent refl e f
+pub prove-done : (o : Outcome) (r : ProveAnswer) (k : ℕ) (b work lent : List ℕ) → r ≡ proveAnswer.Written k → leaving (proveOutcome r b) work ≡ o
+    → (_≡_ {A = ℕ} 0 (status (o .answer))) × (((k ∷ []) ≡ values (o .answer) lent) × ((b ∷ work ∷ []) ≡ o .left))
+prove-done o r k b work lent e f = written-done (λ (x : ProveAnswer). leaving (proveOutcome x b) work) o r (proveAnswer.Written k) k (b ∷ work ∷ []) lent refl e f
 
-pub prove-refused : (o : Outcome) (r : ProveAnswer) (k : Refusal) (n : ℕ) (b lent : List ℕ) → r ≡ proveAnswer.Refused k → proveOutcome r b ≡ o
-    → n ≡ numberOf k → (n ≡ status (o .answer)) × ((lent ≡ values (o .answer) lent) × ((b ∷ []) ≡ o .left))
-prove-refused o r k n b lent e f h = written-refused proveOutcome o r (proveAnswer.Refused k) k n b lent refl e f h
+pub prove-refused : (o : Outcome) (r : ProveAnswer) (k : Refusal) (n : ℕ) (b work lent : List ℕ) → r ≡ proveAnswer.Refused k
+    → leaving (proveOutcome r b) work ≡ o → n ≡ numberOf k → (n ≡ status (o .answer)) × ((lent ≡ values (o .answer) lent) × ((b ∷ work ∷ []) ≡ o .left))
+prove-refused o r k n b work lent e f h =
+    written-refused (λ (x : ProveAnswer). leaving (proveOutcome x b) work) o r (proveAnswer.Refused k) k n (b ∷ work ∷ []) lent refl e f h
 
 -- a circuit file from a text
 pub convert-done : (o : Outcome) (r : ConvertAnswer) (k : ℕ) (b lent : List ℕ) → r ≡ convertAnswer.Written k → convertOutcome r b ≡ o
     → (_≡_ {A = ℕ} 0 (status (o .answer))) × (((k ∷ []) ≡ values (o .answer) lent) × ((b ∷ []) ≡ o .left))
-convert-done o r k b lent e f = written-done convertOutcome o r (convertAnswer.Written k) k b lent refl e f
+convert-done o r k b lent e f = written-done (λ (x : ConvertAnswer). convertOutcome x b) o r (convertAnswer.Written k) k (b ∷ []) lent refl e f
 
 pub convert-refused : (o : Outcome) (r : ConvertAnswer) (k : Refusal) (n : ℕ) (b lent : List ℕ) → r ≡ convertAnswer.Refused k → convertOutcome r b ≡ o
     → n ≡ numberOf k → (n ≡ status (o .answer)) × ((lent ≡ values (o .answer) lent) × ((b ∷ []) ≡ o .left))
-convert-refused o r k n b lent e f h = written-refused convertOutcome o r (convertAnswer.Refused k) k n b lent refl e f h
+convert-refused o r k n b lent e f h = written-refused (λ (x : ConvertAnswer). convertOutcome x b) o r (convertAnswer.Refused k) k n (b ∷ []) lent refl e f h
+
+-- a circuit file from one of the old form
+pub upgrade-done : (o : Outcome) (r : UpgradeAnswer) (k : ℕ) (b lent : List ℕ) → r ≡ upgradeAnswer.Written k → upgradeOutcome r b ≡ o
+    → (_≡_ {A = ℕ} 0 (status (o .answer))) × (((k ∷ []) ≡ values (o .answer) lent) × ((b ∷ []) ≡ o .left))
+upgrade-done o r k b lent e f = written-done (λ (x : UpgradeAnswer). upgradeOutcome x b) o r (upgradeAnswer.Written k) k (b ∷ []) lent refl e f
+
+pub upgrade-refused : (o : Outcome) (r : UpgradeAnswer) (k : Refusal) {x : ℕ} (n : ℕ) (b lent : List ℕ) → r ≡ upgradeAnswer.Refused k x → upgradeOutcome r b ≡ o
+    → n ≡ numberOf k → (n ≡ status (o .answer)) × ((lent ≡ values (o .answer) lent) × ((b ∷ []) ≡ o .left))
+upgrade-refused o r k {x} n b lent e f h =
+    written-refused (λ (y : UpgradeAnswer). upgradeOutcome y b) o r (upgradeAnswer.Refused k x) k n (b ∷ []) lent refl e f h
+
+-- the slot that it tells: none of a success
+pub upgrade-slotless : (o : Outcome) (r : UpgradeAnswer) {k : ℕ} (b : List ℕ) → r ≡ upgradeAnswer.Written k → upgradeOutcome r b ≡ o
+    → _≡_ {A = ℕ} 0 (slot (o .answer))
+unfolding slot
+upgrade-slotless o r {k} b e f =
+    let g : upgradeOutcome (upgradeAnswer.Written k) b ≡ o = ap (λ (x : UpgradeAnswer). upgradeOutcome x b) (sym e) ∙ f in
+    ap (λ (x : Outcome). slot (x .answer)) g
+
+-- that of a refusal
+pub upgrade-slot : (o : Outcome) (r : UpgradeAnswer) {k : Refusal} (x : ℕ) (b : List ℕ) → r ≡ upgradeAnswer.Refused k x → upgradeOutcome r b ≡ o
+    → x ≡ slot (o .answer)
+unfolding slot
+upgrade-slot o r {k} x b e f =
+    let g : upgradeOutcome (upgradeAnswer.Refused k x) b ≡ o = ap (λ (y : UpgradeAnswer). upgradeOutcome y b) (sym e) ∙ f in
+    ap (λ (y : Outcome). slot (y .answer)) g
+
+-- which fits 32 bits
+pub upgrade-small : (s out : List ℕ) (r : UpgradeAnswer) {k : Refusal} (x : ℕ) (b : List ℕ) → r ≡ upgradeAnswer.Refused k x
+    → upgradeOutcome r b ≡ upgradeOp s out → x < 2 ^ 32
+upgrade-small s out r {k} x b e f = upgrade-slot-small s out b k x (ap (λ (y : UpgradeAnswer). upgradeOutcome y b) (sym e) ∙ f)

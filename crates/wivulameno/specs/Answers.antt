@@ -2,12 +2,14 @@
 -- "When an answer is an enum, a definition gives this paper's number and values for each of its cases."
 -- Assumes nothing.
 use mathlib.Core.Path.{_≡_}
-use mathlib.Core.List.{List}
+use mathlib.Core.List.{List, []}
 use Prim.Native.Nat.{ℕ}
 use Rattle.refusal.specs.Refusal.{numberOf}
 use Rattle.refusal.specs.Outcome.{Answer}
 use Rattle.circuit.specs.Answers.{readPaper, evaluatePaper}
 use Rattle.bristol.specs.Answers as bristol
+use Rattle.upgrade.specs.Answers as upgrading
+use Rattle.upgrade.specs.Upgrade.{upgradeOp}
 use Rattle.mpc.specs.Answers as mpc
 use Rattle.seeds.specs.Operations as seeds
 use Rattle.proving.specs.Answers as proving
@@ -19,13 +21,14 @@ use Rattle.wivulameno.specs.Interface.{status, values, slot}
 abbrev pub Injective : {A B : Type 0} → (A → B) → Type 0
 Injective {A} f = (a b : A) → f a ≡ f b → a ≡ b
 
--- the definitions that put each answer enum into the paper's terms: of the refusals; of read; of evaluate; of convert; of prepare, run,
--- show and replay; of expand, open and challenge; of prove; of check; of stock and draw, with the values of a success
+-- the definitions that put each answer enum into the paper's terms: of the refusals; of read; of evaluate; of convert; of upgrade; of prepare,
+-- run, show and replay; of expand, open and challenge; of prove; of check; of stock and draw, with the values of a success
 pub record DifferentAnswers : Type 0 where
   pub refusals : Injective numberOf
   pub read : Injective readPaper
   pub evaluate : Injective evaluatePaper
   pub convert : Injective bristol.paper
+  pub upgrade : Injective upgrading.paper
   pub run : Injective mpc.paper
   pub derive : Injective seeds.paper
   pub prove : Injective proving.paper
@@ -36,7 +39,7 @@ pub record DifferentAnswers : Type 0 where
 abbrev pub reported : List ℕ → Answer → ℕ × List ℕ
 reported lent a = (status a, values a lent)
 
--- what wv_read and wv_fault_slot say of a reading
+-- what wv_read and wv_fault_slot say of a reading, and wv_upgrade and wv_upgrade_slot of an old file
 abbrev pub readReported : List ℕ → Answer → (ℕ × List ℕ) × ℕ
 readReported lent a = (reported lent a, slot a)
 
@@ -45,6 +48,9 @@ pub record DifferentStatuses : Type 0 where
   pub read : (lent : List ℕ) → Injective (λ a. readReported lent (readPaper a))
   pub evaluate : Injective (λ a. status (evaluatePaper a))
   pub convert : (lent : List ℕ) → Injective (λ a. reported lent (bristol.paper a))
+  pub upgrade : (lent : List ℕ) → Injective (λ a. readReported lent (upgrading.paper a))
+  -- the slot of wv_upgrade_slot, which lends no output, is that of wv_upgrade
+  pub upgrade-slot : (s out : List ℕ) → slot (upgradeOp s [] .answer) ≡ slot (upgradeOp s out .answer)
   pub run : Injective (λ a. status (mpc.paper a))
   pub derive : Injective (λ a. status (seeds.paper a))
   pub prove : (lent : List ℕ) → Injective (λ a. reported lent (proving.paper a))

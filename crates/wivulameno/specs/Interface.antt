@@ -1,5 +1,5 @@
 -- What the C functions return and leave: 0 for success or the refusal's number, and the lent buffers; the slot that
--- wv_fault_slot returns.
+-- wv_fault_slot and wv_upgrade_slot return.
 -- Assumes nothing.
 use mathlib.Core.List.{List}
 use Prim.Native.Nat.{ℕ}

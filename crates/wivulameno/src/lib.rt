@@ -1,11 +1,12 @@
 // The C interface, built as the static library libwivulameno.a; its header is include/wivulameno.h.
-// Each function returns 0 for success, or the number of a refusal; wv_fault_slot alone a slot. No logic of its own.
+// Each function returns 0 for success, or the number of a refusal; only wv_fault_slot and wv_upgrade_slot a slot. No logic of its own.
 ghost use mathlib.Core.Path.{_≡_};
 ghost use mathlib.Core.Bool.{cond};
 ghost use mathlib.Core.List.{[], _∷_};
 ghost use lib.ListN.{length};
 ghost use Rattle.circuit.specs.Operations.{readOp, evaluateOp};
 ghost use Rattle.bristol.specs.Operations.{convertOp};
+ghost use Rattle.upgrade.specs.Upgrade.{upgradeOp};
 ghost use Rattle.mpc.specs.Operations.{prepareOp, runOp, showOp, replayOp};
 ghost use Rattle.proof.specs.Prove.{proveOp};
 ghost use Rattle.proof.specs.Check.{checkOp};
@@ -88,6 +89,34 @@ pub extern "C" fn wv_bristol(text: &[u8], out: &mut [u8], written: &mut [u64; 1]
     }
 }
 
+// Converts a circuit file of the old form: the new file's length, or the refusal.
+#[no_mangle]
+pub extern "C" fn wv_upgrade(old: &[u8], out: &mut [u8], written: &mut [u64; 1]) -> u32
+    ensures { λ r. ⌜ (r ≡ status (upgradeOp (now (old .entry)) (now (out .entry)) .answer)) × ((now (written .exit) ≡ values (upgradeOp (now (old .entry)) (now (out .entry)) .answer) (now (written .entry))) × (now (out .exit) ∷ [] ≡ upgradeOp (now (old .entry)) (now (out .entry)) .left)) ⌝ }
+{
+    let a = upgrade::upgrade(old, out);
+    match a {
+        upgrade::Answer::Written(k) => {
+            *written = [k as u64];
+            0
+        }
+        upgrade::Answer::Refused(k, _) => refusal::number(k),
+    }
+}
+
+// The slot that refusals 19, 20 and 21 of a file of the old form tell; 0 for every other file.
+#[no_mangle]
+pub extern "C" fn wv_upgrade_slot(old: &[u8]) -> u32
+    ensures { λ r. ⌜ r ≡ slot (upgradeOp (now (old .entry)) [] .answer) ⌝ }
+{
+    let mut none = [0u8; 1];
+    let a = upgrade::upgrade(old, &mut none[..0]);
+    match a {
+        upgrade::Answer::Written(_) => 0,
+        upgrade::Answer::Refused(_, at) => at as u32,
+    }
+}
+
 // Evaluates a circuit on a witness, into y.
 #[no_mangle]
 pub extern "C" fn wv_evaluate(circuit: &[u8], witness: &[u8], y: &mut [u8]) -> u32
@@ -102,10 +131,16 @@ pub extern "C" fn wv_evaluate(circuit: &[u8], witness: &[u8], y: &mut [u8]) -> u
 
 // Prepares the corrections from the tapes of n parties.
 #[no_mangle]
-pub extern "C" fn wv_prepare(circuit: &[u8], n: u32, tapes: &[u8], corrections: &mut [u8]) -> u32
-    ensures { λ r. ⌜ (r ≡ status (prepareOp (now (circuit .entry)) n (now (tapes .entry)) (now (corrections .entry)) .answer)) × (now (corrections .exit) ∷ [] ≡ prepareOp (now (circuit .entry)) n (now (tapes .entry)) (now (corrections .entry)) .left) ⌝ }
+pub extern "C" fn wv_prepare(
+    circuit: &[u8],
+    n: u32,
+    tapes: &[u8],
+    corrections: &mut [u8],
+    work: &mut [u8],
+) -> u32
+    ensures { λ r. ⌜ (r ≡ status (prepareOp (now (circuit .entry)) n (now (tapes .entry)) (now (corrections .entry)) (now (work .entry)) .answer)) × (now (corrections .exit) ∷ now (work .exit) ∷ [] ≡ prepareOp (now (circuit .entry)) n (now (tapes .entry)) (now (corrections .entry)) (now (work .entry)) .left) ⌝ }
 {
-    let a = mpc::preparing::prepare(circuit, n, tapes, corrections);
+    let a = mpc::preparing::prepare(circuit, n, tapes, corrections, work);
     match a {
         mpc::Answer::Done => 0,
         mpc::Answer::Refused(k) => refusal::number(k),
@@ -123,10 +158,21 @@ pub extern "C" fn wv_run(
     masked: &mut [u8],
     rows: &mut [u8],
     y: &mut [u8],
+    work: &mut [u8],
 ) -> u32
-    ensures { λ r. ⌜ (r ≡ status (runOp (now (circuit .entry)) n (now (witness .entry)) (now (tapes .entry)) (now (corrections .entry)) (now (masked .entry)) (now (rows .entry)) (now (y .entry)) .answer)) × (now (masked .exit) ∷ now (rows .exit) ∷ now (y .exit) ∷ [] ≡ runOp (now (circuit .entry)) n (now (witness .entry)) (now (tapes .entry)) (now (corrections .entry)) (now (masked .entry)) (now (rows .entry)) (now (y .entry)) .left) ⌝ }
+    ensures { λ r. ⌜ (r ≡ status (runOp (now (circuit .entry)) n (now (witness .entry)) (now (tapes .entry)) (now (corrections .entry)) (now (masked .entry)) (now (rows .entry)) (now (y .entry)) (now (work .entry)) .answer)) × (now (masked .exit) ∷ now (rows .exit) ∷ now (y .exit) ∷ now (work .exit) ∷ [] ≡ runOp (now (circuit .entry)) n (now (witness .entry)) (now (tapes .entry)) (now (corrections .entry)) (now (masked .entry)) (now (rows .entry)) (now (y .entry)) (now (work .entry)) .left) ⌝ }
 {
-    let a = mpc::running::run(circuit, n, witness, tapes, corrections, masked, rows, y);
+    let a = mpc::running::run(
+        circuit,
+        n,
+        witness,
+        tapes,
+        corrections,
+        masked,
+        rows,
+        y,
+        work,
+    );
     match a {
         mpc::Answer::Done => 0,
         mpc::Answer::Refused(k) => refusal::number(k),
@@ -146,8 +192,9 @@ pub extern "C" fn wv_show(
     corrections: &mut [u8],
     masked: &mut [u8],
     row: &mut [u8],
+    work: &mut [u8],
 ) -> u32
-    ensures { λ r. ⌜ (r ≡ status (showOp (now (circuit .entry)) n p cut (now (witness .entry)) (now (tapes .entry)) (record { tapes = now (blanked .entry); corrections = now (corrections .entry); maskedInputs = now (masked .entry); row = now (row .entry) }) .answer)) × (now (blanked .exit) ∷ now (corrections .exit) ∷ now (masked .exit) ∷ now (row .exit) ∷ [] ≡ showOp (now (circuit .entry)) n p cut (now (witness .entry)) (now (tapes .entry)) (record { tapes = now (blanked .entry); corrections = now (corrections .entry); maskedInputs = now (masked .entry); row = now (row .entry) }) .left) ⌝ }
+    ensures { λ r. ⌜ (r ≡ status (showOp (now (circuit .entry)) n p cut (now (witness .entry)) (now (tapes .entry)) (record { tapes = now (blanked .entry); corrections = now (corrections .entry); maskedInputs = now (masked .entry); row = now (row .entry) }) (now (work .entry)) .answer)) × (now (blanked .exit) ∷ now (corrections .exit) ∷ now (masked .exit) ∷ now (row .exit) ∷ now (work .exit) ∷ [] ≡ showOp (now (circuit .entry)) n p cut (now (witness .entry)) (now (tapes .entry)) (record { tapes = now (blanked .entry); corrections = now (corrections .entry); maskedInputs = now (masked .entry); row = now (row .entry) }) (now (work .entry)) .left) ⌝ }
 {
     let a = showing::show(
         circuit,
@@ -160,6 +207,7 @@ pub extern "C" fn wv_show(
         corrections,
         masked,
         row,
+        work,
     );
     match a {
         mpc::Answer::Done => 0,
@@ -179,10 +227,22 @@ pub extern "C" fn wv_replay(
     row: &[u8],
     y: &[u8],
     rows: &mut [u8],
+    work: &mut [u8],
 ) -> u32
-    ensures { λ r. ⌜ (r ≡ status (replayOp (now (circuit .entry)) n p (record { tapes = now (tapes .entry); corrections = now (corrections .entry); maskedInputs = now (masked .entry); row = now (row .entry) }) (now (y .entry)) (now (rows .entry)) .answer)) × (now (rows .exit) ∷ [] ≡ replayOp (now (circuit .entry)) n p (record { tapes = now (tapes .entry); corrections = now (corrections .entry); maskedInputs = now (masked .entry); row = now (row .entry) }) (now (y .entry)) (now (rows .entry)) .left) ⌝ }
+    ensures { λ r. ⌜ (r ≡ status (replayOp (now (circuit .entry)) n p (record { tapes = now (tapes .entry); corrections = now (corrections .entry); maskedInputs = now (masked .entry); row = now (row .entry) }) (now (y .entry)) (now (rows .entry)) (now (work .entry)) .answer)) × (now (rows .exit) ∷ now (work .exit) ∷ [] ≡ replayOp (now (circuit .entry)) n p (record { tapes = now (tapes .entry); corrections = now (corrections .entry); maskedInputs = now (masked .entry); row = now (row .entry) }) (now (y .entry)) (now (rows .entry)) (now (work .entry)) .left) ⌝ }
 {
-    let a = replaying::replay(circuit, n, p, tapes, corrections, masked, row, y, rows);
+    let a = replaying::replay(
+        circuit,
+        n,
+        p,
+        tapes,
+        corrections,
+        masked,
+        row,
+        y,
+        rows,
+        work,
+    );
     match a {
         mpc::Answer::Done => 0,
         mpc::Answer::Refused(k) => refusal::number(k),
@@ -202,10 +262,11 @@ pub extern "C" fn wv_prove(
     n: u32,
     proof: &mut [u8],
     written: &mut [u64; 1],
+    work: &mut [u8],
 ) -> u32
-    ensures { λ r. ⌜ (r ≡ status (proveOp (now (circuit .entry)) (now (witness .entry)) (now (y .entry)) (now (message .entry)) (now (root .entry)) m tau n (now (proof .entry)) .answer)) × ((now (written .exit) ≡ values (proveOp (now (circuit .entry)) (now (witness .entry)) (now (y .entry)) (now (message .entry)) (now (root .entry)) m tau n (now (proof .entry)) .answer) (now (written .entry))) × (now (proof .exit) ∷ [] ≡ proveOp (now (circuit .entry)) (now (witness .entry)) (now (y .entry)) (now (message .entry)) (now (root .entry)) m tau n (now (proof .entry)) .left)) ⌝ }
+    ensures { λ r. ⌜ (r ≡ status (proveOp (now (circuit .entry)) (now (witness .entry)) (now (y .entry)) (now (message .entry)) (now (root .entry)) m tau n (now (proof .entry)) (now (work .entry)) .answer)) × ((now (written .exit) ≡ values (proveOp (now (circuit .entry)) (now (witness .entry)) (now (y .entry)) (now (message .entry)) (now (root .entry)) m tau n (now (proof .entry)) (now (work .entry)) .answer) (now (written .entry))) × (now (proof .exit) ∷ now (work .exit) ∷ [] ≡ proveOp (now (circuit .entry)) (now (witness .entry)) (now (y .entry)) (now (message .entry)) (now (root .entry)) m tau n (now (proof .entry)) (now (work .entry)) .left)) ⌝ }
 {
-    let a = proving::prove(circuit, witness, y, message, root, m, tau, n, proof);
+    let a = proving::prove(circuit, witness, y, message, root, m, tau, n, proof, work);
     match a {
         proving::Answer::Written(k) => {
             *written = [k as u64];
@@ -217,10 +278,16 @@ pub extern "C" fn wv_prove(
 
 // Checks a proof that the circuit gives y on some witness, under the message.
 #[no_mangle]
-pub extern "C" fn wv_check(circuit: &[u8], y: &[u8], message: &[u8], proof: &[u8]) -> u32
-    ensures { λ r. ⌜ r ≡ status (checkOp (now (circuit .entry)) (now (y .entry)) (now (message .entry)) (now (proof .entry)) .answer) ⌝ }
+pub extern "C" fn wv_check(
+    circuit: &[u8],
+    y: &[u8],
+    message: &[u8],
+    proof: &[u8],
+    work: &mut [u8],
+) -> u32
+    ensures { λ r. ⌜ (r ≡ status (checkOp (now (circuit .entry)) (now (y .entry)) (now (message .entry)) (now (proof .entry)) (now (work .entry)) .answer)) × (now (work .exit) ∷ [] ≡ checkOp (now (circuit .entry)) (now (y .entry)) (now (message .entry)) (now (proof .entry)) (now (work .entry)) .left) ⌝ }
 {
-    let a = checking::check(circuit, y, message, proof);
+    let a = checking::check(circuit, y, message, proof, work);
     match a {
         checking::Answer::Accepted => 0,
         checking::Answer::Refused(k) => refusal::number(k),

@@ -147,9 +147,14 @@ mod tests {
     use super::*;
     use reference::masters::hidden_among;
     use reference::proof::{longest, prove};
+    use reference::work::work_len;
 
     /// One AND of two inputs.
-    const K: [u8; 18] = [2, 0, 1, 0, 1, 0, 1, 0, 2, 0, 2, 0, 0, 0, 1, 0, 0, 0];
+    const K: [u8; 36] = [
+        2, 0, 0, 0, 1, 0, 0, 0, 1, 0, 0, 0, 1, 0, 0, 0, // I, O, G, head
+        2, 0, 0, 0, // the output
+        2, 0, 0, 0, 0, 0, 0, 0, 1, 0, 0, 0, 0, 0, 0, 0, // slot 1
+    ];
 
     const STATEMENT: Statement = Statement {
         circuit: &K,
@@ -163,7 +168,8 @@ mod tests {
         let sizes = reference::circuit::read(&K).unwrap();
         let counts = Counts { m: 4, tau: 1, n: 2 };
         let mut proof = vec![0; longest(sizes, counts)];
-        let len = prove(STATEMENT, &[3], &[7; 16], counts, &mut proof).unwrap();
+        let mut work = vec![0; work_len(sizes)];
+        let len = prove(STATEMENT, &[3], &[7; 16], counts, &mut proof, &mut work).unwrap();
         [
             of_prove(sizes, counts, STATEMENT),
             of_check(sizes, STATEMENT, &proof[..len]),
@@ -195,7 +201,7 @@ mod tests {
         assert_eq!([of(&[0, 2, 4]), of(&[0, 1, 2, 3, 4])], [0, 0]);
     }
 
-    /// The circuit file has 18 bytes. The challenge's input has 72, and those of y
+    /// The circuit file has 36 bytes. The challenge's input has 72, and those of y
     /// and of the message; 9 bytes choose an instance and its party.
     #[test]
     fn both_hash_the_circuit_and_the_statement_once() {
@@ -205,8 +211,11 @@ mod tests {
                 let lens = found.map(|hashes| (hashes.input, hashes.output, hashes.times));
                 lens.collect::<Vec<_>>()
             };
-            let circuit = of(|hashes| matches!(hashes.function, Sha3) && hashes.input == 18);
-            assert_eq!(circuit, [(18, 32, 1)]);
+            // A commitment's input is of 36 bytes too.
+            let circuit = of(|hashes| {
+                matches!(hashes.function, Sha3) && hashes.input == 36 && hashes.times == 1
+            });
+            assert_eq!(circuit, [(36, 32, 1)]);
             let challenge = of(|hashes| matches!(hashes.function, Shake256));
             assert_eq!(challenge, [(72 + 1 + 5, 9, 1)]);
         }

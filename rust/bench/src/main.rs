@@ -4,6 +4,7 @@ mod hash_calls;
 mod hashing;
 mod mpc;
 mod openssl;
+mod price;
 mod proofs;
 mod rows;
 mod texts;

@@ -3,7 +3,9 @@
 use crate::rows::{call, nanoseconds_each, Call, Row, Table, ROUNDS};
 use reference::bits::clear_rest;
 use reference::circuit::Sizes;
+use reference::work::work_len;
 use std::hint::black_box;
+use wivulameno::Work;
 
 const CIRCUIT: &[u8] = include_bytes!("../../../examples/worst.circuit");
 const WITNESS: &[u8] = include_bytes!("../../../examples/worst.row");
@@ -26,7 +28,8 @@ impl Instance {
         let sizes = reference::circuit::read(CIRCUIT).expect("a legal circuit");
         let tapes = some_tapes(sizes);
         let mut corrections = vec![0; sizes.corrections_len()];
-        let answer = reference::mpc::prepare(CIRCUIT, PARTIES, &tapes, &mut corrections);
+        let work = &mut a_work(sizes);
+        let answer = reference::mpc::prepare(CIRCUIT, PARTIES, &tapes, &mut corrections, work);
         answer.expect("no refusal");
         let mut y = vec![0; sizes.y_len()];
         reference::circuit::evaluate(CIRCUIT, WITNESS, &mut y).expect("no refusal");
@@ -45,6 +48,10 @@ impl Instance {
         let first = self.sizes.inputs_len();
         (first + rows + self.sizes.y_len(), [first, first + rows])
     }
+}
+
+fn a_work(sizes: Sizes) -> Vec<u8> {
+    vec![0; work_len(sizes)]
 }
 
 /// Tapes with the unused bits zero; what else they hold does not matter.
@@ -74,7 +81,8 @@ fn shown(sizes: Sizes, tapes: &[u8]) -> [Vec<u8>; 4] {
         row,
     };
     let cut = sizes.gates as u32;
-    let answer = reference::mpc::show(CIRCUIT, PARTIES, HIDDEN, cut, WITNESS, tapes, out);
+    let work = &mut a_work(sizes);
+    let answer = reference::mpc::show(CIRCUIT, PARTIES, HIDDEN, cut, WITNESS, tapes, out, work);
     answer.expect("no refusal");
     parts
 }
@@ -104,14 +112,21 @@ fn row<'a>(name: &str, instance: &Instance, calls: [Call<'a>; 2]) -> Row<'a> {
     }
 }
 
+fn ours_work() -> Work {
+    Work::for_circuit(CIRCUIT).expect("a legal circuit")
+}
+
 fn prepare_row(instance: &Instance) -> Row<'_> {
     let len = instance.corrections.len();
-    let ours = call(len, |out| {
-        wivulameno::mpc::prepare(CIRCUIT, PARTIES, black_box(&instance.tapes), out)
+    let tapes = &instance.tapes;
+    let mut work = ours_work();
+    let ours = call(len, move |out| {
+        wivulameno::mpc::prepare(CIRCUIT, PARTIES, black_box(tapes), out, &mut work)
             .expect("no refusal");
     });
-    let second = call(len, |out| {
-        reference::mpc::prepare(CIRCUIT, PARTIES, black_box(&instance.tapes), out)
+    let mut work = a_work(instance.sizes);
+    let second = call(len, move |out| {
+        reference::mpc::prepare(CIRCUIT, PARTIES, black_box(tapes), out, &mut work)
             .expect("no refusal");
     });
     row("prepare", instance, [ours, second])
@@ -119,9 +134,10 @@ fn prepare_row(instance: &Instance) -> Row<'_> {
 
 /// The same lines for both implementations, whose types have the same names.
 macro_rules! run_call {
-    ($module:path, $instance:expr) => {{
+    ($module:path, $instance:expr, $work:expr) => {{
         use $module as mpc;
         let (len, [first, second]) = $instance.run_lens();
+        let mut work = $work;
         call(len, move |out| {
             let (out, y) = out.split_at_mut(second);
             let (masked_inputs, rows) = out.split_at_mut(first);
@@ -138,6 +154,7 @@ macro_rules! run_call {
                 tapes,
                 &$instance.corrections,
                 out,
+                &mut work,
             )
             .expect("no refusal");
         })
@@ -145,14 +162,15 @@ macro_rules! run_call {
 }
 
 fn run_row(instance: &Instance) -> Row<'_> {
-    let ours = run_call!(wivulameno::mpc, instance);
-    let second = run_call!(reference::mpc, instance);
+    let ours = run_call!(wivulameno::mpc, instance, ours_work());
+    let second = run_call!(reference::mpc, instance, a_work(instance.sizes));
     row("run", instance, [ours, second])
 }
 
 macro_rules! replay_call {
-    ($module:path, $instance:expr) => {{
+    ($module:path, $instance:expr, $work:expr) => {{
         use $module as mpc;
+        let mut work = $work;
         let len = PARTIES as usize * $instance.sizes.row_len();
         let [tapes, corrections, masked_inputs, row] = &$instance.shown;
         call(len, move |rows| {
@@ -162,14 +180,15 @@ macro_rules! replay_call {
                 masked_inputs,
                 row,
             };
-            mpc::replay(CIRCUIT, PARTIES, HIDDEN, showing, &$instance.y, rows).expect("no refusal");
+            let y = &$instance.y;
+            mpc::replay(CIRCUIT, PARTIES, HIDDEN, showing, y, rows, &mut work).expect("no refusal");
         })
     }};
 }
 
 fn replay_row(instance: &Instance) -> Row<'_> {
-    let ours = replay_call!(wivulameno::mpc, instance);
-    let second = replay_call!(reference::mpc, instance);
+    let ours = replay_call!(wivulameno::mpc, instance, ours_work());
+    let second = replay_call!(reference::mpc, instance, a_work(instance.sizes));
     row("replay", instance, [ours, second])
 }
 

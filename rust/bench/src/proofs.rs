@@ -3,10 +3,13 @@
 
 use crate::hash_calls::{call_of, of_check, of_prove};
 use crate::openssl::OpenSsl;
+use crate::price;
 use crate::rows::{best_times, call, cell, nanoseconds_each, print_line, Row};
 use reference::circuit::Sizes;
 use reference::proof::{longest, Counts, Statement};
+use reference::work::work_len;
 use std::hint::black_box;
+use wivulameno::Work;
 
 const MESSAGE: &[u8] = b"order 17 of depot 4, 2026-03-01.";
 const ROOT: [u8; 16] = [0x5a; 16];
@@ -56,12 +59,18 @@ impl Example {
     /// The worst example with 256 outputs, which are its last wires.
     fn worst() -> Example {
         let (name, one_output, witness) = example!("worst");
-        let outputs = (0..256_u16).flat_map(|k| (512 + 4096 - 256 + k).to_le_bytes());
-        let mut circuit = one_output[..8].to_vec();
-        circuit[2..4].copy_from_slice(&256_u16.to_le_bytes());
+        let outputs = (0..256_u32).flat_map(|k| (512 + 4096 - 256 + k).to_le_bytes());
+        let mut circuit = one_output[..16].to_vec();
+        circuit[4..8].copy_from_slice(&256_u32.to_le_bytes());
         circuit.extend(outputs);
-        circuit.extend(&one_output[10..]);
+        circuit.extend(&one_output[20..]);
         Example::of((name, circuit, witness))
+    }
+
+    /// A pricing circuit of so many gates.
+    fn price(name: &'static str, gates: usize) -> Example {
+        let witness = price::row(price::some_values());
+        Example::of((name, price::circuit(gates), witness))
     }
 
     fn statement(&self) -> Statement<'_> {
@@ -72,10 +81,24 @@ impl Example {
         }
     }
 
+    fn work(&self) -> Work {
+        Work::for_circuit(&self.circuit).expect("a legal circuit")
+    }
+
+    /// The proof by the library.
     fn proof(&self, counts: Counts) -> Vec<u8> {
         let mut proof = vec![0; longest(self.sizes, counts)];
-        let statement = self.statement();
-        let len = reference::proof::prove(statement, &self.witness, &ROOT, counts, &mut proof);
+        let statement = wivulameno::proof::Statement {
+            circuit: &self.circuit,
+            y: &self.y,
+            message: MESSAGE,
+        };
+        let Counts { m, tau, n } = counts;
+        let counts = wivulameno::proof::Counts { m, tau, n };
+        let mut work = self.work();
+        let witness = &self.witness;
+        let len =
+            wivulameno::proof::prove(statement, witness, &ROOT, counts, &mut proof, &mut work);
         proof.truncate(len.expect("no refusal"));
         proof
     }
@@ -101,9 +124,10 @@ fn counts(m: u32, n: u32) -> Counts {
 
 /// The same lines for both implementations, whose types have the same names.
 macro_rules! prove_call {
-    ($module:path, $example:expr, $counts:expr) => {{
+    ($module:path, $example:expr, $counts:expr, $work:expr) => {{
         use $module as proof;
         let Counts { m, tau, n } = $counts;
+        let mut work = $work;
         call(longest($example.sizes, $counts), move |out| {
             let statement = proof::Statement {
                 circuit: &$example.circuit,
@@ -112,22 +136,23 @@ macro_rules! prove_call {
             };
             let witness = black_box(&$example.witness);
             let counts = proof::Counts { m, tau, n };
-            proof::prove(statement, witness, &ROOT, counts, out).expect("no refusal");
+            proof::prove(statement, witness, &ROOT, counts, out, &mut work).expect("no refusal");
         })
     }};
 }
 
 macro_rules! check_call {
-    ($module:path, $example:expr, $proof:expr) => {{
+    ($module:path, $example:expr, $proof:expr, $work:expr) => {{
         use $module as proof;
         let file: Vec<u8> = $proof.to_vec();
+        let mut work = $work;
         call(0, move |_| {
             let statement = proof::Statement {
                 circuit: &$example.circuit,
                 y: &$example.y,
                 message: MESSAGE,
             };
-            proof::check(statement, black_box(&file)).expect("accepted");
+            proof::check(statement, black_box(&file), &mut work).expect("accepted");
         })
     }};
 }
@@ -142,14 +167,30 @@ fn all_counts(parties: &[u32]) -> Vec<Counts> {
 /// The rows of prove and of check for one circuit and these counts.
 fn rows<'a>(example: &'a Example, counts: Counts, openssl: Option<&'a OpenSsl>) -> [Row<'a>; 2] {
     let (statement, proof) = (example.statement(), example.proof(counts));
+    let second_work = || vec![0; work_len(example.sizes)];
     let prove = [
-        Some(prove_call!(wivulameno::proof, example, counts)),
-        Some(prove_call!(reference::proof, example, counts)),
+        Some(prove_call!(
+            wivulameno::proof,
+            example,
+            counts,
+            example.work()
+        )),
+        Some(prove_call!(
+            reference::proof,
+            example,
+            counts,
+            second_work()
+        )),
         Some(call_of(openssl, of_prove(example.sizes, counts, statement))),
     ];
     let check = [
-        Some(check_call!(wivulameno::proof, example, proof)),
-        Some(check_call!(reference::proof, example, proof)),
+        Some(check_call!(
+            wivulameno::proof,
+            example,
+            proof,
+            example.work()
+        )),
+        Some(check_call!(reference::proof, example, proof, second_work())),
         Some(call_of(openssl, of_check(example.sizes, statement, &proof))),
     ];
     let Counts { m, tau, n } = counts;
@@ -182,8 +223,13 @@ fn print_table(examples: &[Example], parties: &[u32], rounds: usize, openssl: Op
         let all = all.iter();
         all.flat_map(move |&counts| rows(example, counts, openssl))
     });
-    let mut rows: Vec<Row> = rows.collect();
-    let best = best_times(rounds, &mut rows);
+    print_rows(&mut rows.collect::<Vec<Row>>(), rounds, openssl);
+    println!();
+}
+
+/// Times the rows and prints them; gives the best seconds of each.
+fn print_rows(rows: &mut [Row], rounds: usize, openssl: Option<&OpenSsl>) -> Vec<[Option<f64>; 3]> {
+    let best = best_times(rounds, rows);
     let hasher = if openssl.is_some() {
         "OpenSSL"
     } else {
@@ -201,10 +247,10 @@ fn print_table(examples: &[Example], parties: &[u32], rounds: usize, openssl: Op
         "ours/second",
     ];
     print_line("", &head.map(String::from));
-    for (row, best) in rows.iter().zip(best) {
-        print_line(&row.name, &cells(row.amount, best));
+    for (row, best) in rows.iter().zip(&best) {
+        print_line(&row.name, &cells(row.amount, *best));
     }
-    println!();
+    best
 }
 
 /// The examples, then the worst circuit in fewer rounds.
@@ -216,6 +262,50 @@ pub fn print(openssl: Option<&OpenSsl>) {
     ];
     print_table(&small.map(Example::of), SOME_PARTIES, 15, openssl);
     print_table(&[Example::worst()], ALL_PARTIES, 6, openssl);
+    print_prices(openssl);
+}
+
+/// Error 2^-128 with 16 parties, as table 1 of Katz, Kolesnikov and Wang has it.
+const PRICE_COUNTS: Counts = Counts {
+    m: 352,
+    tau: 33,
+    n: 16,
+};
+
+/// Pricing circuits of 9,000 and of 90,000 gates side by side: time and memory, and how
+/// far from linear the time is.
+fn print_prices(openssl: Option<&OpenSsl>) {
+    let examples = [
+        Example::price("9000 gates", 9_000),
+        Example::price("90000 gates", 90_000),
+    ];
+    let rows = examples
+        .iter()
+        .flat_map(|example| rows(example, PRICE_COUNTS, openssl));
+    let mut rows: Vec<Row> = rows.collect();
+    let best = print_rows(&mut rows, 3, openssl);
+    let each = |row: usize| best[row][0].expect("a time") / rows[row].amount as f64;
+    let [prove, check] = [0, 1].map(|row| each(row + 2) / each(row));
+    println!(
+        "90000 against 9000 gates, the time for each AND gate: prove {prove:.2}, check {check:.2}"
+    );
+    for example in &examples {
+        print_memory(example);
+    }
+    println!();
+}
+
+/// What the library is lent for a proof; it has no other memory but the stack.
+fn print_memory(example: &Example) {
+    let room = longest(example.sizes, PRICE_COUNTS);
+    println!(
+        "{}: lent for a proof {} B of circuit, {} B of work buffer, {room} B of room; the proof \
+         has {} B",
+        example.name,
+        example.circuit.len(),
+        work_len(example.sizes),
+        example.proof(PRICE_COUNTS).len()
+    );
 }
 
 #[cfg(test)]
@@ -232,7 +322,7 @@ mod tests {
     }
 
     #[test]
-    fn the_worst_has_all_limits() {
+    fn the_worst_has_4096_ands() {
         let sizes = Example::worst().sizes;
         let all = [sizes.inputs, sizes.outputs, sizes.gates, sizes.ands];
         assert_eq!(all, [512, 256, 4096, 4096]);

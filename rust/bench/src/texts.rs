@@ -3,14 +3,14 @@
 use crate::rows::{call, megabytes_per_second, Row, Table, ROUNDS};
 use std::hint::black_box;
 
-/// The most gates that a text may have.
+/// The gates of the long text.
 const GATES: usize = 4096;
 
-/// Room for every circuit.
-const ROOM: usize = 33_288;
+/// Room for its circuit.
+const ROOM: usize = 16 + 4 * 256 + 16 * GATES;
 
-/// 512 inputs, 256 outputs and as many gates as there can be, of all three kinds,
-/// each of which reads wires far apart.
+/// 512 inputs, 256 outputs and gates of all three kinds, each of which reads wires far
+/// apart.
 pub fn of_gates() -> String {
     let mut text = format!("{GATES} {}\n2 256 256\n1 256\n\n", 512 + GATES);
     for c in 512..512 + GATES {

@@ -1,6 +1,7 @@
 //! Bristol Fashion text: converting it to a circuit file, and its meaning.
 
-use crate::circuit::{AND, INV, XOR};
+use crate::circuit::{Fields, Record, AND, INV, XOR};
+use crate::circuit::{MOST_GATES, MOST_INPUTS, MOST_OUTPUTS};
 use crate::Refusal;
 
 /// A line without its LF, and whether it has one.
@@ -11,7 +12,7 @@ struct Line<'a> {
 
 /// A gate line. INV has b = 0.
 struct Gate {
-    kind: u8,
+    kind: usize,
     a: usize,
     b: usize,
     c: usize,
@@ -27,7 +28,7 @@ struct Text {
 /// Writes the circuit file of a text to the start of `out` and gives its length:
 /// refusals 22, 23 and 24 in the order of the lines, then 6.
 pub fn convert(text: &[u8], out: &mut [u8]) -> Result<usize, Refusal> {
-    let file = read(text)?.file();
+    let file = read(text)?.fields().bytes();
     let lent = out.get_mut(..file.len()).ok_or(6_u32)?;
     lent.copy_from_slice(&file);
     Ok(file.len())
@@ -108,7 +109,7 @@ fn first_line(line: &Line) -> Result<(usize, usize), Refusal> {
     let [gates, wires] = line.numbers()?[..] else {
         return Err(22);
     };
-    match gates <= 4096 {
+    match gates <= MOST_GATES as u64 {
         true => Ok((gates as usize, wires as usize)),
         false => Err(24),
     }
@@ -120,7 +121,7 @@ fn input_line(line: &Line, gates: usize, wires: usize) -> Result<usize, Refusal>
     if inputs + gates as u64 != wires as u64 {
         return Err(22);
     }
-    match (1..=512).contains(&inputs) {
+    match (1..=MOST_INPUTS as u64).contains(&inputs) {
         true => Ok(inputs as usize),
         false => Err(24),
     }
@@ -132,7 +133,7 @@ fn output_line(line: &Line, wires: usize) -> Result<usize, Refusal> {
     if outputs > wires as u64 {
         return Err(22);
     }
-    match (1..=256).contains(&outputs) {
+    match (1..=MOST_OUTPUTS as u64).contains(&outputs) {
         true => Ok(outputs as usize),
         false => Err(24),
     }
@@ -175,25 +176,24 @@ fn gate_line(line: &Line, written: &mut [bool]) -> Result<Gate, Refusal> {
 impl Text {
     /// The gate that writes wire w is in slot w - I + 1, the chain follows the text,
     /// and the outputs are the last wires.
-    fn file(&self) -> Vec<u8> {
-        let Text {
-            inputs,
-            outputs,
-            gates,
-        } = self;
+    fn fields(&self) -> Fields {
+        let (inputs, count) = (self.inputs, self.gates.len());
         let slot = |gate: &Gate| gate.c - inputs + 1;
-        let mut links: Vec<usize> = gates.iter().map(slot).collect();
+        let mut links: Vec<usize> = self.gates.iter().map(slot).collect();
         links.push(0);
-        let wires = inputs + gates.len();
-        let mut words = vec![*inputs, *outputs, gates.len(), links[0]];
-        words.extend(wires - outputs..wires);
-        let mut records = vec![[0; 4]; gates.len()];
-        for (gate, &next) in gates.iter().zip(&links[1..]) {
-            records[slot(gate) - 1] = [gate.kind.into(), gate.a, gate.b, next];
+        let [kind, a, b, next] = [0; 4];
+        let mut records = vec![Record { kind, a, b, next }; count];
+        for (gate, &next) in self.gates.iter().zip(&links[1..]) {
+            let Gate { kind, a, b, .. } = *gate;
+            records[slot(gate) - 1] = Record { kind, a, b, next };
         }
-        words.extend(records.into_iter().flatten());
-        let bytes = words.iter().map(|&word| (word as u16).to_le_bytes());
-        bytes.flatten().collect()
+        let wires = inputs + count;
+        Fields {
+            inputs,
+            outputs: (wires - self.outputs..wires).collect(),
+            head: links[0],
+            records,
+        }
     }
 }
 
@@ -233,6 +233,7 @@ pub fn evaluate(text: &str, inputs: &[bool]) -> Vec<bool> {
 #[cfg(test)]
 mod tests {
     use super::*;
+    use crate::examples::{file, K};
 
     /// The answer, and what becomes of a buffer of `len` bytes of 0x55.
     fn converted(text: &str, len: usize) -> (Result<usize, Refusal>, Vec<u8>) {
@@ -247,29 +248,29 @@ mod tests {
         answer.err()
     }
 
-    /// The circuit K of the scope paper: one AND of two inputs.
     #[test]
     fn k_as_text() {
-        let k = [2, 0, 1, 0, 1, 0, 1, 0, 2, 0, 2, 0, 0, 0, 1, 0, 0, 0];
         let text = "1 3\n2 1 1\n1 1\n\n2 1 0 1 2 AND\n";
-        assert_eq!(converted(text, 18), (Ok(18), k.to_vec()));
-        let (answer, out) = converted(text, 20);
+        assert_eq!(converted(text, 36), (Ok(36), K.to_vec()));
+        let (answer, out) = converted(text, 38);
         assert_eq!(
-            (answer, &out[..18], &out[18..]),
-            (Ok(18), &k[..], &[0x55; 2][..])
+            (answer, &out[..36], &out[36..]),
+            (Ok(36), &K[..], &[0x55; 2][..])
         );
-        assert_eq!(converted(text, 17), (Err(6), vec![0x55; 17]));
+        assert_eq!(converted(text, 35), (Err(6), vec![0x55; 35]));
     }
 
     /// Wire 2 is written last, and the outputs are wires 3 and 4.
     #[test]
     fn slots_chain_and_outputs() {
         let text = "3 5\n1 2\n1 2\n1 1 0 3 INV\n2 1 3 1 4 XOR\n2 1 4 0 2 AND\n";
-        let mut file = vec![2, 0, 2, 0, 3, 0, 2, 0, 3, 0, 4, 0];
-        file.extend([2, 0, 4, 0, 0, 0, 0, 0]);
-        file.extend([3, 0, 0, 0, 0, 0, 3, 0]);
-        file.extend([1, 0, 3, 0, 1, 0, 1, 0]);
-        assert_eq!(converted(text, 36), (Ok(36), file));
+        let file: [u8; 72] = file([
+            2, 2, 3, 2, 3, 4, // head and outputs
+            2, 4, 0, 0, // slot 1
+            3, 0, 0, 3, // slot 2
+            1, 3, 1, 1, // slot 3
+        ]);
+        assert_eq!(converted(text, 72), (Ok(72), file.to_vec()));
         let known = [
             ([0, 0], [1, 1]),
             ([1, 0], [0, 0]),
@@ -284,8 +285,9 @@ mod tests {
 
     #[test]
     fn no_gates() {
-        let (answer, out) = converted("0 2\n1 2\n1 1\n", 10);
-        assert_eq!((answer, out), (Ok(10), vec![2, 0, 1, 0, 0, 0, 0, 0, 1, 0]));
+        let file: [u8; 20] = file([2, 1, 0, 0, 1]);
+        let found = converted("0 2\n1 2\n1 1\n", 20);
+        assert_eq!(found, (Ok(20), file.to_vec()));
         assert_eq!(evaluate("0 2\n1 2\n1 1\n", &[false, true]), [true]);
     }
 
@@ -305,9 +307,11 @@ mod tests {
         let known = [
             ("", 22),
             ("\n\n", 22),
-            ("4097 1\n", 24),
-            ("4097 01\n", 22),
-            ("4097 1", 22),
+            ("4097 1\n", 22),
+            ("100000 1\n", 22),
+            ("100001 1\n", 24),
+            ("100001 01\n", 22),
+            ("100001 1", 22),
             ("1 3\n1 3\n", 22),
             ("1 514\n1 513\n", 24),
             ("1 3\n1 2\n1 4\n", 22),

@@ -1,11 +1,16 @@
 //! The circuit file: reading and evaluating.
 
 use crate::bits::{get, oct, put, rest_is_zero};
-use crate::{u16_at, Refusal};
+use crate::{u32_at, Refusal};
 
-pub(crate) const XOR: u8 = 1;
-pub(crate) const AND: u8 = 2;
-pub(crate) const INV: u8 = 3;
+pub(crate) const XOR: usize = 1;
+pub(crate) const AND: usize = 2;
+pub(crate) const INV: usize = 3;
+
+/// The limits on I, O and G.
+pub(crate) const MOST_INPUTS: usize = 512;
+pub(crate) const MOST_OUTPUTS: usize = 256;
+pub(crate) const MOST_GATES: usize = 100_000;
 
 /// I, O, G and A.
 #[derive(Clone, Copy, Debug, PartialEq, Eq)]
@@ -16,13 +21,21 @@ pub struct Sizes {
     pub ands: usize,
 }
 
-/// One record of 8 bytes, as it stands.
+/// One record as it stands.
+#[derive(Clone, Copy)]
 pub(crate) struct Record {
-    pub kind: u8,
-    zero: u8,
+    pub kind: usize,
     pub a: usize,
     pub b: usize,
-    next: usize,
+    pub next: usize,
+}
+
+/// What a file says, field by field.
+pub(crate) struct Fields {
+    pub inputs: usize,
+    pub outputs: Vec<usize>,
+    pub head: usize,
+    pub records: Vec<Record>,
 }
 
 /// A circuit that was read: gates in chain order, each with the wire it writes.
@@ -34,9 +47,9 @@ pub(crate) struct Circuit {
 
 /// Why a file is refused: the number, and for a chain the slot that holds the
 /// offending link. The head counts as slot 0; so does every other refusal.
-struct Fault {
-    number: Refusal,
-    slot: usize,
+pub(crate) struct Fault {
+    pub number: Refusal,
+    pub slot: usize,
 }
 
 impl From<Refusal> for Fault {
@@ -76,48 +89,70 @@ pub(crate) fn legal(file: &[u8]) -> Result<Circuit, Refusal> {
 
 /// The circuit of a file. Each test is made over the whole file before the next.
 fn reading(file: &[u8]) -> Result<Circuit, Fault> {
-    if file.len() < 8 {
+    if file.len() < 16 {
         return Err(1.into());
     }
-    let [inputs, outputs, gates, head] = [0, 2, 4, 6].map(|place| u16_at(file, place));
-    if !(1..=512).contains(&inputs) || !(1..=256).contains(&outputs) || gates > 4096 {
+    let [inputs, outputs, gates, head] = [0, 4, 8, 12].map(|place| u32_at(file, place));
+    let few = inputs <= MOST_INPUTS && outputs <= MOST_OUTPUTS && gates <= MOST_GATES;
+    if !few || inputs == 0 || outputs == 0 {
         return Err(2.into());
     }
-    if file.len() != 8 + 2 * outputs + 8 * gates {
+    if file.len() != 16 + 4 * outputs + 16 * gates {
         return Err(1.into());
     }
-    let (outputs, records) = file[8..].split_at(2 * outputs);
-    let outputs: Vec<usize> = outputs.chunks(2).map(|wire| u16_at(wire, 0)).collect();
-    let records: Vec<Record> = records.chunks(8).map(Record::of).collect();
-    if !records.iter().all(Record::is_in_form) {
-        return Err(3.into());
-    }
-    let slots = chain(head, &records)?;
-    let circuit = Circuit {
+    let (outputs, records) = file[16..].split_at(4 * outputs);
+    let fields = Fields {
         inputs,
-        outputs,
-        gates: in_order(&slots, records, inputs),
+        outputs: outputs.chunks(4).map(|wire| u32_at(wire, 0)).collect(),
+        head,
+        records: records.chunks(16).map(Record::of).collect(),
     };
-    if !circuit.wires_are_written() {
-        return Err(5.into());
+    fields.circuit()
+}
+
+impl Fields {
+    /// The circuit, if its records are in form, its chain is right and its wires are
+    /// written: refusals 3, 19, 20, 21 and 5.
+    pub fn circuit(&self) -> Result<Circuit, Fault> {
+        if !self.records.iter().all(Record::is_in_form) {
+            return Err(3.into());
+        }
+        let slots = chain(self.head, &self.records)?;
+        // Slot k writes wire I + k - 1.
+        let gate = |slot: &usize| (self.records[slot - 1], self.inputs + slot - 1);
+        let circuit = Circuit {
+            inputs: self.inputs,
+            outputs: self.outputs.clone(),
+            gates: slots.iter().map(gate).collect(),
+        };
+        match circuit.wires_are_written() {
+            true => Ok(circuit),
+            false => Err(5.into()),
+        }
     }
-    Ok(circuit)
+
+    /// The file with these fields.
+    pub fn bytes(&self) -> Vec<u8> {
+        let counts = [self.inputs, self.outputs.len(), self.records.len()];
+        let mut words = counts.to_vec();
+        words.push(self.head);
+        words.extend(&self.outputs);
+        for Record { kind, a, b, next } in &self.records {
+            words.extend([kind, a, b, next]);
+        }
+        let bytes = words.iter().map(|&word| (word as u32).to_le_bytes());
+        bytes.flatten().collect()
+    }
 }
 
 impl Record {
     fn of(bytes: &[u8]) -> Record {
-        Record {
-            kind: bytes[0],
-            zero: bytes[1],
-            a: u16_at(bytes, 2),
-            b: u16_at(bytes, 4),
-            next: u16_at(bytes, 6),
-        }
+        let [kind, a, b, next] = [0, 4, 8, 12].map(|place| u32_at(bytes, place));
+        Record { kind, a, b, next }
     }
 
     fn is_in_form(&self) -> bool {
-        let kind_is_known = matches!(self.kind, XOR | AND) || (self.kind == INV && self.b == 0);
-        kind_is_known && self.zero == 0
+        matches!(self.kind, XOR | AND) || (self.kind == INV && self.b == 0)
     }
 
     /// The wires that the gate reads.
@@ -151,16 +186,6 @@ fn chain(head: usize, records: &[Record]) -> Result<Vec<usize>, Fault> {
         let slot = holder;
         return Err(Fault { number, slot });
     }
-}
-
-/// The records in the order of `slots`; slot k writes wire I + k - 1.
-fn in_order(slots: &[usize], records: Vec<Record>, inputs: usize) -> Vec<(Record, usize)> {
-    let mut records: Vec<Option<Record>> = records.into_iter().map(Some).collect();
-    let gates = slots.iter().map(|slot| {
-        let record = records[slot - 1].take().expect("each slot once");
-        (record, inputs + slot - 1)
-    });
-    gates.collect()
 }
 
 impl Circuit {
@@ -222,14 +247,24 @@ impl Circuit {
 #[cfg(test)]
 mod tests {
     use super::*;
+    use crate::examples::{file, K};
 
-    /// The circuit K of the scope paper: one AND of two inputs.
-    const K: [u8; 18] = [2, 0, 1, 0, 1, 0, 1, 0, 2, 0, 2, 0, 0, 0, 1, 0, 0, 0];
+    /// Places of fields in K.
+    const INPUTS: usize = 0;
+    const OUTPUTS: usize = 4;
+    const GATES: usize = 8;
+    const OUTPUT: usize = 16;
+    const KIND: usize = 20;
+    const A: usize = 24;
+    const B: usize = 28;
+    const NEXT: usize = 32;
 
-    /// K with another byte at `place`.
-    fn k_with(place: usize, byte: u8) -> [u8; 18] {
+    /// K with other fields at these places.
+    fn k_with(fields: &[(usize, u32)]) -> [u8; 36] {
         let mut file = K;
-        file[place] = byte;
+        for (place, field) in fields {
+            file[*place..place + 4].copy_from_slice(&field.to_le_bytes());
+        }
         file
     }
 
@@ -244,18 +279,24 @@ mod tests {
 
     #[test]
     fn m1_k_is_read() {
-        assert_eq!(read(&K), Ok(sizes(2, 1, 1, 1)));
+        let k = [
+            2, 0, 0, 0, 1, 0, 0, 0, 1, 0, 0, 0, 1, 0, 0, 0, // I, O, G, head
+            2, 0, 0, 0, // the output
+            2, 0, 0, 0, 0, 0, 0, 0, 1, 0, 0, 0, 0, 0, 0, 0, // slot 1
+        ];
+        assert_eq!(K, k);
+        assert_eq!(read(&k), Ok(sizes(2, 1, 1, 1)));
     }
 
     #[test]
     fn m2_a_record_that_follows_itself() {
-        let file = k_with(16, 1);
+        let file = k_with(&[(NEXT, 1)]);
         assert_eq!((read(&file), fault_slot(&file)), (Err(21), 1));
     }
 
     #[test]
     fn m3_a_gate_that_reads_itself() {
-        assert_eq!(read(&k_with(14, 2)), Err(5));
+        assert_eq!(read(&k_with(&[(B, 2)])), Err(5));
     }
 
     #[test]
@@ -265,7 +306,7 @@ mod tests {
 
     #[test]
     fn m5_no_gates() {
-        let file = [1, 0, 1, 0, 0, 0, 0, 0, 0, 0];
+        let file: [u8; 20] = file([1, 1, 0, 0, 0]);
         assert_eq!(read(&file), Ok(sizes(1, 1, 0, 0)));
     }
 
@@ -273,26 +314,78 @@ mod tests {
     #[test]
     fn the_three_kinds() {
         let table = |kind, b| {
-            let mut file = k_with(10, kind);
-            file[14] = b;
+            let file = k_with(&[(KIND, kind), (B, b)]);
             [0, 1, 2, 3].map(|witness| {
                 let mut y = [0xff];
                 evaluate(&file, &[witness], &mut y).map(|()| y[0])
             })
         };
-        assert_eq!(table(XOR, 1), [Ok(0), Ok(1), Ok(1), Ok(0)]);
-        assert_eq!(table(AND, 1), [Ok(0), Ok(0), Ok(0), Ok(1)]);
-        assert_eq!(table(INV, 0), [Ok(1), Ok(0), Ok(1), Ok(0)]);
+        assert_eq!(table(1, 1), [Ok(0), Ok(1), Ok(1), Ok(0)]);
+        assert_eq!(table(2, 1), [Ok(0), Ok(0), Ok(0), Ok(1)]);
+        assert_eq!(table(3, 0), [Ok(1), Ok(0), Ok(1), Ok(0)]);
+    }
+
+    /// Every byte of a field counts, also that of the kind.
+    #[test]
+    fn fields_have_32_bits() {
+        assert_eq!(read(&k_with(&[(KIND, 2 + 256)])), Err(3));
+        for bit in [16, 24, 31] {
+            let high = 1 << bit;
+            let known = [
+                ((INPUTS, 2 + high), 2),
+                ((OUTPUTS, 1 + high), 2),
+                ((GATES, 1 + high), if bit == 16 { 1 } else { 2 }),
+                ((OUTPUT, 2 + high), 5),
+                ((KIND, 2 + high), 3),
+                ((A, high), 5),
+                ((B, 1 + high), 5),
+                ((NEXT, high), 19),
+            ];
+            for (field, number) in known {
+                assert_eq!(read(&k_with(&[field])), Err(number), "{field:?}");
+            }
+        }
+        assert_eq!(read(&k_with(&[(KIND, 3)])), Err(3));
+        assert_eq!(read(&k_with(&[(KIND, 3), (B, 1 << 31)])), Err(3));
+    }
+
+    /// 1 under 16 bytes comes before 2, which comes before 1 for the whole length.
+    #[test]
+    fn lengths_and_limits() {
+        let none = k_with(&[(INPUTS, 0)]);
+        assert_eq!(read(&none[..15]), Err(1));
+        assert_eq!(read(&none[..16]), Err(2));
+        assert_eq!(read(&K[..16]), Err(1));
+        assert_eq!(read(&K[..35]), Err(1));
+        assert_eq!(read(&[&K[..], &[0]].concat()), Err(1));
+    }
+
+    /// INV gates of input 0, in slot order.
+    fn row_of_gates(gates: u32) -> Vec<u8> {
+        let mut words = vec![1, 1, gates, 1, 0];
+        for slot in 1..=gates {
+            words.extend([3, 0, 0, (slot + 1) % (gates + 1)]);
+        }
+        words.iter().flat_map(|word| word.to_le_bytes()).collect()
+    }
+
+    #[test]
+    fn the_most_gates() {
+        let most = row_of_gates(100_000);
+        assert_eq!(read(&most), Ok(sizes(1, 1, 100_000, 0)));
+        assert_eq!(read(&row_of_gates(100_001)), Err(2));
     }
 
     /// Three gates in the order 2, 3, 1: wire 3 is !x, wire 4 is !!x, wire 2 is
     /// their XOR with y.
     #[test]
     fn a_chain_out_of_slot_order() {
-        let mut file = vec![2, 0, 3, 0, 3, 0, 2, 0, 2, 0, 3, 0, 3, 0];
-        file.extend([1, 0, 4, 0, 1, 0, 0, 0]);
-        file.extend([3, 0, 0, 0, 0, 0, 3, 0]);
-        file.extend([3, 0, 3, 0, 0, 0, 1, 0]);
+        let file: [u8; 76] = file([
+            2, 3, 3, 2, 2, 3, 3, // head and outputs
+            1, 4, 1, 0, // slot 1
+            3, 0, 0, 3, // slot 2
+            3, 3, 0, 1, // slot 3
+        ]);
         assert_eq!(read(&file), Ok(sizes(2, 3, 3, 0)));
         let mut y = [0xff];
         for (witness, expected) in [(0, 6), (1, 1), (2, 7), (3, 0)] {
@@ -315,13 +408,13 @@ mod tests {
             ([1, 2, 1, 0], (21, 1)),
             ([3, 1, 2, 3], (21, 3)),
         ];
-        for ([head, links @ ..], (number, slot)) in known {
-            let mut file = vec![1, 0, 1, 0, 3, 0, head, 0, 0, 0];
-            for link in links {
-                file.extend([3, 0, 0, 0, 0, 0, link, 0]);
-            }
+        for ([head, x, y, z], (number, slot)) in known {
+            let file: [u8; 68] = file([
+                1, 1, 3, head, 0, // head and output
+                3, 0, 0, x, 3, 0, 0, y, 3, 0, 0, z, // slots 1 to 3
+            ]);
             let found = (read(&file), fault_slot(&file));
-            assert_eq!(found, (Err(number), slot), "{head}, {links:?}");
+            assert_eq!(found, (Err(number), slot), "{head}, {x}, {y}, {z}");
         }
     }
 
@@ -329,14 +422,13 @@ mod tests {
     fn no_slot_for_other_refusals() {
         let others = [
             (1, vec![]),
-            (2, k_with(0, 0).to_vec()),
-            (3, k_with(10, 4).to_vec()),
+            (2, k_with(&[(INPUTS, 0)]).to_vec()),
+            (3, k_with(&[(KIND, 4)]).to_vec()),
+            (5, k_with(&[(B, 2)]).to_vec()),
         ];
         for (number, file) in others {
             assert_eq!((read(&file), fault_slot(&file)), (Err(number), 0));
         }
-        let wire = k_with(14, 2);
-        assert_eq!((read(&wire), fault_slot(&wire)), (Err(5), 0));
         assert_eq!(fault_slot(&K), 0);
     }
 

@@ -3,6 +3,7 @@
 use crate::bits::{clear_rest, get, oct, put, rest_is_zero};
 use crate::circuit::{legal, Circuit, Sizes, AND, XOR};
 use crate::seeds::parties;
+use crate::work::Work;
 use crate::Refusal;
 use std::ops::Range;
 
@@ -55,9 +56,17 @@ impl Sizes {
     }
 }
 
-/// Fills `corrections` from the tapes: the refusals of the circuit, 8, 6 and 7.
-pub fn prepare(file: &[u8], n: u32, tapes: &[u8], corrections: &mut [u8]) -> Result<(), Refusal> {
+/// Fills `corrections` from the tapes: the refusals of the circuit, 6 for `work`, 8,
+/// 6 and 7.
+pub fn prepare(
+    file: &[u8],
+    n: u32,
+    tapes: &[u8],
+    corrections: &mut [u8],
+    work: &mut [u8],
+) -> Result<(), Refusal> {
     let circuit = legal(file)?;
+    let _work = Work::lent(circuit.sizes(), work)?;
     let (sizes, n) = (circuit.sizes(), parties(n)?);
     lengths(&[
         (tapes.len(), n * sizes.tape_row_len()),
@@ -68,8 +77,8 @@ pub fn prepare(file: &[u8], n: u32, tapes: &[u8], corrections: &mut [u8]) -> Res
     Ok(())
 }
 
-/// Runs all parties with the corrections as lent: the refusals of the circuit, 8, 6
-/// and 7.
+/// Runs all parties with the corrections as lent: the refusals of the circuit, 6 for
+/// `work`, 8, 6 and 7.
 pub fn run(
     file: &[u8],
     n: u32,
@@ -77,8 +86,10 @@ pub fn run(
     tapes: &[u8],
     corrections: &[u8],
     out: RunOut,
+    work: &mut [u8],
 ) -> Result<(), Refusal> {
     let circuit = legal(file)?;
+    let _work = Work::lent(circuit.sizes(), work)?;
     let (sizes, n) = (circuit.sizes(), parties(n)?);
     lengths(&[
         (witness.len(), sizes.inputs_len()),
@@ -99,7 +110,8 @@ pub fn run(
 }
 
 /// Fills the showing with party p hidden, cut after `cut` gates: the refusals of
-/// the circuit, 8, 9, 6 and 7.
+/// the circuit, 6 for `work`, 8, 9, 6 and 7.
+#[allow(clippy::too_many_arguments)]
 pub fn show(
     file: &[u8],
     n: u32,
@@ -108,8 +120,10 @@ pub fn show(
     witness: &[u8],
     tapes: &[u8],
     out: ShowingOut,
+    work: &mut [u8],
 ) -> Result<(), Refusal> {
     let circuit = legal(file)?;
+    let _work = Work::lent(circuit.sizes(), work)?;
     let (sizes, n) = (circuit.sizes(), parties(n)?);
     let (p, cut) = (p as usize, cut as usize);
     if p >= n || cut > sizes.gates {
@@ -141,7 +155,7 @@ pub fn show(
 }
 
 /// Fills `rows` with all broadcasts of an opened run: the refusals of the circuit,
-/// 8, 9, 6, 7 and 10.
+/// 6 for `work`, 8, 9, 6, 7 and 10.
 pub fn replay(
     file: &[u8],
     n: u32,
@@ -149,8 +163,10 @@ pub fn replay(
     showing: Showing,
     y: &[u8],
     rows: &mut [u8],
+    work: &mut [u8],
 ) -> Result<(), Refusal> {
     let circuit = legal(file)?;
+    let _work = Work::lent(circuit.sizes(), work)?;
     let (sizes, n, p) = (circuit.sizes(), parties(n)?, p as usize);
     if p >= n {
         return Err(9);
@@ -407,25 +423,18 @@ fn masked_values(
 mod tests {
     use super::*;
     use crate::circuit::{evaluate, read};
+    use crate::examples::{FOUR, K};
 
-    /// One AND of two inputs.
-    const K: [u8; 18] = [2, 0, 1, 0, 1, 0, 1, 0, 2, 0, 2, 0, 0, 0, 1, 0, 0, 0];
-
-    /// Three inputs: slot 2 is NOT x, slot 3 is y AND slot 2, slot 1 is z AND
-    /// slot 3, slot 4 is slot 1 XOR y. The outputs are slots 4 and 3 and input z.
-    const FOUR: [u8; 46] = [
-        3, 0, 3, 0, 4, 0, 2, 0, 6, 0, 5, 0, 2, 0, // head and outputs
-        2, 0, 2, 0, 5, 0, 4, 0, // slot 1
-        3, 0, 0, 0, 0, 0, 3, 0, // slot 2
-        2, 0, 1, 0, 4, 0, 1, 0, // slot 3
-        1, 0, 3, 0, 1, 0, 0, 0, // slot 4
-    ];
+    /// More than the circuits here ask for, and not zero.
+    fn a_work() -> Vec<u8> {
+        vec![0xa5; 5000]
+    }
 
     type Parts = [Vec<u8>; 4];
 
     fn prepared(file: &[u8], n: u32, tapes: &[u8]) -> Result<Vec<u8>, Refusal> {
         let mut corrections = vec![0xa5; read(file)?.corrections_len()];
-        prepare(file, n, tapes, &mut corrections)?;
+        prepare(file, n, tapes, &mut corrections, &mut a_work())?;
         Ok(corrections)
     }
 
@@ -446,7 +455,7 @@ mod tests {
             rows: &mut rows,
             y: &mut y,
         };
-        run(file, n, witness, tapes, corrections, out)?;
+        run(file, n, witness, tapes, corrections, out, &mut a_work())?;
         Ok([masked_inputs, rows, y])
     }
 
@@ -470,7 +479,7 @@ mod tests {
             masked_inputs,
             row,
         };
-        show(file, n, p, cut, witness, tapes, out)?;
+        show(file, n, p, cut, witness, tapes, out, &mut a_work())?;
         Ok(parts)
     }
 
@@ -487,7 +496,7 @@ mod tests {
             masked_inputs: &parts[2],
             row: &parts[3],
         };
-        replay(file, n, p, showing, y, &mut rows)?;
+        replay(file, n, p, showing, y, &mut rows, &mut a_work())?;
         Ok(rows)
     }
 
@@ -582,9 +591,12 @@ mod tests {
 
     #[test]
     fn refusals_in_order() {
-        assert_eq!(prepare(&[], 3, &[], &mut [0; 9]), Err(1));
-        assert_eq!(prepare(&K, 3, &[], &mut [0; 9]), Err(8));
-        assert_eq!(prepare(&K, 2, &[255, 255], &mut [0; 2]), Err(6));
+        let prepare_for = |file: &[u8], n, tapes: &[u8], len| {
+            prepare(file, n, tapes, &mut vec![0; len], &mut a_work())
+        };
+        assert_eq!(prepare_for(&[], 3, &[], 9), Err(1));
+        assert_eq!(prepare_for(&K, 3, &[], 9), Err(8));
+        assert_eq!(prepare_for(&K, 2, &[255, 255], 2), Err(6));
         assert_eq!(prepared(&K, 2, &[16, 0]), Err(7));
         assert_eq!(prepared(&K, 2, &[0, 8]), Err(7));
         assert_eq!(ran(&K, 2, &[4], &[13], &[1]), Err(6));
@@ -622,5 +634,25 @@ mod tests {
         }
         let last = with(0, vec![13, 0]);
         assert_eq!(replayed(&K, [2, 1], &last, &[0]), Err(7));
+    }
+
+    /// K asks for 64 times 3 bytes and 4,096. What an ending makes of the buffer.
+    #[test]
+    fn the_work_buffer() {
+        let left = |file: &[u8], n, tapes: &[u8], len| {
+            let mut work = vec![0xa5; len];
+            let answer = prepare(file, n, tapes, &mut [0], &mut work);
+            let zero = work.iter().all(|&byte| byte == 0);
+            assert!(zero || work == vec![0xa5; len]);
+            (answer, zero)
+        };
+        assert_eq!(left(&[], 3, &[], 9000), (Err(1), false));
+        assert_eq!(left(&K, 3, &[], 4287), (Err(6), false));
+        assert_eq!(left(&K, 3, &[], 4288), (Err(8), true));
+        assert_eq!(left(&K, 2, &[], 4288), (Err(6), true));
+        assert_eq!(left(&K, 2, &[16, 0], 4288), (Err(7), true));
+        assert_eq!(left(&K, 2, &[13, 3], 4288), (Ok(()), true));
+        assert_eq!(left(&K, 2, &[13, 3], 9001), (Ok(()), true));
+        assert_eq!(left(&K, 2, &[13, 3], 4287), (Err(6), false));
     }
 }

@@ -6,6 +6,7 @@ use crate::fips202::sha3_256;
 use crate::masters::{all_masters, opened_masters, opened_nodes, opened_values};
 use crate::mpc::{right_corrections, run_parties, run_shown, Showing};
 use crate::seeds::{self, ChallengeInput, Digest, Value};
+use crate::work::Work;
 use crate::{u16_at, Refusal};
 
 const HEADER_LEN: usize = 38;
@@ -39,16 +40,18 @@ impl Counts {
 }
 
 /// Writes a proof to the start of `proof` and gives its length: the refusals of the
-/// circuit, 8, 6, 7 and 10.
+/// circuit, 6 for `work`, 8, 6, 7 and 10.
 pub fn prove(
     statement: Statement,
     witness: &[u8],
     root: &[u8],
     counts: Counts,
     proof: &mut [u8],
+    work: &mut [u8],
 ) -> Result<usize, Refusal> {
     let circuit = legal(statement.circuit)?;
     let sizes = circuit.sizes();
+    let _work = Work::lent(sizes, work)?;
     if !counts.are_in_limits() {
         return Err(8);
     }
@@ -69,11 +72,12 @@ pub fn prove(
     Ok(file.len())
 }
 
-/// Does the proof show the statement? The refusals of the circuit, 6, 7, 11, 12, 7,
-/// 10 and 13.
-pub fn check(statement: Statement, proof: &[u8]) -> Result<(), Refusal> {
+/// Does the proof show the statement? The refusals of the circuit, 6 for `work`, 6, 7,
+/// 11, 12, 7, 10 and 13.
+pub fn check(statement: Statement, proof: &[u8], work: &mut [u8]) -> Result<(), Refusal> {
     let circuit = legal(statement.circuit)?;
     let sizes = circuit.sizes();
+    let _work = Work::lent(sizes, work)?;
     lengths_of(statement, sizes)?;
     if !rest_is_zero(statement.y, sizes.outputs) {
         return Err(7);
@@ -502,19 +506,7 @@ impl<'a> Opened<'a> {
 #[cfg(test)]
 mod tests {
     use super::*;
-
-    /// One AND of two inputs.
-    const K: [u8; 18] = [2, 0, 1, 0, 1, 0, 1, 0, 2, 0, 2, 0, 0, 0, 1, 0, 0, 0];
-
-    /// Three inputs: slot 2 is NOT x, slot 3 is y AND slot 2, slot 1 is z AND
-    /// slot 3, slot 4 is slot 1 XOR y. The outputs are slots 4 and 3 and input z.
-    const FOUR: [u8; 46] = [
-        3, 0, 3, 0, 4, 0, 2, 0, 6, 0, 5, 0, 2, 0, // head and outputs
-        2, 0, 2, 0, 5, 0, 4, 0, // slot 1
-        3, 0, 0, 0, 0, 0, 3, 0, // slot 2
-        2, 0, 1, 0, 4, 0, 1, 0, // slot 3
-        1, 0, 3, 0, 1, 0, 0, 0, // slot 4
-    ];
+    use crate::examples::{FOUR, K};
 
     /// The statement that `FOUR` gives 6, as it does for the witness 6.
     const FOUR_GIVES_6: Statement = Statement {
@@ -528,6 +520,15 @@ mod tests {
         Counts { m, tau, n }
     }
 
+    /// More than the circuits here ask for, and not zero.
+    fn a_work() -> Vec<u8> {
+        vec![0xa5; 5000]
+    }
+
+    fn checked(statement: Statement, proof: &[u8]) -> Result<(), Refusal> {
+        check(statement, proof, &mut a_work())
+    }
+
     /// The proof in a buffer of the length that is asked for, and `more`.
     fn proved(
         statement: Statement,
@@ -538,7 +539,7 @@ mod tests {
     ) -> Result<Vec<u8>, Refusal> {
         let sizes = crate::circuit::read(statement.circuit)?;
         let mut proof = vec![0xa5; longest(sizes, counts) + more];
-        let len = prove(statement, witness, root, counts, &mut proof)?;
+        let len = prove(statement, witness, root, counts, &mut proof, &mut a_work())?;
         assert!(proof[len..].iter().all(|&byte| byte == 0xa5));
         proof.truncate(len);
         Ok(proof)
@@ -559,23 +560,23 @@ mod tests {
             ),
             (
                 counts(5, 2, 4),
-                315,
-                "bddadd29c354b08d5043733561cfeee8d6d3e9969076e692da5f40ddd441c527",
+                299,
+                "5c3181da69f72cb2f5ad9df81749bbfdce1eacaa03b35959804b0fa95eba3d31",
             ),
             (
                 counts(6, 5, 8),
-                501,
-                "7f2585b5cd11f1c017c62ad585ebe9f5c411cc36033259ac2a17b3e0cf58d4fc",
+                500,
+                "2a78de2c0efdd061897c20c419ea6078ed5d275000bddf49956869d126324131",
             ),
             (
                 counts(20, 7, 16),
                 1291,
-                "f06c2715c548931824979ac6fbb9582832aeed3225176cae77c5e06f13f25c92",
+                "9200631907febbaa62af1b755bf340012b8817e07f69850f7a477e353d2f3c64",
             ),
             (
                 counts(300, 9, 16),
-                10848,
-                "733570331c92b890472be8512c0854cd7c211504ab4595fb7b8b7fbc324015d7",
+                10912,
+                "d52b11539c8647124bafecd16d21950f01b8eb8aad6b25db7f04dd7ce3f9136a",
             ),
         ];
         for (counts, len, digest) in known {
@@ -584,7 +585,7 @@ mod tests {
                 (proof.len(), hex(&sha3_256(&proof)).as_str()),
                 (len, digest)
             );
-            assert_eq!(check(FOUR_GIVES_6, &proof), Ok(()), "{counts:?}");
+            assert_eq!(checked(FOUR_GIVES_6, &proof), Ok(()), "{counts:?}");
         }
     }
 
@@ -595,7 +596,7 @@ mod tests {
             y: &[1],
             message: b"message",
         };
-        for (root, p, len) in [(3, 0, 217), (1, 1, 216)] {
+        for (root, p, len) in [(2, 0, 217), (1, 1, 216)] {
             let proof = proved(statement, &[3], &[root; 16], counts(4, 1, 2), 0).unwrap();
             let (counts, h_star) = header(&proof).unwrap();
             let hidden = hidden_parties(statement, counts, h_star);
@@ -610,7 +611,7 @@ mod tests {
         for bit in 0..8 * proof.len() {
             let mut other = proof.clone();
             other[bit / 8] ^= 1 << (bit % 8);
-            assert!(check(FOUR_GIVES_6, &other).is_err(), "bit {bit}");
+            assert!(checked(FOUR_GIVES_6, &other).is_err(), "bit {bit}");
         }
     }
 
@@ -628,7 +629,7 @@ mod tests {
         };
         let ask = |statement, witness: &[u8], root: &[u8], counts, len: usize| {
             let mut proof = vec![0xa5; len];
-            let answer = prove(statement, witness, root, counts, &mut proof);
+            let answer = prove(statement, witness, root, counts, &mut proof, &mut a_work());
             assert!(answer.is_ok() || proof == vec![0xa5; len]);
             answer
         };
@@ -670,40 +671,42 @@ mod tests {
             circuit: &[],
             ..of_y(&[])
         };
-        assert_eq!(check(no_circuit, &[]), Err(1));
-        assert_eq!(check(long, &[]), Err(6));
-        assert_eq!(check(of_y(&[255, 0]), &[]), Err(6));
-        assert_eq!(check(of_y(&[14]), &[]), Err(7));
-        assert_eq!(check(FOUR_GIVES_6, &proof[..37]), Err(11));
+        assert_eq!(checked(no_circuit, &[]), Err(1));
+        assert_eq!(checked(long, &[]), Err(6));
+        assert_eq!(checked(of_y(&[255, 0]), &[]), Err(6));
+        assert_eq!(checked(of_y(&[14]), &[]), Err(7));
+        assert_eq!(checked(FOUR_GIVES_6, &proof[..37]), Err(11));
         for (place, byte) in [(0, 1), (1, 2), (2, 0), (2, 5), (4, 3), (4, 32), (5, 1)] {
-            assert_eq!(check(FOUR_GIVES_6, &with(place, byte)), Err(11));
+            assert_eq!(checked(FOUR_GIVES_6, &with(place, byte)), Err(11));
         }
-        assert_eq!(check(FOUR_GIVES_6, &proof[..314]), Err(12));
-        // The last stretch but one is of instance 3, which is chosen, with its row
-        // at the end: 2 bits of AND gates, 3 of outputs, 3 out of use.
-        let (row, last) = (315 - 32 - 1, 314);
-        assert_eq!(check(FOUR_GIVES_6, &turned(&[(row, 0x24)])), Err(7));
+        assert_eq!(checked(FOUR_GIVES_6, &proof[..298]), Err(12));
+        // The last stretch is of instance 4, which is chosen, with its row at the end:
+        // 2 bits of AND gates, 3 of outputs, 3 out of use. Before it is the digest of
+        // instance 3.
+        let (row, last) = (298, 299 - (2 * 16 + 1 + 32 + 1 + 1) - 1);
+        assert_eq!(checked(FOUR_GIVES_6, &turned(&[(row, 0x24)])), Err(7));
         let output = turned(&[(row, 0x04), (last, 0xff)]);
-        assert_eq!(check(FOUR_GIVES_6, &output), Err(10));
-        assert_eq!(check(FOUR_GIVES_6, &turned(&[(last, 0xff)])), Err(13));
+        assert_eq!(checked(FOUR_GIVES_6, &output), Err(10));
+        assert_eq!(checked(FOUR_GIVES_6, &turned(&[(last, 0xff)])), Err(13));
         let output = turned(&[(row, 0x04), (38, 0xff)]);
-        assert_eq!(check(FOUR_GIVES_6, &output), Err(10));
-        assert_eq!(check(FOUR_GIVES_6, &turned(&[(38, 0xff)])), Err(13));
-        assert_eq!(check(FOUR_GIVES_6, &proof), Ok(()));
+        assert_eq!(checked(FOUR_GIVES_6, &output), Err(10));
+        assert_eq!(checked(FOUR_GIVES_6, &turned(&[(38, 0xff)])), Err(13));
+        assert_eq!(checked(FOUR_GIVES_6, &proof), Ok(()));
     }
 
-    /// Instances 1 and 3 are chosen of five: nodes 3, 8 and 10 are opened, after the
+    /// Instances 0 and 4 are chosen of five: nodes 5 and 9 are opened, after the
     /// header and before the stretches.
     #[test]
     fn the_cover_of_a_proof() {
         let proof = proved(FOUR_GIVES_6, &[6], &ROOT, counts(5, 2, 4), 0).unwrap();
         let (counts, h_star) = header(&proof).unwrap();
         let hidden = hidden_parties(FOUR_GIVES_6, counts, h_star);
-        assert_eq!(hidden, [None, Some(1), None, Some(3), None]);
-        assert_eq!(opened_nodes(&is_chosen(&hidden)), [3, 8, 10]);
-        let [_, right] = seeds::children(65_535, 1, ROOT);
+        assert_eq!(hidden, [Some(3), None, None, None, Some(2)]);
+        assert_eq!(opened_nodes(&is_chosen(&hidden)), [5, 9]);
+        let [two, _] = seeds::children(65_535, 1, ROOT);
+        let [_, five] = seeds::children(65_535, 2, two);
         let masters = all_masters(5, ROOT);
-        assert_eq!(proof[38..86], [right, masters[0], masters[2]].concat());
+        assert_eq!(proof[38..70], [five, masters[1]].concat());
     }
 
     /// A witness for another output: each replay shows it.
@@ -713,6 +716,6 @@ mod tests {
         let instances = instances(&FOUR, &[5], ROOT, counts);
         let h_star = h_star(&instances);
         let proof = written(ROOT, &instances, FOUR_GIVES_6, counts, h_star);
-        assert_eq!(check(FOUR_GIVES_6, &proof), Err(10));
+        assert_eq!(checked(FOUR_GIVES_6, &proof), Err(10));
     }
 }

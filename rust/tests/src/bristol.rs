@@ -1,7 +1,7 @@
 //! Bristol Fashion texts: built gate by gate, printed from circuit files, damaged;
 //! and their conversion by both implementations.
 
-use crate::circuits::{File, AND, INV, XOR};
+use crate::circuits::{File, Gate, AND, INV, XOR};
 use crate::guarded::Guarded;
 use crate::random::Random;
 
@@ -28,9 +28,16 @@ pub fn compare(random: &mut Random, text: &[u8], out_len: usize) -> Result<(Vec<
     second.map(|len| (expected, len))
 }
 
+/// Room for the circuit file of a text: 16 bytes for its head, 4 for each of 256
+/// outputs, 16 for each line.
+pub fn room(text: &[u8]) -> usize {
+    let lines = text.iter().filter(|&&byte| byte == b'\n').count();
+    16 + 4 * 256 + 16 * lines
+}
+
 /// The circuit file of a text by both, which have more than enough room.
 pub fn converted(random: &mut Random, text: &[u8]) -> Result<Vec<u8>, u32> {
-    let (mut file, len) = compare(random, text, 33_288 + 7)?;
+    let (mut file, len) = compare(random, text, room(text) + 7)?;
     file.truncate(len);
     Ok(file)
 }
@@ -47,7 +54,7 @@ pub fn text_of<T: AsRef<str>>(lines: &[T]) -> String {
     lines.collect()
 }
 
-fn gate_line(kind: u8, [a, b, c]: [usize; 3]) -> String {
+fn gate_line(kind: u32, [a, b, c]: [usize; 3]) -> String {
     match kind {
         XOR => format!("2 1 {a} {b} {c} XOR"),
         AND => format!("2 1 {a} {b} {c} AND"),
@@ -65,7 +72,7 @@ fn group_line(groups: &[usize]) -> String {
 /// A circuit with groups of inputs. Gate k writes wire I + k until it is printed.
 pub struct Builder {
     groups: Vec<usize>,
-    gates: Vec<(u8, usize, usize)>,
+    gates: Vec<(u32, usize, usize)>,
 }
 
 impl Builder {
@@ -86,7 +93,7 @@ impl Builder {
         (first..first + self.groups[group]).collect()
     }
 
-    fn gate(&mut self, kind: u8, a: usize, b: usize) -> usize {
+    fn gate(&mut self, kind: u32, a: usize, b: usize) -> usize {
         self.gates.push((kind, a, b));
         self.inputs() + self.gates.len() - 1
     }
@@ -210,12 +217,12 @@ pub fn printed(file: &File, slots: &[usize], groups: [&[usize]; 2]) -> String {
 /// The same of a file with any outputs. Each is copied by two INV, which are at the
 /// end: its conversion is another file with the same function.
 pub fn printed_with_copies(file: &File, slots: &[usize], groups: [&[usize]; 2]) -> String {
-    let [inputs, outputs, gates] = file.counts.map(usize::from);
-    let counts = [inputs, outputs, gates + 2 * outputs].map(|count| count as u16);
+    let [inputs, outputs, gates] = file.counts.map(|count| count as usize);
+    let counts = [inputs, outputs, gates + 2 * outputs].map(|count| count as u32);
     let mut lines = [header(counts, groups), gate_lines(file, slots)].concat();
     let first = inputs + gates;
     for (k, &wire) in file.outputs.iter().enumerate() {
-        lines.push(gate_line(INV, [wire.into(), 0, first + k]));
+        lines.push(gate_line(INV, [wire as usize, 0, first + k]));
     }
     for k in first..first + outputs {
         lines.push(gate_line(INV, [k, 0, k + outputs]));
@@ -223,7 +230,7 @@ pub fn printed_with_copies(file: &File, slots: &[usize], groups: [&[usize]; 2]) 
     text_of(&lines)
 }
 
-fn header([inputs, _, gates]: [u16; 3], groups: [&[usize]; 2]) -> Vec<String> {
+fn header([inputs, _, gates]: [u32; 3], groups: [&[usize]; 2]) -> Vec<String> {
     let wires = inputs + gates;
     vec![
         format!("{gates} {wires}"),
@@ -233,10 +240,10 @@ fn header([inputs, _, gates]: [u16; 3], groups: [&[usize]; 2]) -> Vec<String> {
 }
 
 fn gate_lines(file: &File, slots: &[usize]) -> Vec<String> {
-    let inputs = usize::from(file.counts[0]);
+    let inputs = file.counts[0] as usize;
     let lines = slots.iter().map(|slot| {
-        let gate = &file.gates[slot - 1];
-        gate_line(gate.kind, [gate.a.into(), gate.b.into(), inputs + slot - 1])
+        let Gate { kind, a, b, .. } = file.gates[slot - 1];
+        gate_line(kind, [a as usize, b as usize, inputs + slot - 1])
     });
     lines.collect()
 }
@@ -309,7 +316,7 @@ fn other_sizes(random: &mut Random, text: Vec<u8>) -> Vec<u8> {
     };
     match random.below(3) {
         0 => {
-            let gates = random.pick(&[4095, 4096, 4097, 65_536, 999_999_999]);
+            let gates = random.pick(&[4097, 65_536, 100_000, 100_001, 999_999_999]);
             lines[0] = format!("{gates} {wires}\n").into();
         }
         1 => {
@@ -377,9 +384,9 @@ fn another_token(random: &mut Random, text: Vec<u8>) -> Vec<u8> {
         b"257",
         b"512",
         b"513",
-        b"4096",
-        b"4097",
         b"65536",
+        b"100000",
+        b"100001",
         b"999999999",
         b"1000000000",
         b"4294967296",

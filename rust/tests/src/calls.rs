@@ -4,8 +4,10 @@
 use crate::circuits::{any_sizes, any_slots, damaged, legal, File};
 use crate::guarded::Guarded;
 use crate::random::Random;
+use crate::works;
 use reference::bits::clear_rest;
 use reference::circuit::Sizes;
+use wivulameno::Work;
 
 pub const COUNTS: [u32; 4] = [2, 4, 8, 16];
 
@@ -31,6 +33,7 @@ pub struct Call {
     pub cut: u32,
     pub inputs: Vec<Vec<u8>>,
     pub out_lens: Vec<usize>,
+    pub work_len: usize,
 }
 
 /// What was filled, or the refusal.
@@ -38,13 +41,13 @@ pub type Answer = Result<Vec<Vec<u8>>, u32>;
 
 /// The call by the functions of one module, which have the same shape in both.
 macro_rules! answer_of {
-    ($module:path, $call:expr, $circuit:expr, $inputs:expr, $out:expr) => {{
+    ($module:path, $call:expr, $circuit:expr, $inputs:expr, $out:expr, $work:expr) => {{
         use $module as mpc;
         let (Call { n, p, cut, .. }, circuit) = ($call, $circuit);
         match $call.operation {
             Operation::Prepare => {
                 let ([tapes], [corrections]) = (all($inputs), all($out));
-                mpc::prepare(circuit, *n, tapes, corrections)
+                mpc::prepare(circuit, *n, tapes, corrections, $work)
             }
             Operation::Run => {
                 let [witness, tapes, corrections] = all($inputs);
@@ -54,7 +57,7 @@ macro_rules! answer_of {
                     rows,
                     y,
                 };
-                mpc::run(circuit, *n, witness, tapes, corrections, out)
+                mpc::run(circuit, *n, witness, tapes, corrections, out, $work)
             }
             Operation::Show => {
                 let [witness, lent_tapes] = all($inputs);
@@ -65,7 +68,7 @@ macro_rules! answer_of {
                     masked_inputs,
                     row,
                 };
-                mpc::show(circuit, *n, *p, *cut, witness, lent_tapes, out)
+                mpc::show(circuit, *n, *p, *cut, witness, lent_tapes, out, $work)
             }
             Operation::Replay => {
                 let [tapes, corrections, masked_inputs, row, y] = all($inputs);
@@ -76,7 +79,7 @@ macro_rules! answer_of {
                     masked_inputs,
                     row,
                 };
-                mpc::replay(circuit, *n, *p, showing, y, rows)
+                mpc::replay(circuit, *n, *p, showing, y, rows, $work)
             }
         }
     }};
@@ -94,7 +97,8 @@ impl Call {
         let mut out = self.outputs_of_zeros();
         let inputs = self.inputs.iter().map(|input| &input[..]).collect();
         let lent = out.iter_mut().map(|out| &mut out[..]).collect();
-        answer_of!(reference::mpc, self, &self.circuit, inputs, lent)?;
+        let work = &mut vec![0; self.work_len];
+        answer_of!(reference::mpc, self, &self.circuit, inputs, lent, work)?;
         Ok(out)
     }
 
@@ -103,7 +107,9 @@ impl Call {
         let mut out = self.outputs_of_zeros();
         let inputs = self.inputs.iter().map(|input| &input[..]).collect();
         let lent = out.iter_mut().map(|out| &mut out[..]).collect();
-        let ours = answer_of!(wivulameno::mpc, self, &self.circuit, inputs, lent);
+        let mut work = vec![0; self.work_len];
+        let work = &mut Work::lent(&mut work);
+        let ours = answer_of!(wivulameno::mpc, self, &self.circuit, inputs, lent, work);
         ours.map_err(|refusal| refusal.number())?;
         Ok(out)
     }
@@ -114,8 +120,10 @@ impl Call {
         circuit: &[u8],
         inputs: Vec<&[u8]>,
         out: Vec<&mut [u8]>,
+        work: &mut [u8],
     ) -> Result<(), wivulameno::Refusal> {
-        answer_of!(wivulameno::mpc, self, circuit, inputs, out)
+        let work = &mut Work::lent(work);
+        answer_of!(wivulameno::mpc, self, circuit, inputs, out, work)
     }
 
     fn outputs_of_zeros(&self) -> Vec<Vec<u8>> {
@@ -127,8 +135,8 @@ impl Call {
         let head = &self.circuit[..self.circuit.len().min(60)];
         let lens: Vec<usize> = self.inputs.iter().map(Vec::len).collect();
         format!(
-            "{:?}, n {}, p {}, cut {}, inputs of {lens:?} bytes, outputs of {:?}, circuit {head:02x?}",
-            self.operation, self.n, self.p, self.cut, self.out_lens
+            "{:?}, n {}, p {}, cut {}, inputs of {lens:?} bytes, outputs of {:?}, work of {}, circuit {head:02x?}",
+            self.operation, self.n, self.p, self.cut, self.out_lens, self.work_len
         )
     }
 }
@@ -143,15 +151,18 @@ pub fn compare(random: &mut Random, call: &Call) -> Answer {
         .collect();
     let lens = call.out_lens.iter();
     let mut out: Vec<Guarded> = lens.map(|&len| a_buffer(random, len)).collect();
+    let mut work = works::Lent::new(random, &call.circuit, call.work_len);
+    let mut expected_work = work.copy();
 
     let mut expected: Vec<Vec<u8>> = out.iter().map(|out| out.get().to_vec()).collect();
     let lent = inputs.iter().map(Guarded::get).collect();
     let filled = expected.iter_mut().map(|out| &mut out[..]).collect();
-    let second = answer_of!(reference::mpc, call, circuit.get(), lent, filled);
+    let lent_work = &mut expected_work[..];
+    let second = answer_of!(reference::mpc, call, circuit.get(), lent, filled, lent_work);
 
     let lent = inputs.iter().map(Guarded::get).collect();
     let filled = out.iter_mut().map(Guarded::lent).collect();
-    let ours = answer_of!(wivulameno::mpc, call, circuit.get(), lent, filled);
+    let ours = call.with(circuit.get(), lent, filled, work.bytes());
     let shown = call.shown();
     assert_eq!(ours.map_err(|refusal| refusal.number()), second, "{shown}");
     for (place, (out, expected)) in out.iter().zip(&expected).enumerate() {
@@ -159,6 +170,7 @@ pub fn compare(random: &mut Random, call: &Call) -> Answer {
         assert!(out.outside_unchanged(), "beside output {place}, {shown}");
         assert!(second.is_ok() || out.unchanged(), "refused, {shown}");
     }
+    work.expect(&expected_work, &shown);
     let mut lent = inputs.iter().chain([&circuit]);
     assert!(lent.all(Guarded::unchanged), "inputs, {shown}");
     second.map(|()| expected)
@@ -218,6 +230,7 @@ impl Setting {
             cut: 0,
             inputs,
             out_lens,
+            work_len: works::least(&self.circuit),
         }
     }
 
@@ -316,7 +329,8 @@ pub fn used_bits(sizes: Sizes, n: u32, i: usize) -> usize {
 /// Changes one thing that the call of this setting is lent. The call may be
 /// good nevertheless.
 pub fn damage(random: &mut Random, setting: &Setting, call: &mut Call) {
-    match random.below(12) {
+    match random.below(13) {
+        12 => call.work_len = random.pick(&[0, 1, call.work_len.saturating_sub(1)]),
         0 | 1 => call.circuit = damaged(random, &setting.file, &setting.slots),
         2 => call.n = random.pick(&[&NOT_A_COUNT[..], &COUNTS].concat()),
         3 => call.p = random.pick(&[call.n, call.n.wrapping_add(1), 1 << 31, u32::MAX]),

@@ -2,39 +2,102 @@
 
 use crate::random::Random;
 
-pub const XOR: u8 = 1;
-pub const AND: u8 = 2;
-pub const INV: u8 = 3;
+pub const XOR: u32 = 1;
+pub const AND: u32 = 2;
+pub const INV: u32 = 3;
+
+/// The bytes of these fields.
+pub const fn fields<const FIELDS: usize, const BYTES: usize>(words: [u32; FIELDS]) -> [u8; BYTES] {
+    assert!(BYTES == 4 * FIELDS);
+    let mut bytes = [0; BYTES];
+    let mut place = 0;
+    while place < BYTES {
+        bytes[place] = words[place / 4].to_le_bytes()[place % 4];
+        place += 1;
+    }
+    bytes
+}
+
+/// The circuit K of the scope paper: one AND of two inputs.
+pub const K: [u8; 36] = fields([2, 1, 1, 1, 2, 2, 0, 1, 0]);
+
+/// Five inputs, wires 0 to 4. In chain order: slot 3 is 0 AND 1 (wire 7), slot 1
+/// is NOT 7 (wire 5), slot 4 is 5 AND 2 (wire 8), slot 2 is 8 XOR 3 (wire 6),
+/// slot 5 is 6 AND 4 (wire 9). The outputs are wire 9, input 4 and wire 6.
+pub const FIVE: [u8; 108] = fields([
+    5, 3, 5, 3, // head
+    9, 4, 6, // outputs
+    3, 7, 0, 4, // slot 1
+    1, 8, 3, 5, // slot 2
+    2, 0, 1, 1, // slot 3
+    2, 5, 2, 2, // slot 4
+    2, 6, 4, 0, // slot 5
+]);
+
+/// The file with other fields at some places, counted in fields.
+pub fn with(file: &[u8], changes: &[(usize, u32)]) -> Vec<u8> {
+    let mut file = file.to_vec();
+    for &(place, field) in changes {
+        file[4 * place..][..4].copy_from_slice(&field.to_le_bytes());
+    }
+    file
+}
+
+/// `FIVE` with one fault, for each refusal of a circuit in their order.
+pub fn faults_of_five() -> [(u32, Vec<u8>); 8] {
+    [
+        (1, FIVE[..15].to_vec()),
+        (2, with(&FIVE, &[(0, 0)])),
+        (1, FIVE[..107].to_vec()),
+        (3, with(&FIVE, &[(7, 4)])),
+        (19, with(&FIVE, &[(3, 6)])),
+        (20, with(&FIVE, &[(3, 0)])),
+        (21, with(&FIVE, &[(26, 3)])),
+        (5, with(&FIVE, &[(8, 9)])),
+    ]
+}
 
 /// A record; the fields are as wide as in the file.
 #[derive(Clone, Copy, Debug)]
 pub struct Gate {
-    pub kind: u8,
-    pub zero: u8,
-    pub a: u16,
-    pub b: u16,
-    pub next: u16,
+    pub kind: u32,
+    pub a: u32,
+    pub b: u32,
+    pub next: u32,
 }
 
 /// A circuit file, field by field. `counts` is I, O and G as the head says.
 #[derive(Clone, Debug)]
 pub struct File {
-    pub counts: [u16; 3],
-    pub head: u16,
-    pub outputs: Vec<u16>,
+    pub counts: [u32; 3],
+    pub head: u32,
+    pub outputs: Vec<u32>,
     pub gates: Vec<Gate>,
 }
 
 impl File {
     pub fn bytes(&self) -> Vec<u8> {
-        let [i, o, g] = self.counts;
-        let mut words = vec![i, o, g, self.head];
-        words.extend(&self.outputs);
+        let fields = self.fields().into_iter();
+        fields.flat_map(|field| field.to_le_bytes()).collect()
+    }
+
+    /// The file in the old form, whose fields have 16 bits; a kind and the zero byte
+    /// after it are one of them here.
+    pub fn old_bytes(&self) -> Vec<u8> {
+        let fields = self.fields().into_iter();
+        let fields = fields.map(|field| u16::try_from(field).expect("a field of 16 bits"));
+        fields.flat_map(|field| field.to_le_bytes()).collect()
+    }
+
+    /// All fields in the order of the file.
+    fn fields(&self) -> Vec<u32> {
+        let mut fields = self.counts.to_vec();
+        fields.push(self.head);
+        fields.extend(&self.outputs);
         for gate in &self.gates {
-            words.push(u16::from_le_bytes([gate.kind, gate.zero]));
-            words.extend([gate.a, gate.b, gate.next]);
+            fields.extend([gate.kind, gate.a, gate.b, gate.next]);
         }
-        words.iter().flat_map(|word| word.to_le_bytes()).collect()
+        fields
     }
 
     /// Sets head and links so that the chain visits `slots`.
@@ -42,7 +105,7 @@ impl File {
         let mut next = 0;
         for &slot in slots.iter().rev() {
             self.gates[slot - 1].next = next;
-            next = slot as u16;
+            next = slot as u32;
         }
         self.head = next;
     }
@@ -53,8 +116,8 @@ impl File {
     /// slot k moved to slot `places[k - 1]`.
     pub fn moved(&self, slots: &[usize], places: &[usize]) -> File {
         let inputs = self.counts[0];
-        let wire = |wire: u16| match wire.checked_sub(inputs) {
-            Some(above) => inputs + places[usize::from(above)] as u16 - 1,
+        let wire = |wire: u32| match wire.checked_sub(inputs) {
+            Some(above) => inputs + places[above as usize] as u32 - 1,
             None => wire,
         };
         let mut file = self.clone();
@@ -81,13 +144,12 @@ impl File {
 pub fn row_of_gates(gates: usize) -> File {
     let gate = Gate {
         kind: INV,
-        zero: 0,
         a: 0,
         b: 0,
         next: 0,
     };
     let mut file = File {
-        counts: [1, 1, gates as u16],
+        counts: [1, 1, gates as u32],
         head: 0,
         outputs: vec![0],
         gates: vec![gate; gates],
@@ -100,9 +162,9 @@ pub fn row_of_gates(gates: usize) -> File {
 pub fn legal(random: &mut Random, sizes: [usize; 3], slots: &[usize]) -> File {
     let [inputs, outputs, gates] = sizes;
     let mut file = row_of_gates(gates);
-    file.counts = sizes.map(|size| size as u16);
+    file.counts = sizes.map(|size| size as u32);
     file.link(slots);
-    let mut written: Vec<u16> = (0..inputs as u16).collect();
+    let mut written: Vec<u32> = (0..inputs as u32).collect();
     for slot in slots {
         let gate = &mut file.gates[slot - 1];
         gate.kind = random.pick(&[XOR, AND, INV]);
@@ -111,16 +173,16 @@ pub fn legal(random: &mut Random, sizes: [usize; 3], slots: &[usize]) -> File {
             INV => 0,
             _ => a_wire(random, &written),
         };
-        written.push((inputs + slot - 1) as u16);
+        written.push((inputs + slot - 1) as u32);
     }
     let wires = random.from_to(1, written.len());
-    let outputs = (0..outputs).map(|_| random.below(wires) as u16);
+    let outputs = (0..outputs).map(|_| random.below(wires) as u32);
     file.outputs = outputs.collect();
     file
 }
 
 /// One of the written wires, often a late one.
-fn a_wire(random: &mut Random, written: &[u16]) -> u16 {
+fn a_wire(random: &mut Random, written: &[u32]) -> u32 {
     let late = written.len().min(8);
     match random.below(2) {
         0 => random.pick(written),
@@ -178,7 +240,7 @@ const FIELD_DAMAGES: [FieldDamage; 16] = [
     count_out_of_limits,
     another_count,
     another_kind,
-    second_byte,
+    a_high_byte,
     inv_with_b,
     cycle,
     two_chains,
@@ -209,16 +271,16 @@ fn cut(mut bytes: Vec<u8>, random: &mut Random) -> Vec<u8> {
 }
 
 fn longer(bytes: Vec<u8>, random: &mut Random) -> Vec<u8> {
-    let more = random.pick(&[1, 1, 2, 8, 65_536]);
+    let more = random.pick(&[1, 1, 2, 16, 65_536]);
     [bytes, random.bytes(more)].concat()
 }
 
 fn count_out_of_limits(file: &mut File, _: &[usize], random: &mut Random) {
     let which = random.below(3);
     file.counts[which] = match which {
-        0 => random.pick(&[0, 513, 514, 1024, 65_535]),
-        1 => random.pick(&[0, 257, 258, 512, 65_535]),
-        _ => random.pick(&[4097, 4098, 8192, 65_535]),
+        0 => random.pick(&[0, 513, 514, 65_536 + 1, 1 << 31, u32::MAX]),
+        1 => random.pick(&[0, 257, 258, 65_536 + 1, 1 << 31, u32::MAX]),
+        _ => random.pick(&[100_001, 100_002, 1 << 17, 1 << 28, 1 << 31, u32::MAX]),
     };
 }
 
@@ -239,20 +301,21 @@ fn any_gate<'a>(file: &'a mut File, random: &mut Random) -> Option<&'a mut Gate>
 
 fn another_kind(file: &mut File, _: &[usize], random: &mut Random) {
     if let Some(gate) = any_gate(file, random) {
-        gate.kind = random.pick(&[0, 4, 5, 0x81, 0x82, 0xff]);
+        gate.kind = random.pick(&[0, 4, 5, 0x81, 0x82, 0xff, u32::MAX]);
     }
 }
 
-fn second_byte(file: &mut File, _: &[usize], random: &mut Random) {
+/// Another byte of the kind than the lowest.
+fn a_high_byte(file: &mut File, _: &[usize], random: &mut Random) {
     if let Some(gate) = any_gate(file, random) {
-        gate.zero = random.from_to(1, 255) as u8;
+        gate.kind |= (random.from_to(1, 255) as u32) << random.pick(&[8, 16, 24]);
     }
 }
 
 fn inv_with_b(file: &mut File, _: &[usize], random: &mut Random) {
     if let Some(gate) = any_gate(file, random) {
         gate.kind = INV;
-        gate.b = random.pick(&[1, 2, 256, 65_535]);
+        gate.b = random.pick(&[1, 2, 256, 65_535, 65_536, u32::MAX]);
     }
 }
 
@@ -264,7 +327,7 @@ fn inner(slots: &[usize], random: &mut Random) -> Option<usize> {
 /// The chain visits each slot once, but does not end.
 fn cycle(file: &mut File, slots: &[usize], random: &mut Random) {
     if let Some(last) = slots.last() {
-        file.gates[last - 1].next = random.pick(slots) as u16;
+        file.gates[last - 1].next = random.pick(slots) as u32;
     }
 }
 
@@ -273,7 +336,7 @@ fn two_chains(file: &mut File, slots: &[usize], random: &mut Random) {
     if let Some(place) = inner(slots, random) {
         file.gates[slots[place] - 1].next = 0;
         let last = slots[slots.len() - 1];
-        file.gates[last - 1].next = slots[place + 1] as u16;
+        file.gates[last - 1].next = slots[place + 1] as u32;
     }
 }
 
@@ -293,7 +356,7 @@ fn left_out(file: &mut File, slots: &[usize], random: &mut Random) {
 
 fn past_the_end(file: &mut File, _: &[usize], random: &mut Random) {
     let first = file.gates.len() + 1;
-    let link = random.pick(&[first, first + 1, 0x8001, 65_535]) as u16;
+    let link = random.pick(&[first, first + 1, 100_001, 1 << 31, 0xffff_ffff]) as u32;
     if random.once_in(4) {
         file.head = link;
     } else if let Some(gate) = any_gate(file, random) {
@@ -303,23 +366,23 @@ fn past_the_end(file: &mut File, _: &[usize], random: &mut Random) {
 
 fn another_head(file: &mut File, _: &[usize], random: &mut Random) {
     let count = file.gates.len().max(1);
-    file.head = random.from_to(0, count) as u16;
+    file.head = random.from_to(0, count) as u32;
 }
 
 /// Sets a wire that the gate in `slot` reads.
 fn set_wire(file: &mut File, slot: usize, wire: usize, random: &mut Random) {
     let gate = &mut file.gates[slot - 1];
     if gate.kind == INV || random.once_in(2) {
-        gate.a = wire as u16;
+        gate.a = wire as u32;
     } else {
-        gate.b = wire as u16;
+        gate.b = wire as u32;
     }
 }
 
 fn reads_itself(file: &mut File, slots: &[usize], random: &mut Random) {
     if !slots.is_empty() {
         let slot = random.pick(slots);
-        let wire = usize::from(file.counts[0]) + slot - 1;
+        let wire = file.counts[0] as usize + slot - 1;
         set_wire(file, slot, wire, random);
     }
 }
@@ -328,15 +391,15 @@ fn reads_itself(file: &mut File, slots: &[usize], random: &mut Random) {
 fn reads_later(file: &mut File, slots: &[usize], random: &mut Random) {
     if let Some(place) = inner(slots, random) {
         let later = random.from_to(place + 1, slots.len() - 1);
-        let wire = usize::from(file.counts[0]) + slots[later] - 1;
+        let wire = file.counts[0] as usize + slots[later] - 1;
         set_wire(file, slots[place], wire, random);
     }
 }
 
 fn reads_no_wire(file: &mut File, slots: &[usize], random: &mut Random) {
     if !slots.is_empty() {
-        let wires = usize::from(file.counts[0]) + file.gates.len();
-        let wire = random.pick(&[wires, wires + 1, 65_535]);
+        let wires = file.counts[0] as usize + file.gates.len();
+        let wire = random.pick(&[wires, wires + 1, 1 << 16, 1 << 31, 0xffff_ffff]);
         set_wire(file, random.pick(slots), wire, random);
     }
 }
@@ -344,16 +407,16 @@ fn reads_no_wire(file: &mut File, slots: &[usize], random: &mut Random) {
 /// May be a legal file again.
 fn reads_any_wire(file: &mut File, slots: &[usize], random: &mut Random) {
     if !slots.is_empty() {
-        let wires = usize::from(file.counts[0]) + file.gates.len();
+        let wires = file.counts[0] as usize + file.gates.len();
         let wire = random.below(wires + 1);
         set_wire(file, random.pick(slots), wire, random);
     }
 }
 
 fn output_no_wire(file: &mut File, _: &[usize], random: &mut Random) {
-    let wires = usize::from(file.counts[0]) + file.gates.len();
+    let wires = file.counts[0] as usize + file.gates.len();
     let place = random.below(file.outputs.len());
-    file.outputs[place] = random.pick(&[wires, wires, wires + 1, 65_535]) as u16;
+    file.outputs[place] = random.pick(&[wires, wires, wires + 1, 1 << 31, 0xffff_ffff]) as u32;
 }
 
 #[cfg(test)]
@@ -368,14 +431,22 @@ mod tests {
             outputs: vec![2],
             gates: vec![Gate {
                 kind: AND,
-                zero: 0,
                 a: 0,
                 b: 1,
                 next: 0,
             }],
         };
-        let k = [2, 0, 1, 0, 1, 0, 1, 0, 2, 0, 2, 0, 0, 0, 1, 0, 0, 0];
-        assert_eq!(file.bytes(), k);
+        assert_eq!(file.bytes(), K);
+        let old = [2, 0, 1, 0, 1, 0, 1, 0, 2, 0, 2, 0, 0, 0, 1, 0, 0, 0];
+        assert_eq!(file.old_bytes(), old);
+    }
+
+    #[test]
+    fn each_fault_of_five_is_one() {
+        assert!(reference::circuit::read(&FIVE).is_ok());
+        for (refusal, file) in faults_of_five() {
+            assert_eq!(reference::circuit::read(&file), Err(refusal));
+        }
     }
 
     #[test]
@@ -408,7 +479,7 @@ mod tests {
         let known: [(FieldDamage, u32); 13] = [
             (count_out_of_limits, 2),
             (another_kind, 3),
-            (second_byte, 3),
+            (a_high_byte, 3),
             (inv_with_b, 3),
             (cycle, 21),
             (two_chains, 20),

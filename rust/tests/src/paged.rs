@@ -2,6 +2,7 @@
 //! an end is a crash; inputs may not be written to either.
 
 use crate::random::Random;
+use crate::works;
 use std::ffi::{c_int, c_long, c_void};
 use std::ptr;
 use wivulameno::Refusal;
@@ -137,6 +138,24 @@ pub fn lend(
     outputs: &[Vec<u8>],
     call: impl FnOnce(&[&[u8]], Vec<&mut [u8]>) -> Result<(), Refusal>,
 ) -> Lent {
+    lend_with_work(random, inputs, outputs, 0, |inputs, out, _| {
+        call(inputs, out)
+    })
+}
+
+/// The same with a work buffer of so many random bytes. The first input is the circuit;
+/// what becomes of the work buffer must be as the paper says.
+pub fn lend_with_work(
+    random: &mut Random,
+    inputs: &[&[u8]],
+    outputs: &[Vec<u8>],
+    work_len: usize,
+    call: impl FnOnce(&[&[u8]], Vec<&mut [u8]>, &mut [u8]) -> Result<(), Refusal>,
+) -> Lent {
+    let is_untouched = inputs
+        .first()
+        .is_none_or(|file| works::is_untouched(file, work_len));
+    let before = random.bytes(work_len);
     let mut edge = || random.pick(&[Edge::Start, Edge::End]);
     let mut inputs: Vec<Paged> = inputs
         .iter()
@@ -146,11 +165,19 @@ pub fn lend(
         .iter()
         .map(|bytes| Paged::holding(bytes, edge()))
         .collect();
+    let mut work = Paged::holding(&before, edge());
     inputs.iter_mut().for_each(Paged::close);
     let read: Vec<&[u8]> = inputs.iter().map(Paged::get).collect();
-    let answer = call(&read, out.iter_mut().map(Paged::lent).collect());
+    let filled = out.iter_mut().map(Paged::lent).collect();
+    let answer = call(&read, filled, work.lent());
     let filled: Vec<Vec<u8>> = out.iter().map(|out| out.get().to_vec()).collect();
     assert!(answer.is_ok() || filled == outputs, "refused, yet written");
     assert!(out.iter_mut().all(Paged::rest_is_unchanged));
+    assert!(work.rest_is_unchanged());
+    let good = match is_untouched {
+        true => work.get() == before,
+        false => work.get().iter().all(|&byte| byte == 0),
+    };
+    assert!(good, "work is not as stated");
     (answer.map_err(|refusal| refusal.number()), filled)
 }

@@ -4,10 +4,12 @@
 use crate::calls::Setting;
 use crate::guarded::Guarded;
 use crate::random::Random;
+use crate::works;
 use reference::bits::oct;
 use reference::circuit::Sizes;
 use reference::proof::{cover_len, header, hidden_parties, parts, Statement};
 use std::ops::Range;
+use wivulameno::Work;
 
 /// One call of prove. The counts are M, tau and n.
 #[derive(Clone, Debug)]
@@ -19,6 +21,7 @@ pub struct Prove {
     pub root: Vec<u8>,
     pub counts: [u32; 3],
     pub proof_len: usize,
+    pub work_len: usize,
 }
 
 /// One call of check.
@@ -28,6 +31,7 @@ pub struct Check {
     pub y: Vec<u8>,
     pub message: Vec<u8>,
     pub proof: Vec<u8>,
+    pub work_len: usize,
 }
 
 /// The call by the functions of one module, whose types have the same names.
@@ -42,7 +46,7 @@ macro_rules! prove_by {
 }
 
 macro_rules! check_by {
-    ($module:path, $inputs:expr) => {{
+    ($module:path, $inputs:expr, $work:expr) => {{
         use $module as proof;
         let [circuit, y, message, file] = $inputs;
         let statement = proof::Statement {
@@ -50,7 +54,7 @@ macro_rules! check_by {
             y,
             message,
         };
-        proof::check(statement, file)
+        proof::check(statement, file, $work)
     }};
 }
 
@@ -67,6 +71,7 @@ impl Prove {
             root: random.bytes(16),
             counts,
             proof_len: longest(setting.sizes, counts),
+            work_len: works::least(&setting.circuit),
         }
     }
 
@@ -90,7 +95,8 @@ impl Prove {
             self.counts,
             self.inputs(),
             prove,
-            &mut proof
+            &mut proof,
+            &mut vec![0; self.work_len]
         )?;
         proof.truncate(len);
         Ok(proof)
@@ -112,16 +118,18 @@ impl Prove {
             y: self.y.clone(),
             message: self.message.clone(),
             proof: proof.to_vec(),
+            work_len: self.work_len,
         }
     }
 
     /// For the message of a failure.
     pub fn shown(&self) -> String {
         format!(
-            "prove, counts {:?}, inputs of {:?} bytes, proof of {}, circuit {:02x?}",
+            "prove, counts {:?}, inputs of {:?} bytes, proof of {}, work of {}, circuit {:02x?}",
             self.counts,
             self.inputs().map(<[u8]>::len),
             self.proof_len,
+            self.work_len,
             &self.circuit[..self.circuit.len().min(60)]
         )
     }
@@ -149,14 +157,15 @@ impl Check {
 
     /// The reference's answer, without guards.
     pub fn by_reference(&self) -> Result<(), u32> {
-        check_by!(reference::proof, self.inputs())
+        check_by!(reference::proof, self.inputs(), &mut vec![0; self.work_len])
     }
 
     /// For the message of a failure.
     pub fn shown(&self) -> String {
         format!(
-            "check, inputs of {:?} bytes, header {:02x?}, circuit {:02x?}",
+            "check, inputs of {:?} bytes, work of {}, header {:02x?}, circuit {:02x?}",
             self.inputs().map(<[u8]>::len),
+            self.work_len,
             &self.proof[..self.proof.len().min(6)],
             &self.circuit[..self.circuit.len().min(60)]
         )
@@ -185,7 +194,16 @@ pub fn compare_prove(random: &mut Random, call: &Prove) -> Result<Vec<u8>, u32> 
     let shift = random.below(8);
     let mut proof = Guarded::new(random, shift, call.proof_len);
     let mut expected = proof.get().to_vec();
-    let second = prove_by!(reference::proof, call.counts, lent, prove, &mut expected);
+    let mut work = works::Lent::new(random, &call.circuit, call.work_len);
+    let mut expected_work = work.copy();
+    let second = prove_by!(
+        reference::proof,
+        call.counts,
+        lent,
+        prove,
+        &mut expected,
+        &mut expected_work
+    );
 
     let before = [0; 3].map(|_| random.word());
     let mut words = before;
@@ -195,9 +213,11 @@ pub fn compare_prove(random: &mut Random, call: &Prove) -> Result<Vec<u8>, u32> 
         lent,
         prove_into,
         proof.lent(),
-        &mut words[1]
+        &mut words[1],
+        &mut Work::lent(work.bytes())
     );
     let shown = call.shown();
+    work.expect(&expected_work, &shown);
     let answer = second.map(|_| ()).map_err(wivulameno::Refusal::of);
     assert_eq!(ours, answer, "{shown}");
     let written = second.map_or(before[1], |len| len as u64);
@@ -213,9 +233,12 @@ pub fn compare_prove(random: &mut Random, call: &Prove) -> Result<Vec<u8>, u32> 
 pub fn compare_check(random: &mut Random, call: &Check) -> Result<(), u32> {
     let inputs = Guarded::holding_each(random, call.inputs());
     let lent = inputs.each_ref().map(Guarded::get);
-    let second = check_by!(reference::proof, lent);
-    let ours = check_by!(wivulameno::proof, lent);
+    let mut work = works::Lent::new(random, &call.circuit, call.work_len);
+    let mut expected_work = work.copy();
+    let second = check_by!(reference::proof, lent, &mut expected_work);
+    let ours = check_by!(wivulameno::proof, lent, &mut Work::lent(work.bytes()));
     let shown = call.shown();
+    work.expect(&expected_work, &shown);
     assert_eq!(ours, second.map_err(wivulameno::Refusal::of), "{shown}");
     assert!(inputs.iter().all(Guarded::unchanged), "inputs, {shown}");
     second

@@ -2,6 +2,7 @@
 //! becomes of the buffers.
 
 use tests::bristol::{compare, converted, text_of};
+use tests::circuits::fields;
 use tests::random::Random;
 use wivulameno::circuit::from_bristol_to_vec;
 
@@ -16,12 +17,12 @@ const LINES: [&str; 6] = [
 ];
 
 /// I 3, O 2, G 3, head 1; outputs 4 and 5; then the records.
-const FILE: [u8; 36] = [
-    3, 0, 2, 0, 3, 0, 1, 0, 4, 0, 5, 0, //
-    1, 0, 0, 0, 1, 0, 2, 0, //
-    3, 0, 3, 0, 0, 0, 3, 0, //
-    2, 0, 4, 0, 2, 0, 0, 0,
-];
+const FILE: [u8; 72] = fields([
+    3, 2, 3, 1, 4, 5, //
+    1, 0, 1, 2, //
+    3, 3, 0, 3, //
+    2, 4, 2, 0,
+]);
 
 /// The number of a refusal, 0 for none, by both implementations.
 fn number(text: impl AsRef<[u8]>) -> u32 {
@@ -148,9 +149,9 @@ fn broken_headers() -> Vec<Broken> {
 
 /// Sizes beyond our limits that break no rule on their line.
 const BEYOND: [Broken; 7] = [
-    (0, "4097 6", 24),
-    (0, "4097 0", 24),
-    (0, "65536 6", 24),
+    (0, "100001 6", 24),
+    (0, "100001 0", 24),
+    (0, "131072 6", 24),
     (0, "999999999 999999999", 24),
     (2, "0", 24),
     (2, "1 0", 24),
@@ -331,13 +332,13 @@ fn a_broken_line_before_an_unended_one() {
 #[test]
 fn one_line_broken_twice() {
     let known: [(&[(usize, &str)], u32); 24] = [
-        (&[(0, "4097 06")], 22),
-        (&[(0, "4097 6 ")], 22),
-        (&[(0, " 4097 6")], 22),
-        (&[(0, "4097  6")], 22),
-        (&[(0, "4097")], 22),
-        (&[(0, "4097 6 0")], 22),
-        (&[(0, "4097 1000000000")], 22),
+        (&[(0, "100001 06")], 22),
+        (&[(0, "100001 6 ")], 22),
+        (&[(0, " 100001 6")], 22),
+        (&[(0, "100001  6")], 22),
+        (&[(0, "100001")], 22),
+        (&[(0, "100001 6 0")], 22),
+        (&[(0, "100001 1000000000")], 22),
         // The wires are no I + G, and I is beyond the limits.
         (&[(0, "3 515"), (1, "1 513")], 22),
         (&[(0, "3 516"), (1, "2 513")], 22),
@@ -397,7 +398,7 @@ fn wires_and_inputs() {
         (&[(0, "3 5")], 22),
         (&[(0, "3 7")], 22),
         (&[(0, "0 6")], 22),
-        (&[(0, "4096 6")], 22),
+        (&[(0, "100000 6")], 22),
         (&[(0, "3 65542")], 22),
         (&[(1, "2 2 2")], 22),
         (&[(1, "2 2 0")], 22),
@@ -455,12 +456,12 @@ fn groups_of_every_size() {
 #[test]
 fn outputs_are_the_last_wires() {
     let mut random = Random::new(4);
-    for outputs in 1..=6_u8 {
+    for outputs in 1..=6 {
         let text = with(&[(2, &format!("1 {outputs}"))]);
-        let wires = (6 - outputs..6).flat_map(|wire| [wire, 0]);
-        let mut file = vec![3, 0, outputs, 0, 3, 0, 1, 0];
-        file.extend(wires);
-        file.extend(&FILE[12..]);
+        let mut file = vec![3, outputs, 3, 1];
+        file.extend(6 - outputs..6);
+        let mut file: Vec<u8> = file.into_iter().flat_map(u32::to_le_bytes).collect();
+        file.extend(&FILE[24..]);
         assert_eq!(converted(&mut random, text.as_bytes()), Ok(file));
     }
 }
@@ -473,10 +474,13 @@ fn slots_are_the_wires_and_the_chain_is_the_text() {
         (4, "1 1 5 3 INV"),
         (5, "2 1 3 2 4 AND"),
     ];
-    let mut file = vec![3, 0, 2, 0, 3, 0, 3, 0, 4, 0, 5, 0];
-    file.extend([3, 0, 5, 0, 0, 0, 2, 0]);
-    file.extend([2, 0, 3, 0, 2, 0, 0, 0]);
-    file.extend([1, 0, 0, 0, 1, 0, 1, 0]);
+    let file: [u8; 72] = fields([
+        3, 2, 3, 3, 4, 5, // head and outputs
+        3, 5, 0, 2, // slot 1
+        2, 3, 2, 0, // slot 2
+        1, 0, 1, 1, // slot 3
+    ]);
+    let file = file.to_vec();
     let text = with(&gates);
     assert_eq!(converted(&mut Random::new(5), text.as_bytes()), Ok(file));
     // The lines in the order of the wires: wire 5 is not written above.
@@ -551,7 +555,7 @@ fn one_line_too_many() {
         "2 2 1",
         "1 2",
         "0",
-        "4097 6",
+        "100001 6",
         " ",
         "\r",
         "\t",
@@ -619,7 +623,7 @@ fn a_text_that_ends_early() {
 fn no_last_line_feed() {
     let known = [
         ("3 6", 22),
-        ("4097 6", 22),
+        ("100001 6", 22),
         ("3 6\n2 2 1", 22),
         ("3 516\n1 513", 22),
         ("3 6\n2 2 1\n1 2", 22),
@@ -651,10 +655,12 @@ fn nothing_at_all() {
 #[test]
 fn no_gates() {
     let mut random = Random::new(7);
-    let file = vec![3, 0, 2, 0, 0, 0, 0, 0, 1, 0, 2, 0];
+    let file: [u8; 24] = fields([3, 2, 0, 0, 1, 2]);
+    let file = file.to_vec();
     let text = b"0 3\n1 3\n1 2\n";
     assert_eq!(converted(&mut random, text), Ok(file));
-    let one = vec![1, 0, 1, 0, 0, 0, 0, 0, 0, 0];
+    let one: [u8; 20] = fields([1, 1, 0, 0, 0]);
+    let one = one.to_vec();
     assert_eq!(converted(&mut random, b"0 1\n1 1\n1 1\n"), Ok(one));
     assert_eq!(number("0 1\n1 1\n1 2\n"), 22);
     assert_eq!(number("0 0\n0\n0\n"), 24);
@@ -685,31 +691,34 @@ fn limits() {
         ([1, 257, 300], 24),
         ([1, 257, 255], 22),
         ([1, 256, 255], 0),
-        ([1, 1, 4095], 0),
         ([1, 1, 4096], 0),
-        ([1, 1, 4097], 24),
-        ([512, 256, 4096], 0),
-        ([513, 256, 4096], 24),
-        ([512, 257, 4096], 24),
-        ([512, 256, 4097], 24),
-        ([513, 257, 4097], 24),
-        ([0, 1, 4096], 24),
-        ([512, 0, 4096], 24),
+        ([1, 1, 4097], 0),
+        ([1, 1, 65_536], 0),
+        ([1, 1, 90_000], 0),
+        ([1, 1, 100_000], 0),
+        ([1, 1, 100_001], 24),
+        ([512, 256, 100_000], 0),
+        ([513, 256, 100_000], 24),
+        ([512, 257, 100_000], 24),
+        ([512, 256, 100_001], 24),
+        ([513, 257, 100_001], 24),
+        ([0, 1, 100_000], 24),
+        ([512, 0, 100_000], 24),
     ];
     for ([inputs, outputs, gates], expected) in known {
         let text = of_sizes(inputs, outputs, gates);
         assert_eq!(number(text), expected, "{inputs} {outputs} {gates}");
     }
-    let largest = converted(&mut Random::new(8), of_sizes(512, 256, 4096).as_bytes());
+    let largest = converted(&mut Random::new(8), of_sizes(512, 256, 100_000).as_bytes());
     let file = largest.expect("within the limits");
-    assert_eq!(file.len(), 8 + 2 * 256 + 8 * 4096);
-    assert_eq!(wivulameno::circuit::read(&file), Ok([512, 256, 4096, 0]));
+    assert_eq!(file.len(), 16 + 4 * 256 + 16 * 100_000);
+    assert_eq!(wivulameno::circuit::read(&file), Ok([512, 256, 100_000, 0]));
 }
 
 /// On the line of G, before any other line is looked at.
 #[test]
 fn gates_beyond_the_limit_come_first() {
-    let with_gates = of_sizes(1, 1, 4097);
+    let with_gates = of_sizes(1, 1, 100_001);
     let header = with_gates.lines().next().expect("a line");
     for rest in ["", "x\n", "1 1\n1 1\n"] {
         assert_eq!(number(format!("{header}\n{rest}")), 24);
@@ -725,17 +734,17 @@ fn the_output_comes_last() {
     for len in 0..FILE.len() {
         assert_eq!(compare(&mut random, text.as_bytes(), len), Err(6), "{len}");
     }
-    for len in [36, 37, 44, 4096] {
+    for len in [72, 73, 88, 4096] {
         let (out, written) = compare(&mut random, text.as_bytes(), len).expect("room");
-        assert_eq!((written, &out[..36]), (36, &FILE[..]));
+        assert_eq!((written, &out[..72]), (72, &FILE[..]));
         let mut lent = vec![0x5a; len];
         let ours = wivulameno::circuit::from_bristol(text.as_bytes(), &mut lent);
-        assert_eq!(ours, Ok(36));
-        assert!(lent[..36] == FILE && lent[36..].iter().all(|&byte| byte == 0x5a));
+        assert_eq!(ours, Ok(72));
+        assert!(lent[..72] == FILE && lent[72..].iter().all(|&byte| byte == 0x5a));
     }
     for (place, line, expected) in all_broken() {
         let text = with(&[(place, line)]);
-        for len in [0, 35] {
+        for len in [0, 71] {
             let answer = compare(&mut random, text.as_bytes(), len);
             assert_eq!(answer, Err(expected), "{text:?}");
         }

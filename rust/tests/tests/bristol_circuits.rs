@@ -124,8 +124,24 @@ fn a_proof_of_a_converted_circuit() {
         y: &[42],
         message: b"order",
     };
-    let len = prove(statement, &[20, 22], &[7; 16], counts, &mut proof).expect("proved");
-    assert_eq!(check(statement, &proof[..len]), Ok(()));
-    let wrong = prove(statement, &[20, 23], &[7; 16], counts, &mut proof);
+    let mut work = wivulameno::Work::for_circuit(statement.circuit).expect("a circuit");
+    let len = prove(
+        statement,
+        &[20, 22],
+        &[7; 16],
+        counts,
+        &mut proof,
+        &mut work,
+    );
+    let len = len.expect("proved");
+    assert_eq!(check(statement, &proof[..len], &mut work), Ok(()));
+    let wrong = prove(
+        statement,
+        &[20, 23],
+        &[7; 16],
+        counts,
+        &mut proof,
+        &mut work,
+    );
     assert_eq!(wrong, Err(wivulameno::Refusal::Output));
 }

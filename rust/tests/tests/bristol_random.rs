@@ -3,7 +3,7 @@
 use reference::bits::get;
 use tests::bristol::{
     adder, any_groups, comparator, compare, converted, damaged, multiplier, printed,
-    printed_with_copies, spaced,
+    printed_with_copies, room, spaced,
 };
 use tests::calls::any_bits;
 use tests::circuits::{any_sizes, any_slots, legal, File};
@@ -21,10 +21,8 @@ struct Setting {
 }
 
 impl Setting {
-    /// With room for two more gates for each output.
     fn any(random: &mut Random) -> Setting {
-        let [inputs, outputs, gates] = any_sizes(random);
-        let sizes = [inputs, outputs, gates.min(4096 - 2 * outputs)];
+        let sizes @ [inputs, outputs, _] = any_sizes(random);
         let slots = any_slots(random, sizes[2]);
         let groups = [inputs, outputs].map(|sum| any_groups(random, sum));
         Setting {
@@ -85,7 +83,7 @@ fn functions_come_back() {
         let setting = Setting::any(&mut random);
         let text = printed_with_copies(&setting.file, &setting.slots, setting.groups());
         let file = converted(&mut random, text.as_bytes()).expect("a good text");
-        let [inputs, outputs, gates] = setting.file.counts.map(usize::from);
+        let [inputs, outputs, gates] = setting.file.counts.map(|count| count as usize);
         let sizes = wivulameno::circuit::read(&file).expect("a circuit");
         let expected = [inputs, outputs, gates + 2 * outputs];
         assert_eq!(sizes[..3], expected.map(|size| size as u32));
@@ -124,7 +122,7 @@ fn damaged_texts() {
     for _ in 0..DAMAGED {
         let text = any_text(&mut random);
         let changed = damaged(&mut random, &text);
-        let answer = compare(&mut random, &changed, 33_288);
+        let answer = compare(&mut random, &changed, room(&changed));
         if let Ok((file, len)) = &answer {
             // Whatever is accepted is a legal circuit.
             assert!(wivulameno::circuit::read(&file[..*len]).is_ok());

@@ -12,7 +12,7 @@ use tests::random::Random;
 type Fault = (u32, usize);
 
 /// The head, and then the link of each slot: the link of slot k is at place k.
-type Chain = Vec<u16>;
+type Chain = Vec<u32>;
 
 /// INV gates of input 0 with this chain.
 fn bytes(chain: &Chain) -> Vec<u8> {
@@ -41,7 +41,7 @@ fn found(chain: &Chain) -> Option<Fault> {
 fn holders(chain: &Chain) -> Vec<usize> {
     let gates = chain.len() - 1;
     let next = |&holder: &usize| {
-        let link = usize::from(chain[holder]);
+        let link = chain[holder] as usize;
         (1..=gates).contains(&link).then_some(link)
     };
     successors(Some(0), next).take(gates + 1).collect()
@@ -52,7 +52,7 @@ fn first_fault(chain: &Chain) -> Option<Fault> {
     let gates = chain.len() - 1;
     let faults = holders(chain).into_iter().enumerate();
     let mut faults = faults.filter_map(|(visits, holder)| {
-        let link = usize::from(chain[holder]);
+        let link = chain[holder] as usize;
         let beyond = (link > gates).then_some(19);
         let short = (link == 0 && visits < gates).then_some(20);
         let long = (link != 0 && visits == gates).then_some(21);
@@ -76,7 +76,7 @@ fn all_chains(gates: usize) -> impl Iterator<Item = Chain> {
     let choices = gates + 2;
     (0..choices.pow(gates as u32 + 1)).map(move |number| {
         let places = (0..=gates as u32).map(|place| number / choices.pow(place) % choices);
-        places.map(|link| link as u16).collect()
+        places.map(|link| link as u32).collect()
     })
 }
 
@@ -96,11 +96,12 @@ fn every_chain_of_few_slots() {
 
 #[test]
 fn chains_by_hand() {
-    let known: [(&[u16], Option<Fault>); 20] = [
+    let known: [(&[u32], Option<Fault>); 21] = [
         // No gates: every other head is beyond.
         (&[0], None),
         (&[1], Some((19, 0))),
-        (&[65_535], Some((19, 0))),
+        (&[65_536], Some((19, 0))),
+        (&[u32::MAX], Some((19, 0))),
         // One gate.
         (&[0, 0], Some((20, 0))),
         (&[0, 1], Some((20, 0))),
@@ -132,7 +133,8 @@ fn chains_by_hand() {
 
 /// A chain through all slots in any order, of which some links are changed.
 fn any_chain(random: &mut Random) -> Chain {
-    let most = random.pick(&[5, 30, 300, 4096]);
+    let rare = if random.once_in(40) { 100_000 } else { 5 };
+    let most = random.pick(&[5, 30, 300, 4096, rare]);
     let gates = random.from_to(1, most);
     let mut file = row_of_gates(gates);
     file.link(&random.order(gates));
@@ -141,8 +143,15 @@ fn any_chain(random: &mut Random) -> Chain {
     for _ in 0..random.below(4) {
         let place = random.below(gates + 1);
         let within = random.from_to(1, gates);
-        let link = random.pick(&[0, within, within, gates + 1, 0x8000 + gates, 65_535]);
-        chain[place] = link as u16;
+        let link = random.pick(&[
+            0,
+            within,
+            within,
+            gates + 1,
+            (1 << 31) + within,
+            0xffff_ffff,
+        ]);
+        chain[place] = link as u32;
     }
     chain
 }
@@ -172,7 +181,7 @@ fn links_at_random() {
     for _ in 0..4_000 {
         let gates = random.from_to(1, 40);
         let chain: Chain = (0..=gates)
-            .map(|_| random.below(gates + 2) as u16)
+            .map(|_| random.below(gates + 2) as u32)
             .collect();
         let found = found(&chain);
         assert_eq!(found, first_fault(&chain), "{chain:?}");

@@ -7,14 +7,11 @@ use std::path::Path;
 use std::process::{Command, Stdio};
 
 use reference::circuit::fault_slot;
-use tests::circuits::{any_sizes, any_slots, damaged, legal, row_of_gates};
+use tests::circuits::{any_sizes, any_slots, damaged, fields, legal, row_of_gates, with, K};
 use tests::random::Random;
 
-/// One AND of two inputs.
-const K: [u8; 18] = [2, 0, 1, 0, 1, 0, 1, 0, 2, 0, 2, 0, 0, 0, 1, 0, 0, 0];
-
-/// The length of the longest circuit file: 8 + 2 * 256 + 8 * 4,096.
-const LONGEST: usize = 33_288;
+/// The longest input that the program reads.
+const LONGEST: usize = 65_536;
 
 /// What the program writes for an input.
 fn printed(input: &[u8]) -> String {
@@ -39,64 +36,83 @@ fn expected(input: &[u8]) -> String {
     }
 }
 
-/// K with one byte changed.
-fn changed(place: usize, byte: u8) -> Vec<u8> {
-    let mut file = K.to_vec();
-    file[place] = byte;
-    file
+/// K with one field changed.
+fn changed(place: usize, field: u32) -> Vec<u8> {
+    with(&K, &[(place, field)])
 }
 
 #[test]
 fn the_cases_of_the_paper() {
     assert_eq!(printed(&K), "ok 2 1 1 1\n");
-    assert_eq!(printed(&changed(16, 1)), "no 21 1\n");
-    assert_eq!(printed(&changed(14, 2)), "no 5\n");
+    assert_eq!(printed(&changed(8, 1)), "no 21 1\n");
+    assert_eq!(printed(&changed(7, 2)), "no 5\n");
     assert_eq!(printed(&[]), "no 1\n");
-    assert_eq!(printed(&[1, 0, 1, 0, 0, 0, 0, 0, 0, 0]), "ok 1 1 0 0\n");
+    let no_gates: [u8; 20] = fields([1, 1, 0, 0, 0]);
+    assert_eq!(printed(&no_gates), "ok 1 1 0 0\n");
 }
 
 #[test]
 fn chains() {
-    assert_eq!(printed(&changed(6, 2)), "no 19 0\n");
-    assert_eq!(printed(&changed(16, 2)), "no 19 1\n");
-    assert_eq!(printed(&changed(17, 1)), "no 19 1\n");
-    assert_eq!(printed(&changed(6, 0)), "no 20 0\n");
-    // Slots of more than one digit, and the last one.
-    let mut file = row_of_gates(4096);
+    assert_eq!(printed(&changed(3, 2)), "no 19 0\n");
+    assert_eq!(printed(&changed(8, 2)), "no 19 1\n");
+    assert_eq!(printed(&changed(8, 1 << 31)), "no 19 1\n");
+    assert_eq!(printed(&changed(3, 0)), "no 20 0\n");
+    // Slots of more than one digit, and the last one that the program can meet: 20 bytes
+    // and 16 for each gate.
+    let mut file = row_of_gates(4094);
     file.gates[99].next = 0;
     assert_eq!(printed(&file.bytes()), "no 20 100\n");
-    file.gates[99].next = 4097;
+    file.gates[99].next = 4095;
     assert_eq!(printed(&file.bytes()), "no 19 100\n");
     file.gates[99].next = 101;
-    file.gates[4095].next = 65_535;
-    assert_eq!(printed(&file.bytes()), "no 19 4096\n");
-    file.gates[4095].next = 1;
-    assert_eq!(printed(&file.bytes()), "no 21 4096\n");
+    file.gates[4093].next = 65_535;
+    assert_eq!(printed(&file.bytes()), "no 19 4094\n");
+    file.gates[4093].next = 1;
+    assert_eq!(printed(&file.bytes()), "no 21 4094\n");
 }
 
 /// Other refusals have no slot.
 #[test]
 fn other_refusals() {
-    assert_eq!(printed(&K[..7]), "no 1\n");
+    assert_eq!(printed(&K[..15]), "no 1\n");
     assert_eq!(printed(&changed(0, 0)), "no 2\n");
-    assert_eq!(printed(&K[..17]), "no 1\n");
-    assert_eq!(printed(&changed(10, 4)), "no 3\n");
-    assert_eq!(printed(&changed(8, 3)), "no 5\n");
+    assert_eq!(printed(&K[..35]), "no 1\n");
+    assert_eq!(printed(&changed(5, 4)), "no 3\n");
+    assert_eq!(printed(&changed(5, 256 + 2)), "no 3\n");
+    assert_eq!(printed(&changed(4, 3)), "no 5\n");
 }
 
+/// K as it was is no file of this form; converted it is K.
+#[test]
+fn k_converted() {
+    let old = [2, 0, 1, 0, 1, 0, 1, 0, 2, 0, 2, 0, 0, 0, 1, 0, 0, 0];
+    assert_eq!(printed(&old), "no 2\n");
+    let new = wivulameno::circuit::upgrade_to_vec(&old).expect("a circuit");
+    assert_eq!(printed(&new), "ok 2 1 1 1\n");
+}
+
+/// A legal file of 65,536 bytes: 16, and 4 for each of 256 outputs, and 16 for each gate.
 #[test]
 fn the_longest_file_and_one_byte_more() {
-    let mut file = row_of_gates(4096);
+    let mut file = row_of_gates(4031);
     file.outputs = vec![0; 256];
     file.counts[1] = 256;
     let mut bytes = file.bytes();
     assert_eq!(bytes.len(), LONGEST);
-    assert_eq!(printed(&bytes), expected(&bytes));
-    assert!(printed(&bytes).starts_with("ok "));
+    assert_eq!(printed(&bytes), "ok 1 256 4031 0\n");
     bytes.push(0);
     assert_eq!(printed(&bytes), "no 1\n");
     bytes.extend([0; 100_000]);
     assert_eq!(printed(&bytes), "no 1\n");
+    // Legal files that are longer, and one that would be refused with another number.
+    for gates in [4032, 4096, 90_000] {
+        file = row_of_gates(gates);
+        file.outputs = vec![0; 256];
+        file.counts[1] = 256;
+        assert_eq!(printed(&file.bytes()), "no 1\n");
+    }
+    file.gates[7].kind = 9;
+    assert_eq!(printed(&file.bytes()), "no 1\n");
 }
 
 #[test]

@@ -5,16 +5,17 @@ use std::env;
 use std::os::unix::process::ExitStatusExt;
 use std::process::Command;
 use std::slice::from_ref;
-use tests::bristol::{adder, comparator, damaged as damaged_text, shown};
+use tests::bristol::{adder, comparator, damaged as damaged_text, room, shown};
 use tests::calls::{damage, Setting, NOT_A_COUNT};
 use tests::challenges::Challenge;
-use tests::circuits::{any_sizes, any_slots, damaged, legal};
+use tests::circuits::{any_sizes, any_slots, damaged, legal, K};
 use tests::covers::{Cover, Masters};
+use tests::old::damaged_old;
 use tests::outcomes::Outcomes;
-use tests::paged::{lend, Edge, Paged};
+use tests::paged::{lend, lend_with_work, Edge, Paged};
 use tests::pages::{self, any_draws, any_page, any_root, any_size};
 use tests::random::Random;
-use wivulameno::{circuit, mpc, seeds, shelf};
+use wivulameno::{circuit, mpc, seeds, shelf, Work};
 
 /// The calls that each test makes.
 const BUDGET: usize = 4000;
@@ -37,9 +38,14 @@ fn runs_showings_and_replays() {
             .collect();
         let lens = call.out_lens.iter();
         let outputs: Vec<Vec<u8>> = lens.map(|&len| random.bytes(len)).collect();
-        let (answer, filled) = lend(&mut random, &inputs, &outputs, |inputs, out| {
-            call.with(inputs[0], inputs[1..].to_vec(), out)
-        });
+        if random.once_in(4) {
+            call.work_len += random.pick(&[1, 7, 64, 4096]);
+        }
+        let len = call.work_len;
+        let (answer, filled) =
+            lend_with_work(&mut random, &inputs, &outputs, len, |inputs, out, work| {
+                call.with(inputs[0], inputs[1..].to_vec(), out, work)
+            });
         outcomes.add_answer(&answer);
         let expected = call.by_reference();
         assert_eq!(answer.map(|()| filled), expected, "{}", call.shown());
@@ -121,7 +127,7 @@ fn texts() {
 }
 
 fn convert(random: &mut Random, text: &[u8]) -> Result<(), u32> {
-    let mut room = vec![0; 33_288];
+    let mut room = vec![0; room(text)];
     let file_len = reference::bristol::convert(text, &mut room).unwrap_or(40);
     let len = near(random, file_len);
     let out = random.bytes(len);
@@ -140,6 +146,45 @@ fn convert(random: &mut Random, text: &[u8]) -> Result<(), u32> {
     let written = second.map_or(before, |len| len as u64);
     let expected = [expected, written.to_ne_bytes().to_vec()];
     assert!(filled == expected, "{}", shown(text));
+    answer
+}
+
+/// Files of the old form, whole and damaged.
+#[test]
+fn old_circuits() {
+    let mut random = Random::new(0x6a8);
+    let mut outcomes = Outcomes::default();
+    for _ in 0..BUDGET {
+        let sizes = any_sizes(&mut random);
+        let slots = any_slots(&mut random, sizes[2]);
+        let mut old = legal(&mut random, sizes, &slots).old_bytes();
+        if !random.once_in(3) {
+            old = damaged_old(&mut random, old);
+        }
+        outcomes.add_answer(&upgrade(&mut random, &old));
+    }
+    outcomes.expect(&[0, 1, 2, 3, 5, 6, 19, 20, 21], 5);
+}
+
+fn upgrade(random: &mut Random, old: &[u8]) -> Result<(), u32> {
+    let len = near(random, 2 * old.len());
+    let out = random.bytes(len);
+    let before = random.word();
+    let outputs = [out.clone(), before.to_ne_bytes().to_vec()];
+    let (answer, filled) = lend(random, &[old], &outputs, |inputs, out| {
+        let [out, written] = out.try_into().unwrap_or_else(|_| panic!("two outputs"));
+        let written: *mut u64 = written.as_mut_ptr().cast();
+        assert!(written.is_aligned());
+        let slot = circuit::upgrade_slot(inputs[0]) as usize;
+        assert_eq!(slot, reference::old::upgrade_slot(old));
+        // SAFETY: these are 8 bytes, and aligned.
+        circuit::upgrade_into(inputs[0], out, unsafe { &mut *written })
+    });
+    let mut expected = out;
+    let second = reference::old::upgrade(old, &mut expected);
+    assert_eq!(answer, second.map(|_| ()));
+    let written = second.map_or(before, |len| len as u64);
+    assert!(filled == [expected, written.to_ne_bytes().to_vec()]);
     answer
 }
 
@@ -352,7 +397,16 @@ fn empty_buffers_are_not_touched() {
     let mut random = Random::new(0x6a6);
     for _ in 0..20 {
         let (answer, _) = lend(&mut random, &[&[], &[]], &[vec![]], |inputs, mut out| {
-            mpc::prepare(inputs[0], 2, inputs[1], out[0])
+            mpc::prepare(inputs[0], 2, inputs[1], out[0], &mut Work::lent(&mut []))
+        });
+        assert_eq!(answer, Err(1));
+        let inputs: [&[u8]; 2] = [&K, &[]];
+        let (answer, _) = lend_with_work(&mut random, &inputs, &[], 0, |inputs, _, work| {
+            mpc::prepare(inputs[0], 2, inputs[1], &mut [], &mut Work::lent(work))
+        });
+        assert_eq!(answer, Err(6));
+        let (answer, _) = lend(&mut random, &[&[]], &[vec![]], |inputs, mut out| {
+            circuit::upgrade(inputs[0], out[0]).map(|_| ())
         });
         assert_eq!(answer, Err(1));
         let (answer, _) = lend(&mut random, &[&[]], &[vec![]], |inputs, mut out| {

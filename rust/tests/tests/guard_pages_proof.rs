@@ -4,8 +4,10 @@
 use tests::calls::Setting;
 use tests::circuits::damaged;
 use tests::outcomes::Outcomes;
-use tests::paged::lend;
+use tests::paged::lend_with_work;
 use tests::random::Random;
+use tests::works;
+use wivulameno::Work;
 
 const BUDGET: usize = 500;
 
@@ -15,6 +17,7 @@ struct Asked {
     parts: [Vec<u8>; 5],
     counts: [u32; 3],
     room: usize,
+    work_len: usize,
 }
 
 const CIRCUIT: usize = 0;
@@ -38,6 +41,7 @@ impl Asked {
         ];
         let room = reference::proof::longest(setting.sizes, reference_counts(counts));
         Asked {
+            work_len: works::enough(random, &setting.circuit),
             setting,
             parts,
             counts,
@@ -46,7 +50,8 @@ impl Asked {
     }
 
     fn damage(&mut self, random: &mut Random) {
-        match random.below(6) {
+        match random.below(7) {
+            6 => self.work_len = random.pick(&[0, 1, works::least(&self.parts[CIRCUIT]) - 1]),
             0 => self.parts[CIRCUIT] = damaged(random, &self.setting.file, &self.setting.slots),
             1 => self.counts[random.below(3)] = random.pick(&[0, 1, 3, 513, u32::MAX]),
             2 => self.room -= 1,
@@ -62,18 +67,23 @@ impl Asked {
     fn prove(&self, random: &mut Random) -> Result<Vec<u8>, u32> {
         let inputs = self.parts.each_ref().map(|part| &part[..]);
         let outputs = [random.bytes(self.room), random.bytes(8)];
-        let (answer, filled) = lend(random, &inputs, &outputs, |inputs, out| {
-            let [proof, written] = out.try_into().unwrap_or_else(|_| panic!("two outputs"));
-            let written: *mut u64 = written.as_mut_ptr().cast();
-            assert!(written.is_aligned());
-            let [m, tau, n] = self.counts;
-            let counts = wivulameno::proof::Counts { m, tau, n };
-            let statement = statement(inputs[CIRCUIT], inputs[Y], inputs[MESSAGE]);
-            let [witness, root] = [inputs[WITNESS], inputs[ROOT]];
-            // SAFETY: these are eight bytes, and aligned.
-            let written = unsafe { &mut *written };
-            wivulameno::proof::prove_into(statement, witness, root, counts, proof, written)
-        });
+        let work_len = self.work_len;
+        let (answer, filled) =
+            lend_with_work(random, &inputs, &outputs, work_len, |inputs, out, work| {
+                let [proof, written] = out.try_into().unwrap_or_else(|_| panic!("two outputs"));
+                let written: *mut u64 = written.as_mut_ptr().cast();
+                assert!(written.is_aligned());
+                let [m, tau, n] = self.counts;
+                let counts = wivulameno::proof::Counts { m, tau, n };
+                let statement = statement(inputs[CIRCUIT], inputs[Y], inputs[MESSAGE]);
+                let [witness, root] = [inputs[WITNESS], inputs[ROOT]];
+                // SAFETY: these are eight bytes, and aligned.
+                let written = unsafe { &mut *written };
+                let work = &mut Work::lent(work);
+                wivulameno::proof::prove_into(
+                    statement, witness, root, counts, proof, written, work,
+                )
+            });
         answer?;
         let len = u64::from_ne_bytes(filled[1][..].try_into().unwrap()) as usize;
         assert_eq!(filled[0][len..], outputs[0][len..], "beyond the proof");
@@ -89,7 +99,8 @@ impl Asked {
             message,
         };
         let counts = reference_counts(self.counts);
-        let len = reference::proof::prove(statement, witness, root, counts, &mut proof)?;
+        let work = &mut vec![0; self.work_len];
+        let len = reference::proof::prove(statement, witness, root, counts, &mut proof, work)?;
         proof.truncate(len);
         Ok(proof)
     }
@@ -159,9 +170,13 @@ fn checks() {
             _ => {}
         }
         let inputs = [&circuit[..], &y, &message, &proof];
-        let (answer, _) = lend(&mut random, &inputs, &[], |inputs, _| {
+        let mut work_len = works::enough(&mut random, &circuit);
+        if random.once_in(12) {
+            work_len = works::least(&circuit) - 1;
+        }
+        let (answer, _) = lend_with_work(&mut random, &inputs, &[], work_len, |inputs, _, work| {
             let statement = statement(inputs[0], inputs[1], inputs[2]);
-            wivulameno::proof::check(statement, inputs[3])
+            wivulameno::proof::check(statement, inputs[3], &mut Work::lent(work))
         });
         outcomes.add_answer(&answer);
         let second = reference::proof::Statement {
@@ -169,7 +184,8 @@ fn checks() {
             y: &y,
             message: &message,
         };
-        assert_eq!(answer, reference::proof::check(second, &proof));
+        let work = &mut vec![0; work_len];
+        assert_eq!(answer, reference::proof::check(second, &proof, work));
     }
     outcomes.expect(&[0, 1, 2, 3, 5, 6, 7, 10, 11, 12, 13, 19, 20, 21], 1);
 }

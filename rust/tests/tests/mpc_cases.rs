@@ -4,23 +4,10 @@
 
 use reference::circuit::Sizes;
 use tests::calls::{compare, used_bits, Answer, Call, Operation, NOT_A_COUNT};
+use tests::circuits::{faults_of_five, fields, FIVE, K};
 use tests::random::Random;
+use tests::works;
 
-/// One AND of two inputs.
-const K: [u8; 18] = [2, 0, 1, 0, 1, 0, 1, 0, 2, 0, 2, 0, 0, 0, 1, 0, 0, 0];
-
-/// Five inputs, wires 0 to 4. In chain order: slot 3 is 0 AND 1 (wire 7), slot 1
-/// is NOT 7 (wire 5), slot 4 is 5 AND 2 (wire 8), slot 2 is 8 XOR 3 (wire 6),
-/// slot 5 is 6 AND 4 (wire 9). The outputs are wire 9, input 4 and wire 6.
-const FIVE: [u8; 54] = [
-    5, 0, 3, 0, 5, 0, 3, 0, // head
-    9, 0, 4, 0, 6, 0, // outputs
-    3, 0, 7, 0, 0, 0, 4, 0, // slot 1
-    1, 0, 8, 0, 3, 0, 5, 0, // slot 2
-    2, 0, 0, 0, 1, 0, 1, 0, // slot 3
-    2, 0, 5, 0, 2, 0, 2, 0, // slot 4
-    2, 0, 6, 0, 4, 0, 0, 0, // slot 5
-];
 const FIVE_SIZES: Sizes = Sizes {
     inputs: 5,
     outputs: 3,
@@ -42,6 +29,7 @@ fn call(operation: Operation, circuit: &[u8], n: u32, inputs: &[&[u8]], out: &[u
         cut: 0,
         inputs: inputs.iter().map(|input| input.to_vec()).collect(),
         out_lens: out.to_vec(),
+        work_len: works::least(circuit),
     }
 }
 
@@ -103,7 +91,7 @@ fn m9_replayed() {
 /// A circuit without gates: its only cut shows the output masks.
 #[test]
 fn no_gates() {
-    let file = [2, 0, 3, 0, 0, 0, 0, 0, 1, 0, 0, 0, 1, 0];
+    let file: [u8; 28] = fields([2, 3, 0, 0, 1, 0, 1]);
     let inputs: [&[u8]; 2] = [&[2], &[3, 1]];
     let mut show = call(Operation::Show, &file, 2, &inputs, &[2, 0, 1, 1]);
     let expected = vec![vec![0, 1], vec![], vec![0], vec![7]];
@@ -169,28 +157,39 @@ fn good_calls_are_good() {
 
 #[test]
 fn refusals_of_the_circuit_come_first() {
-    let with = |place: usize, byte| {
-        let mut file = FIVE.to_vec();
-        file[place] = byte;
-        file
-    };
-    for (refusal, file) in [
-        (1, FIVE[..7].to_vec()),
-        (2, with(0, 0)),
-        (1, FIVE[..53].to_vec()),
-        (3, with(14, 4)),
-        (19, with(6, 6)),
-        (20, with(6, 0)),
-        (21, with(52, 3)),
-        (5, with(16, 9)),
-    ] {
+    for (refusal, file) in faults_of_five() {
         for mut call in good_calls(1) {
             call.circuit = file.clone();
             check("circuit", &call, Err(refusal));
             (call.n, call.p, call.cut) = (3, 4, 6);
             spoil(&mut call);
             check("circuit, all else too", &call, Err(refusal));
+            call.work_len = 0;
+            check("circuit, work too", &call, Err(refusal));
         }
+    }
+}
+
+/// A work buffer that is too short comes before n and all else. `FIVE` has 5 inputs and
+/// 5 gates.
+#[test]
+fn refusals_of_work() {
+    for mut call in good_calls(1) {
+        assert_eq!(call.work_len, 64 * 10 + 4096);
+        for work_len in [0, 1, 4096, 4735] {
+            call.work_len = work_len;
+            check("work", &call, Err(6));
+        }
+        for work_len in [4736, 4737, 4800, 9472, 65_536] {
+            call.work_len = work_len;
+            let answer = compare(&mut Random::new(1), &call);
+            assert!(answer.is_ok(), "{}", call.shown());
+        }
+        (call.n, call.p, call.cut, call.work_len) = (3, 4, 6, 4735);
+        spoil(&mut call);
+        check("work before n", &call, Err(6));
+        call.work_len = 4736;
+        check("n", &call, Err(8));
     }
 }
 

@@ -165,9 +165,9 @@ fn special_shapes() {
     }
 }
 
-/// All limits at once: 4,096 AND gates, 512 inputs, 256 outputs, 16 parties.
+/// The limits but for the gates: 4,096 AND gates, 512 inputs, 256 outputs, 16 parties.
 #[test]
-fn the_largest() {
+fn many_ands() {
     let mut random = Random::new(64);
     let slots = random.order(4096);
     let mut file = legal(&mut random, [512, 256, 4096], &slots);
@@ -187,7 +187,7 @@ fn turned_y(setting: &Setting, turned: &[u8]) -> Vec<u8> {
     let mut ands = 0..;
     for slot in &setting.slots {
         let gate = &setting.file.gates[slot - 1];
-        let [a, b] = [gate.a, gate.b].map(|wire| values[usize::from(wire)]);
+        let [a, b] = [gate.a, gate.b].map(|wire| values[wire as usize]);
         values[inputs + slot - 1] = match gate.kind {
             XOR => a ^ b,
             INV => !a,
@@ -196,7 +196,7 @@ fn turned_y(setting: &Setting, turned: &[u8]) -> Vec<u8> {
     }
     let mut y = vec![0; setting.sizes.y_len()];
     for (place, &wire) in setting.file.outputs.iter().enumerate() {
-        put(&mut y, place, values[usize::from(wire)]);
+        put(&mut y, place, values[wire as usize]);
     }
     y
 }

@@ -4,24 +4,10 @@
 
 use reference::circuit::Sizes;
 use tests::calls::NOT_A_COUNT;
+use tests::circuits::{faults_of_five, FIVE, K};
 use tests::proofs::{compare_check, compare_prove, cover_place, longest, places, Check, Prove};
 use tests::random::Random;
 
-/// One AND of two inputs.
-const K: [u8; 18] = [2, 0, 1, 0, 1, 0, 1, 0, 2, 0, 2, 0, 0, 0, 1, 0, 0, 0];
-
-/// Five inputs, wires 0 to 4. In chain order: slot 3 is 0 AND 1 (wire 7), slot 1
-/// is NOT 7 (wire 5), slot 4 is 5 AND 2 (wire 8), slot 2 is 8 XOR 3 (wire 6),
-/// slot 5 is 6 AND 4 (wire 9). The outputs are wire 9, input 4 and wire 6.
-const FIVE: [u8; 54] = [
-    5, 0, 3, 0, 5, 0, 3, 0, // head
-    9, 0, 4, 0, 6, 0, // outputs
-    3, 0, 7, 0, 0, 0, 4, 0, // slot 1
-    1, 0, 8, 0, 3, 0, 5, 0, // slot 2
-    2, 0, 0, 0, 1, 0, 1, 0, // slot 3
-    2, 0, 5, 0, 2, 0, 2, 0, // slot 4
-    2, 0, 6, 0, 4, 0, 0, 0, // slot 5
-];
 const FIVE_SIZES: Sizes = Sizes {
     inputs: 5,
     outputs: 3,
@@ -38,6 +24,9 @@ const Y: u8 = 0b111;
 const COUNTS: [u32; 3] = [6, 3, 4];
 const LONGEST: usize = 38 + 48 * 3 + 3 * (16 * 2 + 1 + 32 + 1 + 1);
 
+/// The least work buffer for `FIVE`, which has 5 inputs and 5 gates.
+const WORK: usize = 64 * 10 + 4096;
+
 fn prove_k(root: [u8; 16]) -> Prove {
     Prove {
         circuit: K.to_vec(),
@@ -47,6 +36,7 @@ fn prove_k(root: [u8; 16]) -> Prove {
         root: root.to_vec(),
         counts: [4, 1, 2],
         proof_len: 233,
+        work_len: 64 * 3 + 4096,
     }
 }
 
@@ -59,6 +49,7 @@ fn prove_five() -> Prove {
         root: vec![7; 16],
         counts: COUNTS,
         proof_len: LONGEST,
+        work_len: WORK,
     }
 }
 
@@ -262,27 +253,6 @@ fn bits_of_prove() {
     }
 }
 
-/// FIVE with another byte at `place`.
-fn five_with(place: usize, byte: u8) -> Vec<u8> {
-    let mut file = FIVE.to_vec();
-    file[place] = byte;
-    file
-}
-
-/// Circuits with their refusals, in order.
-fn bad_circuits() -> [(u32, Vec<u8>); 8] {
-    [
-        (1, FIVE[..7].to_vec()),
-        (2, five_with(0, 0)),
-        (1, FIVE[..53].to_vec()),
-        (3, five_with(14, 4)),
-        (19, five_with(6, 6)),
-        (20, five_with(6, 0)),
-        (21, five_with(52, 3)),
-        (5, five_with(16, 9)),
-    ]
-}
-
 /// A change of a call, and the refusal that it leads to.
 type Fault<T> = (u32, Box<dyn Fn(&mut T)>);
 
@@ -296,10 +266,14 @@ fn in_check(refusal: u32, change: impl Fn(&mut Check) + 'static) -> Fault<Check>
 
 /// Faults of a call of prove, in the order of their refusals.
 fn faults_of_prove() -> Vec<Vec<Fault<Prove>>> {
-    let circuits = bad_circuits()
+    let circuits = faults_of_five()
         .map(|(refusal, file)| in_prove(refusal, move |call| call.circuit.clone_from(&file)));
     vec![
         circuits.into(),
+        vec![
+            in_prove(6, |call| call.work_len = 0),
+            in_prove(6, |call| call.work_len = WORK - 1),
+        ],
         vec![
             in_prove(8, |call| call.counts[0] = 1),
             in_prove(8, |call| call.counts[0] = 513),
@@ -337,10 +311,14 @@ fn chosen_and_not(call: &Check) -> [usize; 2] {
 
 /// Faults of a call of check, in the order of their refusals.
 fn faults_of_check() -> Vec<Vec<Fault<Check>>> {
-    let circuits = bad_circuits()
+    let circuits = faults_of_five()
         .map(|(refusal, file)| in_check(refusal, move |call| call.circuit.clone_from(&file)));
     let mut faults = vec![
         circuits.into(),
+        vec![
+            in_check(6, |call| call.work_len = 0),
+            in_check(6, |call| call.work_len = WORK - 1),
+        ],
         vec![
             in_check(6, |call| call.y.push(0xff)),
             in_check(6, |call| call.message = vec![0; 4097]),

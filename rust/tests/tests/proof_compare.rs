@@ -7,9 +7,11 @@ use tests::calls::{Setting, COUNTS};
 use tests::circuits::{any_slots, legal, File, AND, XOR};
 use tests::proofs::{compare_check, compare_prove, longest, Prove};
 use tests::random::Random;
+use tests::works;
 use wivulameno::circuit::sizes;
 use wivulameno::proof::{longest_proof, most_opened, proof_len, Counts};
 use wivulameno::seeds::{challenge, cover, ChallengeInput};
+use wivulameno::Work;
 
 const SETTINGS: usize = 120;
 
@@ -218,8 +220,8 @@ fn special_shapes() {
     }
 }
 
-/// All limits at once: 512 inputs, 256 outputs, 4,096 AND gates, 512 instances,
-/// 16 parties, a message of 4,096 bytes.
+/// The limits but for the gates, which `wide` has: 512 inputs, 256 outputs, 4,096 AND gates, 512
+/// instances, 16 parties, a message of 4,096 bytes.
 #[test]
 fn the_largest() {
     let mut random = Random::new(78);
@@ -250,6 +252,7 @@ fn an_example() {
         root: random.bytes(16),
         counts,
         proof_len: longest(sizes, counts),
+        work_len: works::least(circuit),
     };
     let proof = compare_prove(&mut random, &call).expect("proved");
     let answer = compare_check(&mut random, &call.check(&proof));
@@ -263,6 +266,8 @@ fn an_example() {
     let [m, tau, n] = counts;
     let counts = Counts { m, tau, n };
     let mut again = vec![0; call.proof_len];
-    let len = wivulameno::proof::prove(statement, witness, &call.root, counts, &mut again);
+    let mut work = Work::for_circuit(circuit).expect("a circuit");
+    let root = &call.root;
+    let len = wivulameno::proof::prove(statement, witness, root, counts, &mut again, &mut work);
     assert!(len == Ok(proof.len()) && again[..proof.len()] == proof);
 }

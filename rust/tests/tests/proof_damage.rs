@@ -421,7 +421,8 @@ fn flip(random: &mut Random, bytes: &mut [u8]) {
 
 /// Changes one thing that prove is lent. The call may be good nevertheless.
 fn damage_prove(random: &mut Random, setting: &Setting, call: &mut Prove) {
-    match random.below(14) {
+    match random.below(15) {
+        14 => call.work_len = random.pick(&[0, 1, call.work_len.saturating_sub(1)]),
         0 | 1 => call.circuit = damaged(random, &setting.file, &setting.slots),
         2 => call.counts[0] = random.pick(&[0, 1, 3, 513, 65_536 + 4, u32::MAX]),
         3 => call.counts[1] = random.pick(&[0, 1, call.counts[0], 65_537, 1 << 31]),
@@ -438,7 +439,8 @@ fn damage_prove(random: &mut Random, setting: &Setting, call: &mut Prove) {
 
 /// The same for check.
 fn damage_check(random: &mut Random, setting: &Setting, call: &mut Check) {
-    match random.below(14) {
+    match random.below(15) {
+        14 => call.work_len = random.pick(&[0, 1, call.work_len.saturating_sub(1)]),
         0 | 1 => call.circuit = damaged(random, &setting.file, &setting.slots),
         2 => another_length(random, &mut call.y),
         3 => call.message = vec![1; random.pick(&[0, 4096, 4097, 65_536])],

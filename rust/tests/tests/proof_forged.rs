@@ -9,6 +9,7 @@ use tests::circuits::{File, Gate, AND};
 use tests::outcomes::Outcomes;
 use tests::proofs::{compare_check, Check, Prove};
 use tests::random::Random;
+use tests::works;
 
 const FORGERIES: usize = 4_000;
 const GUESSES: usize = 600;
@@ -18,7 +19,6 @@ const GUESSES: usize = 600;
 fn file() -> File {
     let gate = |b, next| Gate {
         kind: AND,
-        zero: 0,
         a: 1,
         b,
         next,
@@ -136,7 +136,9 @@ fn run_again(n: u32, instance: &mut Instance) {
     };
     let preprocessing = &instance.preprocessing;
     let (tapes, corrections) = (&preprocessing.tapes, &preprocessing.corrections);
-    let answer = reference::mpc::run(&file().bytes(), n, &RIGHT, tapes, corrections, out);
+    let circuit = file().bytes();
+    let mut work = vec![0; works::least(&circuit)];
+    let answer = reference::mpc::run(&circuit, n, &RIGHT, tapes, corrections, out, &mut work);
     answer.expect("no refusal");
 }
 
@@ -179,6 +181,7 @@ fn any_faults() {
             y: vec![1],
             message: random.bytes(5),
             proof: vec![],
+            work_len: works::least(&circuit),
         };
         let proof = written(root, &forged, counts, call.statement());
         let call = Check { proof, ..call };

@@ -6,7 +6,7 @@
 use reference::fips202;
 use tests::circuits::{File, Gate, AND, INV, XOR};
 use wivulameno::proof::{prove, Counts, Statement};
-use wivulameno::seeds;
+use wivulameno::{seeds, Work};
 
 const LENGTHS: [usize; 8] = [0, 1, 135, 136, 168, 1000, 65_536, 100_003];
 const COUNTS: [u32; 4] = [2, 4, 8, 16];
@@ -27,8 +27,11 @@ fn bytes(len: usize) -> Vec<u8> {
 
 /// The digest of all bytes, in hexadecimal.
 fn digest(all: &[u8]) -> String {
-    let digest = fips202::sha3_256(all);
-    digest.iter().map(|byte| format!("{byte:02x}")).collect()
+    hex(&fips202::sha3_256(all))
+}
+
+fn hex(bytes: &[u8]) -> String {
+    bytes.iter().map(|byte| format!("{byte:02x}")).collect()
 }
 
 /// The outputs of an extendable-output function, for each pair of lengths.
@@ -109,51 +112,60 @@ fn tapes() {
     assert_eq!(digest(&all), TAPES);
 }
 
-/// The circuit with its witness and output, M, tau, n, and the digest of the whole
-/// proof, in the layout of order 5. The proofs were made by the second implementation,
-/// and once more in Python over its hashlib, with the same digests. A request that
+/// The circuit with its witness and output, M, tau, n, the proof's h*, and the digest of
+/// the whole proof, in the layout of order 5 and with the circuit files of order 7. The
+/// proofs were made in Python over its hashlib. The h* are those of the circuits' files
+/// in the old form too: the transcript before the challenge is the same. A request that
 /// moves the bytes of proofs replaces them; order 13, "16 parties give the same bytes",
 /// leans on them.
-const PROOFS: [(Circuit, [u32; 3], &str); 8] = [
+const PROOFS: [(Circuit, [u32; 3], &str, &str); 8] = [
     (
         adder,
         [2, 1, 2],
-        "1029994ac9fc101b3e0a14dd0af7c978f2e8f7593c443b7a181287bafbb01b3b",
+        "c1b04a6773347d50426e78a97388e4f3fff7e9292ed04be921ad64aa299e522f",
+        "60663d7e0789b8fd5b228a82e670fb54528a325ac81066eb97510ae18980ed0d",
     ),
     (
         adder,
         [40, 13, 4],
-        "3247d82a856d879647263dcfb79d98d02317ab04512e96eda42fb2c7971895b6",
+        "415d026817c0dfd254510684776d7ca6178cf5f988c3833124b6efd6103dd2c1",
+        "0e20e2316e64ad1cad9773b83042c44b1909a1e7c794d2b040989cc0e17dae55",
     ),
     (
         adder,
         [145, 66, 8],
-        "35d67e88495d2ab1998992adf99b188624ec7d86096280437a6bfd763da4e2ce",
+        "3909a79cf417fb2486d2e7fb82040ec56f92bb1b7c2365bf45685f49aa8855ed",
+        "055e348ea7f01719c333d6471213e0f71b8fe69d2aa77727c0d7090494896c29",
     ),
     (
         adder,
         [343, 27, 16],
-        "420c3eca361e38b960b7845d8f9abd4511d7222ff3636fea22df820f95bb082d",
+        "cb623dab3b13adfe7a31df8bae050ceab7aa9a1f0d725e83a8b67bd2145a1a70",
+        "ffbfb813972bbe1fc5c8daf99b4974fbc29a79e118a32500f9963885718e3d17",
     ),
     (
         ladder,
         [64, 36, 2],
-        "a25dce48c228a581bc7957e7e291f21ed550b6f51d826483f5490f0e2cfd0be2",
+        "d7d8c9622b41a8a9afd34cabe111905721082b16fb951eb18b380c2524ef77bc",
+        "b9669969e5bdfe2273a7227d0f614cd543a2c216b0c5ff0dd7f4f25f2b9907c0",
     ),
     (
         ladder,
         [17, 5, 4],
-        "a6d128dbd7d22acc73b47a0458198328fcaf0604558722eee40fcccc72b92a82",
+        "9b95916842ba33d025c4f233b10b2740dfdf0a561e09ad4a41257c2227f9bf62",
+        "3a05effcea4ada686bc5a314977c99201233b9dc46c57a932b3f7499c17ee654",
     ),
     (
         ladder,
         [252, 44, 8],
-        "615489a608da676bf34a2e45d10effa02a8a97405bffa706a40dda33f8678260",
+        "de732ecad2d0cab925b982862bea4438acef4028d5f3dc1fdfe9ddc00705e41b",
+        "eaa91e189ed833203dc746ca0aff234035a5095b65788e3d474140eeaaff65ad",
     ),
     (
         ladder,
         [47, 17, 16],
-        "d2866ae8bc15e272300e846761366812d56a58fccd43a16b5b48a78004d5ba4d",
+        "b4f1ca6357c9b8d3e555dfb8f29aa64de535b47eb52df4ea3fe9db20907c0998",
+        "cc271dd27d1b71fb679c623cd23dc609adbe089378f5cbf4af684e18bf7dd18f",
     ),
 ];
 
@@ -164,16 +176,15 @@ const MESSAGE: &[u8] = b"order 17 of depot 4, 2026-03-01.";
 type Circuit = fn() -> (Vec<u8>, Vec<u8>, Vec<u8>);
 
 /// The file of gates, each a kind and two wires, in the order of their slots.
-fn file(inputs: u16, outputs: Vec<u16>, gates: Vec<(u8, u16, u16)>) -> Vec<u8> {
+fn file(inputs: u32, outputs: Vec<u32>, gates: Vec<(u32, u32, u32)>) -> Vec<u8> {
     let gate = |&(kind, a, b): &_| Gate {
         kind,
-        zero: 0,
         a,
         b,
         next: 0,
     };
     let mut file = File {
-        counts: [inputs, outputs.len() as u16, gates.len() as u16],
+        counts: [inputs, outputs.len() as u32, gates.len() as u32],
         head: 0,
         gates: gates.iter().map(gate).collect(),
         outputs,
@@ -198,7 +209,7 @@ fn adder() -> (Vec<u8>, Vec<u8>, Vec<u8>) {
 /// 600 gates above 64 inputs, the k-th of wires k and k + 37, XOR but for every third,
 /// which is AND. The outputs are the last 16 wires.
 fn ladder() -> (Vec<u8>, Vec<u8>, Vec<u8>) {
-    let gate = |k: u16| (if k % 3 == 2 { AND } else { XOR }, k, k + 37);
+    let gate = |k: u32| (if k % 3 == 2 { AND } else { XOR }, k, k + 37);
     let circuit = file(64, (648..664).collect(), (0..600).map(gate).collect());
     (
         circuit,
@@ -209,7 +220,7 @@ fn ladder() -> (Vec<u8>, Vec<u8>, Vec<u8>) {
 
 #[test]
 fn proofs() {
-    for (circuit, [m, tau, n], stored) in PROOFS {
+    for (circuit, [m, tau, n], h_star, stored) in PROOFS {
         let (circuit, witness, y) = circuit();
         let counts = Counts { m, tau, n };
         let statement = Statement {
@@ -218,7 +229,10 @@ fn proofs() {
             message: MESSAGE,
         };
         let mut proof = vec![0; 1 << 16];
-        let len = prove(statement, &witness, &ROOT, counts, &mut proof).expect("a proof");
+        let mut work = Work::for_circuit(&circuit).expect("a circuit");
+        let len = prove(statement, &witness, &ROOT, counts, &mut proof, &mut work);
+        let len = len.expect("a proof");
+        assert_eq!(hex(&proof[6..38]), h_star, "{counts:?}");
         assert_eq!(digest(&proof[..len]), stored, "{counts:?}");
     }
 }

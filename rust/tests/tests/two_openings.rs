@@ -6,9 +6,11 @@ use reference::bits::clear_rest;
 use reference::circuit::Sizes;
 use reference::seeds::{opened_leaves, seed_and_r, tape_row, Value};
 use tests::calls::{any_bits, compare, Answer, Call, Operation, Setting};
+use tests::circuits::K;
 use tests::pages::page;
 use tests::proofs::{compare_check, compare_prove, longest, places, Check, Prove};
 use tests::random::Random;
+use tests::works;
 use wivulameno::Refusal;
 
 /// Masked inputs XOR input masks: with the tape rows of all parties.
@@ -198,23 +200,23 @@ fn both_replays_must_give_the_rows() {
 /// y = 0 and the rows; the bytes are 3, whose output is 1.
 #[test]
 fn the_case_of_k() {
-    let k = [2, 0, 1, 0, 1, 0, 1, 0, 2, 0, 2, 0, 0, 0, 1, 0, 0, 0];
     for (p, tapes, row) in [(0, [0, 3], 2), (1, [13, 0], 1)] {
         let call = Call {
             operation: Operation::Replay,
-            circuit: k.to_vec(),
+            circuit: K.to_vec(),
             n: 2,
             p,
             cut: 0,
             inputs: vec![tapes.to_vec(), vec![0], vec![1], vec![row], vec![0]],
             out_lens: vec![2],
+            work_len: 64 * 3 + 4096,
         };
         assert_eq!(compare(&mut Random::new(66), &call), Ok(vec![vec![2, 1]]));
     }
-    let sizes = reference::circuit::read(&k).expect("a legal circuit");
+    let sizes = reference::circuit::read(&K).expect("a legal circuit");
     assert_eq!(unmasked(sizes, &[1], &[vec![13], vec![3]]), [3]);
     let mut y = [0];
-    assert_eq!(wivulameno::circuit::evaluate(&k, &[3], &mut y), Ok(()));
+    assert_eq!(wivulameno::circuit::evaluate(&K, &[3], &mut y), Ok(()));
     assert_eq!(y, [1]);
 }
 
@@ -290,6 +292,7 @@ fn proof_of(stock: u16, root: [u8; 16]) -> Check {
         root: root.to_vec(),
         counts,
         proof_len: longest(sizes, counts),
+        work_len: works::least(CIRCUIT),
     };
     let proof = compare_prove(&mut Random::new(64), &call).expect("proved");
     let check = call.check(&proof);

@@ -1,12 +1,12 @@
 //! Circuit files. `include/wivulameno.h` has their layout, and that of the texts
-//! that can be converted to one.
+//! and of the old files that can be converted to one.
 //!
 //! Every function that is lent a circuit, but [`fault_slot`], refuses it with 1, 2, 3,
 //! 19, 20, 21 or 5.
 
 use crate::limits::{MAX_CIRCUIT, MAX_GATES, MAX_INPUTS, MAX_OUTPUTS};
 use crate::proof::oct;
-use crate::{answer, Refusal};
+use crate::{answer, answer_burned, Refusal};
 
 extern "C" {
     fn wv_read(circuit: *const u8, circuit_len: usize, sizes: *mut [u32; 4]) -> u32;
@@ -26,6 +26,14 @@ extern "C" {
         out_len: usize,
         written: *mut u64,
     ) -> u32;
+    fn wv_upgrade(
+        old: *const u8,
+        old_len: usize,
+        out: *mut u8,
+        out_len: usize,
+        written: *mut u64,
+    ) -> u32;
+    fn wv_upgrade_slot(old: *const u8, old_len: usize) -> u32;
 }
 
 /// How large a circuit is.
@@ -50,6 +58,16 @@ impl Sizes {
     /// The bytes of y.
     pub const fn y_len(self) -> usize {
         oct(self.outputs)
+    }
+
+    /// The least length of a [`Work`](crate::Work) buffer: 64 (I + G) + 4,096 bytes.
+    pub const fn work_len(self) -> usize {
+        64 * (self.inputs as usize + self.gates as usize) + 4096
+    }
+
+    /// The bytes of a circuit file with these sizes: 16 + 4 O + 16 G.
+    pub const fn circuit_len(self) -> usize {
+        16 + 4 * self.outputs as usize + 16 * self.gates as usize
     }
 
     /// Can a circuit have these sizes?
@@ -95,7 +113,8 @@ pub fn read(circuit: &[u8]) -> Result<[u32; 4], Refusal> {
 /// use wivulameno::Refusal;
 ///
 /// // One gate, in slot 1, whose link leads to slot 1 again.
-/// let circuit = [2, 0, 1, 0, 1, 0, 1, 0, 2, 0, 2, 0, 0, 0, 1, 0, 1, 0];
+/// let fields = [2, 1, 1, 1, 2, 2, 0, 1, 1];
+/// let circuit = fields.map(u32::to_le_bytes).concat();
 /// assert_eq!(read(&circuit), Err(Refusal::ChainLong));
 /// assert_eq!(fault_slot(&circuit), 1);
 /// ```
@@ -109,7 +128,7 @@ pub fn fault_slot(circuit: &[u8]) -> u32 {
 /// [`Sizes::y_len`], 7 for an unused bit of the witness.
 pub fn evaluate(circuit: &[u8], witness: &[u8], y: &mut [u8]) -> Result<(), Refusal> {
     // SAFETY: the slices are valid for their lengths and `y` overlaps no other.
-    answer(unsafe {
+    answer_burned(unsafe {
         wv_evaluate(
             circuit.as_ptr(),
             circuit.len(),
@@ -177,4 +196,59 @@ pub fn from_bristol_to_vec(text: &[u8]) -> Result<Vec<u8>, Refusal> {
     let len = from_bristol(text, &mut circuit)?;
     circuit.truncate(len);
     Ok(circuit)
+}
+
+/// As [`upgrade`], with the length that the C function writes into `written`.
+pub fn upgrade_into(old: &[u8], out: &mut [u8], written: &mut u64) -> Result<(), Refusal> {
+    // SAFETY: the slices are valid for their lengths, and `out` and `written`
+    // overlap no other.
+    answer(unsafe {
+        wv_upgrade(
+            old.as_ptr(),
+            old.len(),
+            out.as_mut_ptr(),
+            out.len(),
+            written,
+        )
+    })
+}
+
+/// Converts a circuit file of the old form, whose fields had 16 bits: writes the file
+/// of the same circuit, with the same slots, chain and meaning, to the start of `out`
+/// and gives its length, which is twice that of the old one. The bytes behind it stay.
+///
+/// Refuses with 1, 2, 3, 19, 20, 21 or 5 as the old reading did ([`upgrade_slot`] tells
+/// the slot), then with 6 for an `out` that is too short.
+pub fn upgrade(old: &[u8], out: &mut [u8]) -> Result<usize, Refusal> {
+    let mut written = 0;
+    upgrade_into(old, out, &mut written)?;
+    Ok(usize::try_from(written).expect("no more than the buffer"))
+}
+
+/// The circuit file of the same circuit as a file of the old form. Refuses it as
+/// [`upgrade`] does, but never with 6.
+///
+/// ```
+/// use wivulameno::circuit::{read, upgrade_to_vec};
+/// use wivulameno::Refusal;
+///
+/// // Two inputs, one output, one gate: wire 2 is wire 0 AND wire 1.
+/// let old = [2, 0, 1, 0, 1, 0, 1, 0, 2, 0, 2, 0, 0, 0, 1, 0, 0, 0];
+/// assert_eq!(read(&old), Err(Refusal::CircuitSizes));
+/// let circuit = upgrade_to_vec(&old)?;
+/// assert_eq!(circuit, [2_u32, 1, 1, 1, 2, 2, 0, 1, 0].map(u32::to_le_bytes).concat());
+/// # Ok::<(), Refusal>(())
+/// ```
+pub fn upgrade_to_vec(old: &[u8]) -> Result<Vec<u8>, Refusal> {
+    // The file is twice as long as the old one: 16 + 4 O + 16 G for 8 + 2 O + 8 G.
+    let mut circuit = vec![0; 2 * old.len()];
+    let len = upgrade(old, &mut circuit)?;
+    circuit.truncate(len);
+    Ok(circuit)
+}
+
+/// As [`fault_slot`], for a file of the old form that [`upgrade`] refuses.
+pub fn upgrade_slot(old: &[u8]) -> u32 {
+    // SAFETY: the slice is valid for its length.
+    unsafe { wv_upgrade_slot(old.as_ptr(), old.len()) }
 }

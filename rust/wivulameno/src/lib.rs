@@ -3,11 +3,12 @@
 //!
 //! | module | what is there |
 //! | --- | --- |
-//! | [`circuit`] | read a circuit, evaluate it, convert a text to one |
+//! | [`circuit`] | read a circuit, evaluate it, convert a text or an old file to one |
 //! | [`proof`] | prove and check; how long a proof is, and how sound |
 //! | [`store`] | shelf and log in files, in the order of writes that survives a cut |
 //! | [`shelf`] | shelf pages in memory, for a host with a log of its own |
 //! | [`mpc`], [`seeds`] | the parts that proofs are made of |
+//! | [`Work`] | the memory that a prove, a check or a run works in, used again |
 //! | [`limits`] | the largest sizes and counts |
 //!
 //! A depot proves that two bits of a row are both 1, and a buyer checks it:
@@ -15,14 +16,15 @@
 //! ```
 //! use wivulameno::circuit::sizes;
 //! use wivulameno::proof::{check, longest_proof, prove, Counts, Statement};
-//! use wivulameno::Shelf;
+//! use wivulameno::{Shelf, Work};
 //!
 //! # let folder = std::env::temp_dir().join(format!("wivulameno-lib-{}", std::process::id()));
 //! # std::fs::create_dir_all(&folder)?;
 //! # let (page, log) = (folder.join("shelf.page"), folder.join("shelf.log"));
 //! # let sixteen_random_bytes = [7; 16];
 //! // Two inputs, one output, one gate: wire 2 is wire 0 AND wire 1.
-//! let circuit = [2, 0, 1, 0, 1, 0, 1, 0, 2, 0, 2, 0, 0, 0, 1, 0, 0, 0];
+//! let fields: [u32; 9] = [2, 1, 1, 1, 2, 2, 0, 1, 0];
+//! let circuit = fields.map(u32::to_le_bytes).concat();
 //! let statement = Statement { circuit: &circuit, y: &[1], message: b"order 4711" };
 //!
 //! // The depot: a new root for each proof, counted on disk when it is drawn.
@@ -30,15 +32,16 @@
 //! shelf.stock(&sixteen_random_bytes)?;
 //! let counts = Counts { m: 145, tau: 66, n: 8 };
 //! let mut proof = vec![0; longest_proof(sizes(&circuit)?, counts).expect("legal counts")];
-//! let len = prove(statement, &[0b11], &shelf.draw()?, counts, &mut proof)?;
+//! let mut work = Work::for_circuit(&circuit)?;
+//! let len = prove(statement, &[0b11], &shelf.draw()?, counts, &mut proof, &mut work)?;
 //! proof.truncate(len);
 //!
 //! // The buyer: the depot chose the counts, so they are looked at.
-//! check(statement, &proof)?;
+//! check(statement, &proof, &mut work)?;
 //! let bits = Counts::of_proof(&proof).and_then(Counts::soundness_bits);
 //! assert!(bits >= Some(128.0));
 //! let other = Statement { message: b"order 4712", ..statement };
-//! assert!(check(other, &proof).is_err());
+//! assert!(check(other, &proof, &mut work).is_err());
 //! # std::fs::remove_dir_all(&folder)?;
 //! # Ok::<(), Box<dyn std::error::Error>>(())
 //! ```
@@ -47,7 +50,11 @@
 //!
 //! A slice gives the library what it asks of a lent buffer: a valid pointer that
 //! is not null, its length, and no overlap of what is written with anything else.
-//! A refused call leaves every lent byte as it was.
+//! A refused call leaves every lent byte as it was, but for a [`Work`] buffer.
+//!
+//! After each call that is lent a secret the crate burns the stack
+//! ([`burn_stack`]), and the library leaves its work buffer all zero. The buffers that
+//! the caller fills with a witness, a root or tapes are the caller's to clear.
 //!
 //! The library is built for x86-64 Linux. [`store::Disk`] relies on Unix to keep a
 //! page from other users' eyes, to wait until a file's name is on disk, and to
@@ -56,6 +63,8 @@
 
 mod ffi;
 mod refusal;
+mod stack;
+mod work;
 
 pub mod circuit;
 pub mod limits;
@@ -66,7 +75,9 @@ pub mod shelf;
 pub mod store;
 
 pub use refusal::Refusal;
+pub use stack::burn_stack;
 pub use store::{Log, Shelf};
+pub use work::Work;
 
 use limits::DIGEST_LEN;
 
@@ -80,6 +91,14 @@ fn answer(status: u32) -> Result<(), Refusal> {
         0 => Ok(()),
         number => Err(Refusal::of(number)),
     }
+}
+
+/// The answer of a call that was lent a secret: the stack is burned first, from the
+/// frame that made the call.
+#[inline(always)]
+fn answer_burned(status: u32) -> Result<(), Refusal> {
+    burn_stack();
+    answer(status)
 }
 
 /// The digest of `message` under SHA3-256 (FIPS 202).

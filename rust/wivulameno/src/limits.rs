@@ -10,10 +10,22 @@ pub const MAX_INPUTS: u32 = 512;
 pub const MAX_OUTPUTS: u32 = 256;
 
 /// A circuit has 0 to so many gates.
-pub const MAX_GATES: u32 = 4096;
+pub const MAX_GATES: u32 = 100_000;
 
 /// The bytes of the longest circuit.
-pub const MAX_CIRCUIT: usize = 8 + 2 * MAX_OUTPUTS as usize + 8 * MAX_GATES as usize;
+pub const MAX_CIRCUIT: usize = 16 + 4 * MAX_OUTPUTS as usize + 16 * MAX_GATES as usize;
+
+/// The bytes of a work buffer for every circuit.
+pub const MAX_WORK: usize = Sizes {
+    inputs: MAX_INPUTS,
+    outputs: MAX_OUTPUTS,
+    gates: MAX_GATES,
+    ands: MAX_GATES,
+}
+.work_len();
+
+/// No call of the library takes more of the stack, in bytes.
+pub const MAX_STACK: usize = 96 * 1024;
 
 /// A run has 2, 4, 8 or so many parties.
 pub const MAX_PARTIES: u32 = 16;

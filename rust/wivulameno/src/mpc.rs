@@ -1,8 +1,9 @@
 //! Runs of a circuit by n parties, showings and replays: what a proof is made of,
 //! for tests and for a closer look. `include/wivulameno.h` has the parts and
-//! their lengths. A circuit is refused as [`circuit`](crate::circuit) says.
+//! their lengths. A circuit is refused as [`circuit`](crate::circuit) says, then a
+//! [`Work`] buffer that is too short with 6.
 
-use crate::{answer, Refusal};
+use crate::{answer, answer_burned, Refusal, Work};
 
 extern "C" {
     fn wv_prepare(
@@ -13,6 +14,8 @@ extern "C" {
         tapes_len: usize,
         corrections: *mut u8,
         corrections_len: usize,
+        work: *mut u8,
+        work_len: usize,
     ) -> u32;
     fn wv_run(
         circuit: *const u8,
@@ -30,6 +33,8 @@ extern "C" {
         rows_len: usize,
         y: *mut u8,
         y_len: usize,
+        work: *mut u8,
+        work_len: usize,
     ) -> u32;
     fn wv_show(
         circuit: *const u8,
@@ -49,6 +54,8 @@ extern "C" {
         masked_inputs_len: usize,
         row: *mut u8,
         row_len: usize,
+        work: *mut u8,
+        work_len: usize,
     ) -> u32;
     fn wv_replay(
         circuit: *const u8,
@@ -67,6 +74,8 @@ extern "C" {
         y_len: usize,
         rows: *mut u8,
         rows_len: usize,
+        work: *mut u8,
+        work_len: usize,
     ) -> u32;
 }
 
@@ -109,16 +118,18 @@ pub struct ShowingOut<'a> {
 }
 
 /// Fills `corrections` with those of the tapes of n parties. Refuses with 8, 6, 7
-/// after the circuit's own.
-pub fn prepare(
+/// after the circuit and the work buffer.
+pub fn prepare<B: AsMut<[u8]>>(
     circuit: &[u8],
     n: u32,
     tapes: &[u8],
     corrections: &mut [u8],
+    work: &mut Work<B>,
 ) -> Result<(), Refusal> {
-    // SAFETY: the slices are valid for their lengths and `corrections` overlaps
-    // no other.
-    answer(unsafe {
+    let work = work.bytes();
+    // SAFETY: the slices are valid for their lengths, and `corrections` and `work`
+    // overlap no other.
+    answer_burned(unsafe {
         wv_prepare(
             circuit.as_ptr(),
             circuit.len(),
@@ -127,23 +138,27 @@ pub fn prepare(
             tapes.len(),
             corrections.as_mut_ptr(),
             corrections.len(),
+            work.as_mut_ptr(),
+            work.len(),
         )
     })
 }
 
 /// Runs the circuit for `witness` by n parties, with the corrections as lent.
-/// Refuses with 8, 6, 7 after the circuit's own.
-pub fn run(
+/// Refuses with 8, 6, 7 after the circuit and the work buffer.
+pub fn run<B: AsMut<[u8]>>(
     circuit: &[u8],
     n: u32,
     witness: &[u8],
     tapes: &[u8],
     corrections: &[u8],
     out: RunOut,
+    work: &mut Work<B>,
 ) -> Result<(), Refusal> {
-    // SAFETY: the slices are valid for their lengths and no part of `out`
-    // overlaps another.
-    answer(unsafe {
+    let work = work.bytes();
+    // SAFETY: the slices are valid for their lengths, and `work` and the parts of
+    // `out` overlap no other.
+    answer_burned(unsafe {
         wv_run(
             circuit.as_ptr(),
             circuit.len(),
@@ -160,13 +175,16 @@ pub fn run(
             out.rows.len(),
             out.y.as_mut_ptr(),
             out.y.len(),
+            work.as_mut_ptr(),
+            work.len(),
         )
     })
 }
 
 /// Fills `out` with the showing that hides party p, cut after `cut` gates.
-/// Refuses with 8, 9, 6, 7 after the circuit's own.
-pub fn show(
+/// Refuses with 8, 9, 6, 7 after the circuit and the work buffer.
+#[allow(clippy::too_many_arguments)]
+pub fn show<B: AsMut<[u8]>>(
     circuit: &[u8],
     n: u32,
     p: u32,
@@ -174,10 +192,12 @@ pub fn show(
     witness: &[u8],
     tapes: &[u8],
     out: ShowingOut,
+    work: &mut Work<B>,
 ) -> Result<(), Refusal> {
-    // SAFETY: the slices are valid for their lengths and no part of `out`
-    // overlaps another.
-    answer(unsafe {
+    let work = work.bytes();
+    // SAFETY: the slices are valid for their lengths, and `work` and the parts of
+    // `out` overlap no other.
+    answer_burned(unsafe {
         wv_show(
             circuit.as_ptr(),
             circuit.len(),
@@ -196,22 +216,27 @@ pub fn show(
             out.masked_inputs.len(),
             out.row.as_mut_ptr(),
             out.row.len(),
+            work.as_mut_ptr(),
+            work.len(),
         )
     })
 }
 
 /// Fills `rows` with the broadcasts of all parties in the run that is shown,
-/// whose output must be `y`. Refuses with 8, 9, 6, 7, 10 after the circuit's own.
-pub fn replay(
+/// whose output must be `y`. Refuses with 8, 9, 6, 7, 10 after the circuit and the
+/// work buffer.
+pub fn replay<B: AsMut<[u8]>>(
     circuit: &[u8],
     n: u32,
     p: u32,
     showing: Showing,
     y: &[u8],
     rows: &mut [u8],
+    work: &mut Work<B>,
 ) -> Result<(), Refusal> {
-    // SAFETY: the slices are valid for their lengths and `rows` overlaps no
-    // other.
+    let work = work.bytes();
+    // SAFETY: the slices are valid for their lengths, and `rows` and `work` overlap
+    // no other.
     answer(unsafe {
         wv_replay(
             circuit.as_ptr(),
@@ -230,6 +255,8 @@ pub fn replay(
             y.len(),
             rows.as_mut_ptr(),
             rows.len(),
+            work.as_mut_ptr(),
+            work.len(),
         )
     })
 }

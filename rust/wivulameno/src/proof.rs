@@ -8,7 +8,7 @@ pub use counts::Counts;
 pub(crate) use length::oct;
 pub use length::{longest_proof, most_opened, proof_len};
 
-use crate::{answer, Refusal};
+use crate::{answer, answer_burned, Refusal, Work};
 
 extern "C" {
     fn wv_prove(
@@ -28,6 +28,8 @@ extern "C" {
         proof: *mut u8,
         proof_len: usize,
         written: *mut u64,
+        work: *mut u8,
+        work_len: usize,
     ) -> u32;
     fn wv_check(
         circuit: *const u8,
@@ -38,6 +40,8 @@ extern "C" {
         message_len: usize,
         proof: *const u8,
         proof_len: usize,
+        work: *mut u8,
+        work_len: usize,
     ) -> u32;
 }
 
@@ -56,22 +60,24 @@ pub struct Statement<'a> {
 }
 
 /// As [`prove`], with the length that the C function writes into `written`.
-pub fn prove_into(
+pub fn prove_into<B: AsMut<[u8]>>(
     statement: Statement,
     witness: &[u8],
     root: &[u8],
     counts: Counts,
     proof: &mut [u8],
     written: &mut u64,
+    work: &mut Work<B>,
 ) -> Result<(), Refusal> {
     let Statement {
         circuit,
         y,
         message,
     } = statement;
-    // SAFETY: the slices are valid for their lengths, and `proof` and `written`
-    // overlap no other.
-    answer(unsafe {
+    let work = work.bytes();
+    // SAFETY: the slices are valid for their lengths, and `proof`, `written` and
+    // `work` overlap no other.
+    answer_burned(unsafe {
         wv_prove(
             circuit.as_ptr(),
             circuit.len(),
@@ -89,6 +95,8 @@ pub fn prove_into(
             proof.as_mut_ptr(),
             proof.len(),
             written,
+            work.as_mut_ptr(),
+            work.len(),
         )
     })
 }
@@ -99,36 +107,43 @@ pub fn prove_into(
 /// The root is 16 random bytes, drawn from a shelf: a new root for each call,
 /// also after a refused one. Two proofs from one root can show the witness.
 ///
-/// Refuses with 1, 2, 3, 19, 20, 21 or 5 for the circuit, 8 for the counts, 6 for a
-/// length, 7 for an unused bit, 10 if the circuit does not give y for the witness.
-pub fn prove(
+/// Refuses with 1, 2, 3, 19, 20, 21 or 5 for the circuit, 6 for the work buffer, 8 for
+/// the counts, 6 for a length, 7 for an unused bit, 10 if the circuit does not give y
+/// for the witness.
+pub fn prove<B: AsMut<[u8]>>(
     statement: Statement,
     witness: &[u8],
     root: &[u8],
     counts: Counts,
     proof: &mut [u8],
+    work: &mut Work<B>,
 ) -> Result<usize, Refusal> {
     let mut written = 0;
-    prove_into(statement, witness, root, counts, proof, &mut written)?;
+    prove_into(statement, witness, root, counts, proof, &mut written, work)?;
     Ok(usize::try_from(written).expect("no more than the buffer"))
 }
 
 /// Is this a proof of the statement? Any legal counts are accepted: a caller who
 /// wants so many bits asks [`Counts::of_proof`] and [`Counts::soundness_bits`].
 ///
-/// Refuses with 1, 2, 3, 19, 20, 21 or 5 for the circuit, 6 or 7 for y and the
-/// message, 11 for what does not begin as a proof, and 12, 7, 10 or 13 for a proof
+/// Refuses with 1, 2, 3, 19, 20, 21 or 5 for the circuit, 6 for the work buffer, 6 or 7
+/// for y and the message, 11 for what does not begin as a proof, and 12, 7, 10 or 13 for a proof
 /// that does not hold.
 /// With another circuit file, y, message, M, tau or n than the prover's, the
 /// challenge is drawn anew, and a proof that does not answer it is refused with the
 /// first of these four that is met.
-pub fn check(statement: Statement, proof: &[u8]) -> Result<(), Refusal> {
+pub fn check<B: AsMut<[u8]>>(
+    statement: Statement,
+    proof: &[u8],
+    work: &mut Work<B>,
+) -> Result<(), Refusal> {
     let Statement {
         circuit,
         y,
         message,
     } = statement;
-    // SAFETY: the slices are valid for their lengths.
+    let work = work.bytes();
+    // SAFETY: the slices are valid for their lengths and `work` overlaps no other.
     answer(unsafe {
         wv_check(
             circuit.as_ptr(),
@@ -139,6 +154,8 @@ pub fn check(statement: Statement, proof: &[u8]) -> Result<(), Refusal> {
             message.len(),
             proof.as_ptr(),
             proof.len(),
+            work.as_mut_ptr(),
+            work.len(),
         )
     })
 }

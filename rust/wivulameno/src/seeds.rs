@@ -1,7 +1,7 @@
 //! Seed trees and the challenge: what a proof is made of, for tests and for a
 //! closer look.
 
-use crate::{answer, Refusal};
+use crate::{answer, answer_burned, Refusal};
 
 extern "C" {
     fn wv_expand(
@@ -62,7 +62,7 @@ extern "C" {
 /// and over a root it gives the [`masters`] of n instances.
 pub fn expand(j: u32, n: u32, master: &[u8], leaves: &mut [u8]) -> Result<(), Refusal> {
     // SAFETY: both slices are valid for their lengths and do not overlap.
-    answer(unsafe {
+    answer_burned(unsafe {
         wv_expand(
             j,
             n,
@@ -78,7 +78,7 @@ pub fn expand(j: u32, n: u32, master: &[u8], leaves: &mut [u8]) -> Result<(), Re
 /// level of the tree, top first. Refuses with 8, 9, 6.
 pub fn open(j: u32, n: u32, p: u32, master: &[u8], siblings: &mut [u8]) -> Result<(), Refusal> {
     // SAFETY: both slices are valid for their lengths and do not overlap.
-    answer(unsafe {
+    answer_burned(unsafe {
         wv_open(
             j,
             n,
@@ -97,7 +97,7 @@ pub fn open(j: u32, n: u32, p: u32, master: &[u8], siblings: &mut [u8]) -> Resul
 /// bytes or `masters` that are not of 16 M.
 pub fn masters(m: u32, root: &[u8], masters: &mut [u8]) -> Result<(), Refusal> {
     // SAFETY: both slices are valid for their lengths and do not overlap.
-    answer(unsafe {
+    answer_burned(unsafe {
         wv_masters(
             m,
             root.as_ptr(),
@@ -119,7 +119,7 @@ pub fn masters(m: u32, root: &[u8], masters: &mut [u8]) -> Result<(), Refusal> {
 /// node, or a list of an odd number of bytes.
 pub fn cover(m: u32, hidden: &[u8], root: &[u8], nodes: &mut [u8]) -> Result<(), Refusal> {
     // SAFETY: the slices are valid for their lengths and `nodes` overlaps no other.
-    answer(unsafe {
+    answer_burned(unsafe {
         wv_cover(
             m,
             hidden.as_ptr(),

@@ -2,7 +2,7 @@
 //! `include/wivulameno.h`; [`store`](crate::store) does it for a shelf in files.
 
 use crate::limits::{MAX_SLOTS, ROOT_LEN};
-use crate::{answer, Refusal};
+use crate::{answer_burned, Refusal};
 
 extern "C" {
     fn wv_stock(page: *mut u8, page_len: usize, root: *const u8, root_len: usize) -> u32;
@@ -21,13 +21,13 @@ pub const fn page_len(slots: u16) -> Option<usize> {
 /// that is not of 16 bytes, 17 if there is no room.
 pub fn stock(page: &mut [u8], root: &[u8]) -> Result<(), Refusal> {
     // SAFETY: both slices are valid for their lengths and do not overlap.
-    answer(unsafe { wv_stock(page.as_mut_ptr(), page.len(), root.as_ptr(), root.len()) })
+    answer_burned(unsafe { wv_stock(page.as_mut_ptr(), page.len(), root.as_ptr(), root.len()) })
 }
 
 /// As [`draw`], into `root`.
 pub fn draw_into(page: &mut [u8], count: u64, root: &mut [u8; ROOT_LEN]) -> Result<(), Refusal> {
     // SAFETY: both are valid for their lengths and do not overlap.
-    answer(unsafe { wv_draw(page.as_mut_ptr(), page.len(), count, root) })
+    answer_burned(unsafe { wv_draw(page.as_mut_ptr(), page.len(), count, root) })
 }
 
 /// Takes a root off the page; `count` is the count of the log, which is to count

@@ -1,12 +1,12 @@
 //! The limits are the library's: what is at a limit is accepted, what is beyond
 //! it is refused. And a proof has the length that is foretold.
 
-use wivulameno::circuit::{read, sizes, Sizes};
+use wivulameno::circuit::{read, sizes, upgrade, upgrade_to_vec, Sizes};
 use wivulameno::limits::*;
 use wivulameno::proof::{check, longest_proof, most_opened, proof_len, prove};
 use wivulameno::proof::{Counts, Statement};
 use wivulameno::seeds::{challenge, cover, expand, masters, ChallengeInput};
-use wivulameno::{sha3_256, shelf, Refusal};
+use wivulameno::{sha3_256, shelf, Refusal, Work};
 
 /// A circuit whose gates are INV, one after the other from wire 0; all outputs
 /// are wire 0.
@@ -17,14 +17,13 @@ fn circuit(inputs: u32, outputs: u32, gates: u32) -> Vec<u8> {
         let read = if slot == 1 { 0 } else { inputs + slot - 2 };
         words.extend([3, read, 0, (slot + 1) % (gates + 1)]);
     }
-    let bytes = words.iter().map(|&word| (word as u16).to_le_bytes());
-    bytes.flatten().collect()
+    words.iter().flat_map(|word| word.to_le_bytes()).collect()
 }
 
 #[test]
 fn of_circuits() {
     let largest = circuit(MAX_INPUTS, MAX_OUTPUTS, MAX_GATES);
-    assert_eq!(largest.len(), MAX_CIRCUIT);
+    assert_eq!((largest.len(), MAX_CIRCUIT), (1_601_040, 1_601_040));
     let expected = Sizes {
         inputs: MAX_INPUTS,
         outputs: MAX_OUTPUTS,
@@ -33,6 +32,7 @@ fn of_circuits() {
     };
     assert_eq!(sizes(&largest), Ok(expected));
     assert_eq!((expected.witness_len(), expected.y_len()), (64, 32));
+    assert_eq!((expected.circuit_len(), MAX_WORK), (1_601_040, 6_436_864));
     let beyond = [
         circuit(MAX_INPUTS + 1, 1, 0),
         circuit(1, MAX_OUTPUTS + 1, 0),
@@ -43,6 +43,50 @@ fn of_circuits() {
     for circuit in beyond {
         assert_eq!(read(&circuit), Err(Refusal::CircuitSizes));
         assert_eq!(sizes(&circuit), Err(Refusal::CircuitSizes));
+    }
+}
+
+/// The fields of a file that have 16 bits each: a kind and a zero byte are one of them.
+fn old(circuit: &[u8]) -> Vec<u8> {
+    let fields = circuit.chunks(4).flat_map(|field| [field[0], field[1]]);
+    fields.collect()
+}
+
+#[test]
+fn of_old_circuits() {
+    let new = circuit(MAX_INPUTS, MAX_OUTPUTS, 4096);
+    assert_eq!(upgrade_to_vec(&old(&new)), Ok(new.clone()));
+    let mut room = vec![0; new.len()];
+    assert_eq!(upgrade(&old(&new), &mut room[1..]), Err(Refusal::Length));
+    assert_eq!(upgrade(&old(&new), &mut room), Ok(new.len()));
+    let beyond = old(&circuit(1, 1, 4097));
+    assert_eq!(upgrade_to_vec(&beyond), Err(Refusal::CircuitSizes));
+}
+
+/// A work buffer at its least length, and one byte shorter.
+#[test]
+fn of_work() {
+    let counts = Counts { m: 2, tau: 1, n: 2 };
+    let mut proof = vec![0; MAX_PROOF];
+    for gates in [0, 1, MAX_GATES] {
+        let circuit = circuit(1, 1, gates);
+        let statement = Statement {
+            circuit: &circuit,
+            y: &[1],
+            message: b"",
+        };
+        let least = Work::for_circuit(&circuit).expect("a circuit").len();
+        assert_eq!(least, 64 * (1 + gates as usize) + 4096);
+        let mut bytes = vec![0x5a; least];
+        let mut short = Work::lent(&mut bytes[1..]);
+        let answer = prove(statement, &[1], &[1; 16], counts, &mut proof, &mut short);
+        assert_eq!(answer, Err(Refusal::Length));
+        assert!(bytes.iter().all(|&byte| byte == 0x5a));
+        let mut enough = Work::lent(&mut bytes);
+        let answer = prove(statement, &[1], &[1; 16], counts, &mut proof, &mut enough);
+        let len = answer.expect("no refusal");
+        assert_eq!(check(statement, &proof[..len], &mut enough), Ok(()));
+        assert!(bytes.iter().all(|&byte| byte == 0));
     }
 }
 
@@ -122,7 +166,15 @@ fn of_pages() {
 }
 
 /// Circuit K of the paper, with its one AND gate.
-const K: [u8; 18] = [2, 0, 1, 0, 1, 0, 1, 0, 2, 0, 2, 0, 0, 0, 1, 0, 0, 0];
+const K: [u8; 36] = [
+    2, 0, 0, 0, 1, 0, 0, 0, 1, 0, 0, 0, 1, 0, 0, 0, // I, O, G, head
+    2, 0, 0, 0, // the output
+    2, 0, 0, 0, 0, 0, 0, 0, 1, 0, 0, 0, 0, 0, 0, 0, // slot 1
+];
+
+fn work() -> Work {
+    Work::for_circuit(&K).expect("a circuit")
+}
 
 fn k(message: &[u8]) -> Statement<'_> {
     Statement {
@@ -135,7 +187,11 @@ fn k(message: &[u8]) -> Statement<'_> {
 #[test]
 fn of_messages() {
     let counts = Counts { m: 4, tau: 1, n: 2 };
-    let prove = |message: &[u8]| prove(k(message), &[3], &[1; ROOT_LEN], counts, &mut [0; 233]);
+    let mut work = work();
+    let mut prove = |message: &[u8]| {
+        let proof = &mut [0; 233];
+        prove(k(message), &[3], &[1; ROOT_LEN], counts, proof, &mut work)
+    };
     assert!(prove(&[7; MAX_MESSAGE]).is_ok());
     assert_eq!(prove(&[7; MAX_MESSAGE + 1]), Err(Refusal::Length));
 }
@@ -169,17 +225,20 @@ fn opened(m: u32, chosen: &[u8]) -> u32 {
 #[test]
 fn lengths_of_proofs() {
     let sizes = sizes(&K).expect("a circuit");
+    let mut work = work();
     for (m, tau, n) in [(4, 1, 2), (9, 8, 4), (20, 7, 8), (12, 11, 16)] {
         let counts = Counts { m, tau, n };
         let longest = longest_proof(sizes, counts).expect("legal counts");
         for seed in 0..8 {
             let (root, message) = ([seed; ROOT_LEN], [seed]);
             let mut proof = vec![0; longest];
-            let short = prove(k(&message), &[3], &root, counts, &mut proof[1..]);
+            let mut prove =
+                |proof: &mut [u8]| prove(k(&message), &[3], &root, counts, proof, &mut work);
+            let short = prove(&mut proof[1..]);
             assert_eq!(short, Err(Refusal::Length), "{counts:?}");
-            let len = prove(k(&message), &[3], &root, counts, &mut proof).expect("room");
+            let len = prove(&mut proof).expect("room");
             proof.truncate(len);
-            assert_eq!(check(k(&message), &proof), Ok(()));
+            assert_eq!(check(k(&message), &proof, &mut work), Ok(()));
             assert_eq!(Counts::of_proof(&proof), Some(counts));
             let chosen = chosen(&proof, counts, k(&message));
             let is_last = |instance: &&[u8]| u32::from(instance[2]) == n - 1;
@@ -195,6 +254,7 @@ fn lengths_of_proofs() {
 /// `Counts::of_proof` is `None` exactly where a check is refused with 11.
 #[test]
 fn headers_of_proofs() {
+    let mut work = work();
     let fields = [0, 1, 2, 3, 4, 8, 16, 32, 255];
     for m in [[0, 0], [2, 0], [0, 2], [1, 2], [255, 255]] {
         for (tau, n) in fields.iter().flat_map(|&tau| fields.map(|n| (tau, n))) {
@@ -202,7 +262,7 @@ fn headers_of_proofs() {
                 let mut proof = [5; 38];
                 proof[..6].copy_from_slice(&[m[0], m[1], tau, 0, n, zero]);
                 let proof = &proof[..len];
-                let refused = check(k(b""), proof) == Err(Refusal::ProofHeader);
+                let refused = check(k(b""), proof, &mut work) == Err(Refusal::ProofHeader);
                 assert_eq!(Counts::of_proof(proof).is_none(), refused, "{proof:?}");
             }
         }

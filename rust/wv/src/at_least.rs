@@ -1,13 +1,14 @@
 //! Makes circuits that compare two numbers.
 
-const XOR: u8 = 1;
-const AND: u8 = 2;
-const INV: u8 = 3;
+const XOR: u32 = 1;
+const AND: u32 = 2;
+const INV: u32 = 3;
 
 /// A circuit whose witness is a number a and then a number b, of `width` bits
 /// each, lowest bit first. Output 0 is 1 if a is at least b. If `telling`, the
 /// bits of b follow as outputs, so that the claimed output says which b.
 pub fn at_least(width: u16, telling: bool) -> Vec<u8> {
+    let width = width.into();
     let (gates, answer) = gates(width);
     let mut outputs = vec![answer];
     if telling {
@@ -21,11 +22,11 @@ pub fn at_least(width: u16, telling: bool) -> Vec<u8> {
 /// The borrow of a - b goes from bit to bit: where the bits differ it becomes
 /// that of b, else it stays. That is one AND for each bit:
 /// borrow ^ ((a ^ b) & (b ^ borrow)).
-fn gates(width: u16) -> (Vec<(u8, u16, u16)>, u16) {
+fn gates(width: u32) -> (Vec<(u32, u32, u32)>, u32) {
     let mut gates = vec![];
     let mut gate = |kind, a, b| {
         gates.push((kind, a, b));
-        2 * width + gates.len() as u16 - 1
+        2 * width + gates.len() as u32 - 1
     };
     let differ = gate(XOR, 0, width);
     let mut borrow = gate(AND, differ, width);
@@ -41,12 +42,12 @@ fn gates(width: u16) -> (Vec<(u8, u16, u16)>, u16) {
 }
 
 /// The circuit file of gates that stand in chain order.
-fn file(inputs: u16, outputs: &[u16], gates: &[(u8, u16, u16)]) -> Vec<u8> {
-    let mut words = vec![inputs, outputs.len() as u16, gates.len() as u16, 1];
+fn file(inputs: u32, outputs: &[u32], gates: &[(u32, u32, u32)]) -> Vec<u8> {
+    let mut words = vec![inputs, outputs.len() as u32, gates.len() as u32, 1];
     words.extend(outputs);
-    for (slot, (kind, a, b)) in gates.iter().enumerate() {
+    for (slot, &(kind, a, b)) in gates.iter().enumerate() {
         let next = (slot + 2) % (gates.len() + 1);
-        words.extend([u16::from(*kind), *a, *b, next as u16]);
+        words.extend([kind, a, b, next as u32]);
     }
     words.iter().flat_map(|word| word.to_le_bytes()).collect()
 }

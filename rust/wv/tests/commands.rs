@@ -7,7 +7,8 @@ use common::{covers16, covers16_row, Folder, Y};
 use std::fs;
 
 /// Marked case m1: two inputs, one output, one gate, which is an AND.
-const K: &str = "020001000100010002000200000001000000";
+const K: &str = "0200000001000000010000000100000002000000\
+                 02000000000000000100000000000000";
 
 #[test]
 fn help_for_all() {
@@ -62,6 +63,8 @@ fn the_examples_work() {
     folder.write("covers16.circuit", &covers16());
     folder.write("covers16.row", &covers16_row());
     folder.write("and.txt", b"1 3\n2 1 1\n1 1\n\n2 1 0 1 2 AND\n");
+    let old_k = [2, 0, 1, 0, 1, 0, 1, 0, 2, 0, 2, 0, 0, 0, 1, 0, 0, 0];
+    folder.write("old.circuit", &old_k);
     for command in wv::commands::ALL {
         let line = command.example.replace("/var/lib/depot/", "");
         let ended = folder.sh(&line);
@@ -156,6 +159,14 @@ fn the_sizes_of_a_circuit() {
     );
 }
 
+/// `K` with another field, of eight digits.
+fn changed(place: usize, field: u32) -> String {
+    let digits = field.to_le_bytes().map(|byte| format!("{byte:02x}"));
+    let mut text = K.to_string();
+    text.replace_range(8 * place..8 * place + 8, &digits.concat());
+    text
+}
+
 #[test]
 fn refused_circuits() {
     let folder = Folder::with_circuit("refused_circuits");
@@ -166,9 +177,9 @@ fn refused_circuits() {
     folder.wv("circuit cut").refused(1, "cut");
     folder.wv("evaluate cut row").refused(1, "cut");
     let k = |changed: &str| folder.wv(&format!("circuit hex:{changed}"));
-    k("000001000100010002000200000001000000").refused(2, "the typed circuit");
-    k("020001000100010002000400000001000000").refused(3, "");
-    k("020001000100010002000200000002000000").refused(5, "");
+    k(&changed(0, 0)).refused(2, "the typed circuit");
+    k(&changed(5, 4)).refused(3, "");
+    k(&changed(7, 2)).refused(5, "");
 }
 
 /// The slot, and what to do, in the sentence of every command that reads a circuit.
@@ -177,36 +188,32 @@ fn refused_chains() {
     let folder = Folder::with_shelf("refused_chains");
     let known = [
         (
-            "0200",
-            "0000",
+            2,
+            0,
             19,
             0,
             "the head leads beyond the last slot: set it to",
         ),
         (
-            "0100",
-            "0200",
+            1,
+            2,
             19,
             1,
             "the link of slot 1 leads beyond the last slot: set it to",
         ),
+        (0, 0, 20, 0, "the head is 0, but there are gates: set it to"),
         (
-            "0000",
-            "0000",
-            20,
-            0,
-            "the head is 0, but there are gates: set it to",
-        ),
-        (
-            "0100",
-            "0100",
+            1,
+            1,
             21,
             1,
             "the link of slot 1 goes on after as many slots as there are: set it to 0",
         ),
     ];
     for (head, link, number, slot, told) in known {
-        let circuit = format!("hex:020001000100{head}0200020000000100{link}");
+        let head = &changed(3, head)[..64];
+        let link = &changed(8, link)[64..];
+        let circuit = format!("hex:{head}{link}");
         let told = format!("the typed circuit: {told}");
         folder
             .wv(&format!("circuit {circuit}"))
@@ -225,7 +232,8 @@ fn refused_chains() {
         assert!(json.text().starts_with(&start), "{json:?}");
     }
     // Two gates, of which the chain leaves out the second.
-    let two = "circuit hex:0100010002000100000003000000000000000300000000000000";
+    let two = "circuit hex:0100000001000000020000000100000000000000\
+               0300000000000000000000000000000003000000000000000000000000000000";
     let told = "the link of slot 1 ends the chain, but a slot is left out: set the link to";
     folder.wv(two).refused(20, told);
     assert!(!folder.has("proof"));

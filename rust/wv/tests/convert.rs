@@ -7,7 +7,11 @@ use common::Folder;
 
 /// Circuit K of the paper as text, and its file.
 const TEXT: &str = "1 3\n2 1 1\n1 1\n\n2 1 0 1 2 AND\n";
-const K: [u8; 18] = [2, 0, 1, 0, 1, 0, 1, 0, 2, 0, 2, 0, 0, 0, 1, 0, 0, 0];
+const K: [u8; 36] = [
+    2, 0, 0, 0, 1, 0, 0, 0, 1, 0, 0, 0, 1, 0, 0, 0, // I, O, G, head
+    2, 0, 0, 0, // the output
+    2, 0, 0, 0, 0, 0, 0, 0, 1, 0, 0, 0, 0, 0, 0, 0, // slot 1
+];
 
 const CONVERT: &str = "convert and.txt --out and.circuit";
 
@@ -21,7 +25,7 @@ fn folder(name: &str, text: &str) -> Folder {
 #[test]
 fn a_text_is_converted() {
     let folder = folder("convert", TEXT);
-    let told = "converted to a circuit of 18 bytes\n";
+    let told = "converted to a circuit of 36 bytes\n";
     folder.wv(CONVERT).says(told);
     assert_eq!(folder.read("and.circuit"), K);
     folder
@@ -71,7 +75,7 @@ fn refused_texts() {
             23,
             "and.txt: line 6\n",
         ),
-        ("4097 3\n", 24, "and.txt: line 1\n"),
+        ("100001 3\n", 24, "and.txt: line 1\n"),
         ("\n1 514\n1 513\n", 24, "and.txt: line 3\n"),
         ("1 3\n2 1 1\n0\n", 24, "and.txt: line 3\n"),
     ];

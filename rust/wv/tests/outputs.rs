@@ -395,9 +395,9 @@ fn a_sticky_folder() {
     assert_eq!(fs::read_dir(folder.path("tmp")).unwrap().count(), 1);
 }
 
-/// 512 inputs and 4,096 AND gates, which take long: 8 + 2 + 8 * 4096 bytes.
+/// 512 inputs and 4,096 AND gates, which take long.
 fn long_circuit() -> Vec<u8> {
-    let mut words = vec![512_u16, 1, 4096, 1, 0];
+    let mut words = vec![512_u32, 1, 4096, 1, 0];
     for slot in 1..=4096 {
         words.extend([2, 0, 1, (slot + 1) % 4097]);
     }

@@ -45,7 +45,9 @@ impl Folder {
         fs::create_dir_all(&folder).expect("a folder");
         let folder = fs::canonicalize(folder).expect("a folder");
         // Circuit K of document 01, and a row for which it gives 1.
-        let k = [2, 0, 1, 0, 1, 0, 1, 0, 2, 0, 2, 0, 0, 0, 1, 0, 0, 0];
+        let k = [2_u32, 1, 1, 1, 2, 2, 0, 1, 0]
+            .map(u32::to_le_bytes)
+            .concat();
         fs::write(folder.join("k.circuit"), k).expect("a file");
         fs::write(folder.join("k.row"), [3]).expect("a file");
         Folder(folder)

@@ -111,7 +111,7 @@ fn refused_proofs() {
     assert_does_not_hold(&check("hex:f40100", "order 7", &proof));
     // With the 17 outputs in another order it is another circuit of the same sizes.
     let mut circuit = covers16();
-    circuit[8..8 + 2 * 17].rotate_left(2);
+    circuit[16..16 + 4 * 17].rotate_left(4);
     folder.write("other.circuit", &circuit);
     let line = CHECK.replace("covers16", "other");
     assert_does_not_hold(&folder.wv(&format!("{line} {ORDER} --bits 0")));

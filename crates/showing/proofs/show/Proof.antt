@@ -1,12 +1,10 @@
 -- `showing::show` meets its contract.
 -- Assumes nothing.
-use mathlib.Core.Path.{sym, _∙_}
-use Prim.Native.Nat.{ℕ}
+use mathlib.Core.Path.{refl}
 use borrow.Author.Needs.{needs}
-use lib.ListN.{length-replicate}
 use Rattle.mpc.proofs.Opened.{opened}
-use Rattle.mpc.proofs.Places.{own-room}
-use Rattle.showing.proofs.Shows.{show-refused, show-read}
+use Rattle.mpc.proofs.Lent.{known-few, work-long}
+use Rattle.showing.proofs.Shows.{show-refused, show-short, show-left}
 use Rattle.showing.proofs.show.Statement.{statement}
 use Rattle.showing.proofs.show.Tie as tie
 
@@ -19,31 +17,38 @@ enum-known-answer c = search needs
 enum-known-answer-2 : tie.Need-enum-known-answer-2
 enum-known-answer-2 c = search needs
 
-slice-aggregate-show-lent : tie.Need-slice-aggregate-show-lent
-slice-aggregate-show-lent c = sym (length-replicate {A = ℕ} 299008 0)
-
-show-lent-requires : tie.Need-show-lent-requires
-show-lent-requires c κs =
-    let k = opened _ _ _ (c .before .before .before .before .before .before .answer2 .given .1) (c .before .before .before .before .before .before .before .before .read .ensures) in
-    (k, own-room _ _ k)
+work-bytes-requires : tie.Need-work-bytes-requires
+work-bytes-requires c κs = known-few _ _ (opened _ _ _ (c .before .answer2 .given .1) (c .before .before .before .read .ensures))
 
 returns : tie.Need-returns
-returns c = show-refused _ _ _ _ _ _ _ _ (c .before .before .before .read .ensures) _ (c .before .answer .given .1)
+returns c = show-short _ _ _ _ _ _ _ _ _ (c .before .before .before .before .before .read .ensures) _ (c .before .before .before .answer2 .given .1) _ (c .before .work-bytes .ensures) (c .if1 .taken)
 
-same-length : tie.Need-same-length
-same-length c = c .before .before .before .before .before .before .before .before .before .show-lent .kept .1 .1 .1 .1 .1 .1 .1 .0
+show-lent-requires : tie.Need-show-lent-requires
+show-lent-requires c κs = (opened _ _ _ (c .before .before .before .before .before .before .before .before .answer2 .given .1) (c .before .before .before .before .before .before .before .before .before .before .read .ensures), work-long _ _ _ (c .before .before .before .before .before .before .work-bytes .ensures) (c .before .before .before .before .before .if1 .left))
 
-same-length-2 : tie.Need-same-length-2
-same-length-2 c = c .before .before .before .before .before .before .before .before .before .show-lent .kept .1 .1 .1 .1 .1 .1 .1 .1 .0
-
-same-length-3 : tie.Need-same-length-3
-same-length-3 c = c .before .before .before .before .before .before .before .before .before .show-lent .kept .1 .1 .1 .1 .1 .1 .1 .1 .1 .0
-
-same-length-4 : tie.Need-same-length-4
-same-length-4 c = c .before .before .before .before .before .before .before .before .before .show-lent .kept .1 .1 .1 .1 .1 .1 .1 .1 .1 .1 .0
+clear-after-requires : tie.Need-clear-after-requires
+clear-after-requires c κs = search needs
 
 returns-2 : tie.Need-returns-2
-returns-2 c = c .before .before .before .before .before .before .before .before .before .show-lent .ensures ∙ show-read _ _ _ _ _ _ _ _ (c .before .before .before .before .before .before .before .before .before .before .before .before .before .before .before .before .before .before .read .ensures) _ (c .before .before .before .before .before .before .before .before .before .before .before .before .before .before .before .before .answer2 .given .1)
+returns-2 c = show-refused _ _ _ _ _ _ _ _ _ (c .before .before .before .read .ensures) _ (c .before .answer .given .1)
+
+same-length : tie.Need-same-length
+same-length c = search needs
+
+same-length-2 : tie.Need-same-length-2
+same-length-2 c = search needs
+
+same-length-3 : tie.Need-same-length-3
+same-length-3 c = search needs
+
+same-length-4 : tie.Need-same-length-4
+same-length-4 c = search needs
+
+same-length-5 : tie.Need-same-length-5
+same-length-5 c = search needs
+
+returns-3 : tie.Need-returns-3
+returns-3 c = show-left _ _ _ _ _ _ _ _ _ (c .before .before .before .before .before .before .before .before .before .before .before .before .before .before .before .before .before .before .before .before .before .before .before .before .before .read .ensures) _ (c .before .before .before .before .before .before .before .before .before .before .before .before .before .before .before .before .before .before .before .before .before .before .before .answer2 .given .1) _ (c .before .before .before .before .before .before .before .before .before .before .before .before .before .before .before .before .before .before .before .before .before .work-bytes .ensures) (c .before .before .before .before .before .before .before .before .before .before .before .before .before .before .before .before .before .before .before .before .if1 .left) (c .before .before .before .before .before .before .before .before .before .before .before .before .before .before .show-lent .result) _ _ _ _ (c .before .before .before .before .before .before .before .before .before .before .before .before .before .before .show-lent .ensures) _ _ _ (c .before .before .clear-after .ensures) refl (c .before .before .before .before .before .before .before .before .before .before .before .before .before .before .show-lent .kept .1 .1 .1 .1 .1 .1 .1 .1 .1 .1 .1 .0)
 
 pub show-spec : {M : Type 1} → statement M
 show-spec =
@@ -52,11 +57,14 @@ show-spec =
     read-requires
     enum-known-answer
     enum-known-answer-2
-    slice-aggregate-show-lent
-    show-lent-requires
+    work-bytes-requires
     returns
+    show-lent-requires
+    clear-after-requires
+    returns-2
     same-length
     same-length-2
     same-length-3
     same-length-4
-    returns-2)
+    same-length-5
+    returns-3)

@@ -17,11 +17,27 @@ enum-known-a c = search needs
 number-requires : tie.Need-number-requires
 number-requires c κs = search needs
 
+same-length : tie.Need-same-length
+same-length c = search needs
+
 returns : tie.Need-returns
-returns c = check-done _ _ (c .enum-told .given .1) (c .before .before .check .ensures)
+returns c = check-done _ _ _ (c .enum-told .given .1) (c .before .before .before .before .check .ensures)
+
+same-length-2 : tie.Need-same-length-2
+same-length-2 c = search needs
 
 returns-2 : tie.Need-returns-2
-returns-2 c = check-refused _ _ _ _ (c .before .before .a .given .1) (c .before .before .before .before .check .ensures) (c .number .ensures)
+returns-2 c = check-refused _ _ _ _ _ (c .before .before .a .given .1) (c .before .before .before .before .before .before .check .ensures) (c .number .ensures)
 
 pub wv-check-spec : {M : Type 1} → statement M
-wv-check-spec = tie.close (tie.spec check-requires enum-told enum-known-a number-requires returns returns-2)
+wv-check-spec =
+    tie.close
+    (tie.spec
+    check-requires
+    enum-told
+    enum-known-a
+    number-requires
+    same-length
+    returns
+    same-length-2
+    returns-2)

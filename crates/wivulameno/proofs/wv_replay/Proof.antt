@@ -20,14 +20,20 @@ number-requires c κs = search needs
 same-length : tie.Need-same-length
 same-length c = search needs
 
-returns : tie.Need-returns
-returns c = mpc-done _ _ _ (c .enum-told .given .1) (c .before .before .before .before .replay .ensures)
-
 same-length-2 : tie.Need-same-length-2
 same-length-2 c = search needs
 
+returns : tie.Need-returns
+returns c = mpc-done _ _ _ (c .enum-told .given .1) (c .before .before .before .before .before .before .replay .ensures)
+
+same-length-3 : tie.Need-same-length-3
+same-length-3 c = search needs
+
+same-length-4 : tie.Need-same-length-4
+same-length-4 c = search needs
+
 returns-2 : tie.Need-returns-2
-returns-2 c = mpc-refused _ _ _ _ _ (c .before .before .a .given .1) (c .before .before .before .before .before .before .replay .ensures) (c .number .ensures)
+returns-2 c = mpc-refused _ _ _ _ _ (c .before .before .a .given .1) (c .before .before .before .before .before .before .before .before .replay .ensures) (c .number .ensures)
 
 pub wv-replay-spec : {M : Type 1} → statement M
 wv-replay-spec =
@@ -38,6 +44,8 @@ wv-replay-spec =
     enum-known-a
     number-requires
     same-length
-    returns
     same-length-2
+    returns
+    same-length-3
+    same-length-4
     returns-2)

@@ -20,9 +20,6 @@ number-requires c κs = search needs
 same-length : tie.Need-same-length
 same-length c = search needs
 
-returns : tie.Need-returns
-returns c = mpc-done _ _ _ (c .enum-told .given .1) (c .before .before .before .before .before .before .before .before .run .ensures)
-
 same-length-2 : tie.Need-same-length-2
 same-length-2 c = search needs
 
@@ -32,14 +29,23 @@ same-length-3 c = search needs
 same-length-4 : tie.Need-same-length-4
 same-length-4 c = search needs
 
+returns : tie.Need-returns
+returns c = mpc-done _ _ _ (c .enum-told .given .1) (c .before .before .before .before .before .before .before .before .before .before .run .ensures)
+
 same-length-5 : tie.Need-same-length-5
 same-length-5 c = search needs
 
 same-length-6 : tie.Need-same-length-6
 same-length-6 c = search needs
 
+same-length-7 : tie.Need-same-length-7
+same-length-7 c = search needs
+
+same-length-8 : tie.Need-same-length-8
+same-length-8 c = search needs
+
 returns-2 : tie.Need-returns-2
-returns-2 c = mpc-refused _ _ _ _ _ (c .before .before .a .given .1) (c .before .before .before .before .before .before .before .before .before .before .run .ensures) (c .number .ensures)
+returns-2 c = mpc-refused _ _ _ _ _ (c .before .before .a .given .1) (c .before .before .before .before .before .before .before .before .before .before .before .before .run .ensures) (c .number .ensures)
 
 pub wv-run-spec : {M : Type 1} → statement M
 wv-run-spec =
@@ -52,8 +58,10 @@ wv-run-spec =
     same-length
     same-length-2
     same-length-3
-    returns
     same-length-4
+    returns
     same-length-5
     same-length-6
+    same-length-7
+    same-length-8
     returns-2)

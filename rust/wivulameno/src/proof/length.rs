@@ -136,10 +136,10 @@ mod tests {
         }
     }
 
-    /// By hand: 38 + 48 + 511 (64 + 512 + 32 + 64 + 544).
+    /// By hand: 38 + 48 + 511 (64 + 12,500 + 32 + 64 + 12,532).
     #[test]
     fn the_longest_of_all() {
-        assert_eq!(MAX_PROOF, 621_462);
+        assert_eq!(MAX_PROOF, 12_873_198);
     }
 
     #[test]

@@ -32,8 +32,8 @@ fn main() -> ExitCode {
     }
 }
 
-/// The circuits that are measured: the example of `make run`, and all limits at
-/// once.
+/// The circuits that are measured: the example of `make run`, and one of 4,096 AND
+/// gates.
 fn circuits() -> [(&'static str, Vec<u8>); 2] {
     [("covers16", at_least(16, true)), ("worst", WORST.to_vec())]
 }
@@ -74,6 +74,7 @@ mod measuring {
     use std::time::Instant;
     use wivulameno::circuit::evaluate;
     use wivulameno::proof::{check, prove, Counts, Statement};
+    use wivulameno::Work;
     use wv::cost::{data_head, room, Measured, FAMILIES};
 
     const ROUNDS: usize = 20;
@@ -108,12 +109,15 @@ mod measuring {
             message: b"order 4711",
         };
         let mut proof = vec![0; room(sizes, counts)];
+        let mut work = Work::for_sizes(sizes);
         let mut bytes = 0;
         let prove_time = best(|| {
-            let made = prove(statement, &witness, &[0x5a; 16], counts, &mut proof);
+            let root = &[0x5a; 16];
+            let made = prove(statement, &witness, root, counts, &mut proof, &mut work);
             bytes = made.expect("no refusal");
         });
-        let check_time = best(|| check(statement, &proof[..bytes]).expect("accepted"));
+        let proof = &proof[..bytes];
+        let check_time = best(|| check(statement, proof, &mut work).expect("accepted"));
         Measured {
             circuit: name.into(),
             counts,

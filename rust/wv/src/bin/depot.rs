@@ -136,6 +136,7 @@ mod proof {
     use std::time::Instant;
     use wivulameno::circuit::sizes;
     use wivulameno::proof::{check, prove, Counts, Statement};
+    use wivulameno::Work;
     use wv::cost::{bits_shown, room, USUAL};
 
     const MESSAGE: &[u8] = b"order 4711 of 15 November";
@@ -150,27 +151,35 @@ mod proof {
         println!("The proof, with M {m}, tau {tau}, n {n}.");
         let mut proof = vec![0; room(sizes(&example.circuit)?, USUAL)];
         let start = Instant::now();
-        let len = prove(statement, &example.witness, root, USUAL, &mut proof)?;
+        let mut work = Work::for_circuit(&example.circuit)?;
+        let len = prove(
+            statement,
+            &example.witness,
+            root,
+            USUAL,
+            &mut proof,
+            &mut work,
+        )?;
         println!("  made in {}", milliseconds(start));
         proof.truncate(len);
         let path = folder.join("order.proof");
         fs::write(&path, &proof)?;
         println!("  {}: {len} bytes", path.display());
         println!("  soundness {} bits\n", bits_shown(USUAL));
-        check_as_buyer(statement, &fs::read(path)?)
+        check_as_buyer(statement, &fs::read(path)?, &mut work)
     }
 
-    fn check_as_buyer(statement: Statement, proof: &[u8]) -> Done {
+    fn check_as_buyer(statement: Statement, proof: &[u8], work: &mut Work) -> Done {
         println!("The buyer's end has the circuit, the output, the message and the proof.");
         let start = Instant::now();
-        check(statement, proof)?;
+        check(statement, proof, work)?;
         println!("  accepted in {}", milliseconds(start));
         let message = b"order 4712 of 15 November";
         let other = Statement {
             message,
             ..statement
         };
-        match check(other, proof) {
+        match check(other, proof, work) {
             Err(refusal) => println!("  for another message: {refusal}\n"),
             Ok(()) => return Err("accepted for another message".into()),
         }

@@ -9,10 +9,10 @@ pub fn fault_slot(refusal: Refusal, bytes: &[u8]) -> Option<u32> {
     refusal.is_of_chain().then(|| circuit::fault_slot(bytes))
 }
 
-/// What is wrong with the chain and what to do.
-pub fn advice(refusal: Refusal, bytes: &[u8]) -> Option<String> {
-    let slot = fault_slot(refusal, bytes)?;
+/// What is wrong with the chain and what to do, if the refusal is about it.
+pub fn advice(refusal: Refusal, slot: u32) -> Option<String> {
     let text = match (refusal, slot) {
+        _ if !refusal.is_of_chain() => return None,
         (Refusal::ChainBeyond, 0) => {
             "the head leads beyond the last slot: set it to the first slot of the chain, or to 0 \
              if there are no gates"

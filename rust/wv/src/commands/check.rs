@@ -10,7 +10,7 @@ use crate::json::Value;
 use crate::progress::Progress;
 use crate::report::Report;
 use wivulameno::proof::{self, Counts, Statement};
-use wivulameno::Refusal;
+use wivulameno::{Refusal, Work};
 
 /// The soundness that is asked for when nothing else is said.
 pub const BITS: f64 = 128.0;
@@ -96,7 +96,8 @@ impl Claim {
             message: &self.message.bytes,
         };
         let progress = Progress::start("checking");
-        let answer = proof::check(statement, &self.proof.bytes);
+        let mut work = Work::for_sizes(self.circuit.sizes);
+        let answer = proof::check(statement, &self.proof.bytes, &mut work);
         drop(progress);
         let failure = |refusal| Failure::Refused(refusal, self.cause(refusal));
         answer.map_err(failure)?;

@@ -25,6 +25,8 @@ chain, and tell the slot that holds the wrong link:
   20  a link is 0, and not every slot was visited
   21  a link is not 0 after as many slots as there are
 
+A file of the old form is refused with 1 or 2: `wv upgrade` converts it.
+
   --json  print an object with the keys inputs, outputs, gates, ands, refused
           and message; the last two are null when all is well. With 19, 20 and
           21 there is the key slot, which is 0 for the head
@@ -50,6 +52,13 @@ fn sizes(args: &Args, report: &mut Report) -> Result<(), Failure> {
     Ok(())
 }
 
+/// What to do with a file of the old form, which is refused with 1 or 2.
+fn old_form(refusal: Refusal, bytes: &[u8]) -> Option<String> {
+    let can_be = matches!(refusal, Refusal::CircuitLength | Refusal::CircuitSizes);
+    let is_old = can_be && circuit::upgrade_to_vec(bytes).is_ok();
+    is_old.then(|| "it is a circuit of the old form: `wv upgrade` makes it a new one".into())
+}
+
 /// A circuit that the library reads.
 pub struct Circuit {
     input: Input,
@@ -66,7 +75,9 @@ impl Circuit {
     fn of(input: Input) -> Result<Circuit, Failure> {
         let failure = |refusal| {
             let name = input.name_or("the typed circuit");
-            let cause = match chain::advice(refusal, &input.bytes) {
+            let slot = circuit::fault_slot(&input.bytes);
+            let advice = chain::advice(refusal, slot).or_else(|| old_form(refusal, &input.bytes));
+            let cause = match advice {
                 Some(advice) => format!("{name}: {advice}"),
                 None => name.to_string(),
             };

@@ -31,7 +31,7 @@ Refused, whichever comes first in the order of the lines:
 
   22  a line that breaks the rules, one too many, or one that is missing
   23  a gate of another kind
-  24  more than 4096 gates, 512 inputs or 256 outputs, or no input or output
+  24  more than 100000 gates, 512 inputs or 256 outputs, or no input or output
 
 The number of the line is told, but for a 22 in the first three lines or at the
 text's end.
@@ -271,7 +271,7 @@ mod tests {
         assert_eq!(place(TEXT), None);
         let known = [
             ("3 5\n", "3 05\n", Place::Header),
-            ("3 5\n", "4097 5\n", Place::Line(1)),
+            ("3 5\n", "100001 5\n", Place::Line(1)),
             ("3 5\n1 2\n", "3 516\n1 513\n", Place::Line(2)),
             ("1 2\n", "1 3\n", Place::Header),
             ("\n1 1\n", "\n1 0\n", Place::Line(4)),

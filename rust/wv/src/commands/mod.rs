@@ -8,6 +8,7 @@ mod convert;
 mod files;
 mod prove;
 mod shelf;
+mod upgrade;
 
 use crate::args::Args;
 use crate::failure::Failure;
@@ -40,6 +41,7 @@ pub const ALL: &[Command] = &[
     circuit::CIRCUIT,
     circuit::EVALUATE,
     convert::CONVERT,
+    upgrade::UPGRADE,
     shelf::NEW,
     shelf::STOCK,
     shelf::STATUS,

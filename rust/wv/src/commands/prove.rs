@@ -13,7 +13,7 @@ use crate::output::{Taken, Target};
 use crate::progress::Progress;
 use crate::report::Report;
 use wivulameno::proof::{self, longest_proof, Counts, Statement};
-use wivulameno::Refusal;
+use wivulameno::{Refusal, Work};
 
 pub const PROVE: Command = Command {
     name: "prove",
@@ -80,10 +80,11 @@ fn prove(args: &Args, report: &mut Report) -> Result<(), Failure> {
     files.spare(&taken)?;
     taken.extend(files.taken());
     let target = Target::find(out, &taken)?;
-    wish.rehearse()?;
+    let mut work = Work::for_sizes(wish.circuit.sizes);
+    wish.rehearse(&mut work)?;
     wish.warn();
     let root = draw(&files)?;
-    let proof = wish.proof(&root)?;
+    let proof = wish.proof(&root, &mut work)?;
     let leaves_standard_output = target.leaves_standard_output();
     target.write(&proof)?;
     if leaves_standard_output {
@@ -155,8 +156,15 @@ impl Wish {
         }
     }
 
-    fn proved(&self, root: &[u8; 16], counts: Counts, proof: &mut [u8]) -> Result<usize, Refusal> {
-        proof::prove(self.statement(), &self.witness.bytes, root, counts, proof)
+    fn proved(
+        &self,
+        root: &[u8; 16],
+        counts: Counts,
+        proof: &mut [u8],
+        work: &mut Work,
+    ) -> Result<usize, Refusal> {
+        let witness = &self.witness.bytes;
+        proof::prove(self.statement(), witness, root, counts, proof, work)
     }
 
     /// Room for a proof; none for counts that are out of the limits.
@@ -169,15 +177,15 @@ impl Wish {
     /// zeros and nothing kept: once with no room for a proof, which is refused
     /// with 6 when all that is tested before is good, and once with the least
     /// counts.
-    fn rehearse(&self) -> Result<(), Failure> {
+    fn rehearse(&self, work: &mut Work) -> Result<(), Failure> {
         let root = [0; 16];
         let failure = |refusal| Failure::Refused(refusal, self.cause(refusal));
-        match self.proved(&root, self.counts, &mut []) {
+        match self.proved(&root, self.counts, &mut [], work) {
             Err(Refusal::Length) => {}
             answer => return answer.map(|_| ()).map_err(failure),
         }
         let least = Counts { m: 2, tau: 1, n: 2 };
-        let answer = self.proved(&root, least, &mut self.room(least));
+        let answer = self.proved(&root, least, &mut self.room(least), work);
         answer.map(|_| ()).map_err(failure)
     }
 
@@ -216,11 +224,11 @@ impl Wish {
         }
     }
 
-    fn proof(&self, root: &[u8; 16]) -> Result<Vec<u8>, Failure> {
+    fn proof(&self, root: &[u8; 16], work: &mut Work) -> Result<Vec<u8>, Failure> {
         let Counts { m, tau, n } = self.counts;
         let _progress = Progress::start(&format!("proving, M {m}, tau {tau}, n {n}"));
         let mut proof = self.room(self.counts);
-        let len = self.proved(root, self.counts, &mut proof);
+        let len = self.proved(root, self.counts, &mut proof, work);
         let failure = |refusal| Failure::Refused(refusal, self.cause(refusal));
         proof.truncate(len.map_err(failure)?);
         Ok(proof)

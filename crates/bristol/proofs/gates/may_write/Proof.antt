@@ -15,15 +15,15 @@ add-if2 c =
     let p = c .before .pre in
     omega arith
 
-element-copy-out-result : tie.Need-element-copy-out-result
-element-copy-out-result c =
-    let p = c .before .before .pre in
+bit-requires : tie.Need-bit-requires
+bit-requires c κs =
+    let p = c .before .before .before .pre in
     omega (arith, p .0, p .1 .0, p .1 .1)
 
 returns-2 : tie.Need-returns-2
 returns-2 c =
-    let x = c .before .before .before .args in
-    write-flag (x .inputs) (x .gates) (x .wire) (x .flags .now) (omega arith) (omega arith)
+    let x = c .before .before .before .before .args in
+    write-flag (x .inputs) (x .gates) (x .wire) (x .flags .now) _ (c .bit .ensures) (omega arith) (omega arith)
 
 returns-3 : tie.Need-returns-3
 returns-3 c =
@@ -36,6 +36,6 @@ may-write-spec =
     (tie.spec
     returns
     add-if2
-    element-copy-out-result
+    bit-requires
     returns-2
     returns-3)

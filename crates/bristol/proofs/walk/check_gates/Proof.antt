@@ -2,10 +2,12 @@
 -- Assumes nothing.
 use borrow.Author.Needs.{needs}
 use native.Mathlib.Omega.{arith}
+use mathlib.Core.Path.{sym}
 use Prim.Native.Nat.{ℕ}
 use lib.ListN.{length-replicate}
 use Rattle.bristol.proofs.Lined.{Walked, walked-none, walked-refused, writes-inside, walked-more, walked-over, walked-all, told-refused, told-writes}
-use Rattle.bristol.proofs.Zeros.{getD-zeros}
+use Rattle.circuit.specs.Steps.{wireBytes}
+use Rattle.circuit.proofs.Slots.{zero-bits}
 use Rattle.bristol.proofs.walk.check_gates.Statement.{statement}
 use Rattle.bristol.proofs.walk.check_gates.Tie as tie
 
@@ -18,7 +20,7 @@ abbrev μ-loop : tie.MeasureT-loop
 loop-holds : tie.Need-loop-holds Inv-loop μ-loop
 loop-holds c =
     let x = c .before in
-    walked-none (x .args .s .now) (x .args .z) (x .args .c .at) _ (length-replicate {A = ℕ} 4608 0) (getD-zeros 4608)
+    walked-none (x .args .s .now) (x .args .z) (x .args .c .at) _ (length-replicate {A = ℕ} wireBytes 0) (zero-bits wireBytes)
 
 check-line-requires : tie.Need-check-line-requires Inv-loop μ-loop
 check-line-requires c κs = (c .before .before .loop .inv .room, c .before .before .before .before .pre)
@@ -34,10 +36,13 @@ returns c =
 enum-known-r-2 : tie.Need-enum-known-r-2 Inv-loop μ-loop
 enum-known-r-2 c = search needs
 
-array-write-flags : tie.Need-array-write-flags Inv-loop μ-loop
-array-write-flags c =
-    let x = c .before .before .before .before .before .before .before .before in
-    omega (arith, c .before .before .before .before .before .before .loop .inv .room, writes-inside (x .args .s .now) (x .args .z) (x .args .c .at) _ _ _ (c .before .before .before .before .before .before .loop .inv) (x .pre) _ _ (told-writes (x .args .s .now) (x .args .z) _ _ _ _ _ (c .before .r2 .given .1) (c .before .before .before .check-line .ensures)))
+slice-aggregate-put-bit : tie.Need-slice-aggregate-put-bit Inv-loop μ-loop
+slice-aggregate-put-bit c = sym (c .before .before .before .before .before .before .before .loop .inv .room)
+
+put-bit-requires : tie.Need-put-bit-requires Inv-loop μ-loop
+put-bit-requires c κs =
+    let x = c .before .before .before .before .before .before .before .before .before in
+    writes-inside (x .args .s .now) (x .args .z) (x .args .c .at) _ _ _ (c .before .before .before .before .before .before .before .loop .inv) (x .pre) _ _ (told-writes (x .args .s .now) (x .args .z) _ _ _ _ _ (c .before .before .r2 .given .1) (c .before .before .before .before .check-line .ensures))
 
 sub-left : tie.Need-sub-left Inv-loop μ-loop
 sub-left c = omega arith
@@ -47,8 +52,8 @@ loop-less c = omega arith
 
 loop-again : tie.Need-loop-again Inv-loop μ-loop
 loop-again c =
-    let x = c .before .before .before .before .before .before .before .before in
-    walked-more (x .args .s .now) (x .args .z) (x .args .c .at) _ _ _ (c .before .before .before .before .before .before .loop .inv) (x .pre) (c .before .before .before .before .before .loop-test .taken) _ _ (told-writes (x .args .s .now) (x .args .z) _ _ _ _ _ (c .before .r2 .given .1) (c .before .before .before .check-line .ensures))
+    let x = c .before .before .before .before .before .before .before .before .before .before .before in
+    walked-more (x .args .s .now) (x .args .z) (x .args .c .at) _ _ _ (c .before .before .before .before .before .before .before .before .before .loop .inv) (x .pre) (c .before .before .before .before .before .before .before .before .loop-test .taken) _ _ (told-writes (x .args .s .now) (x .args .z) _ _ _ _ _ (c .before .before .before .before .r2 .given .1) (c .before .before .before .before .before .before .check-line .ensures)) _ (c .before .put-bit .ensures)
 
 next-line-requires : tie.Need-next-line-requires Inv-loop μ-loop
 next-line-requires c κs = search needs
@@ -74,7 +79,8 @@ check-gates-spec =
     enum-known-r
     returns
     enum-known-r-2
-    array-write-flags
+    slice-aggregate-put-bit
+    put-bit-requires
     sub-left
     loop-less
     loop-again

@@ -27,28 +27,23 @@ loop-holds c =
     let x = c .before .before .before in
     outputs-start (x .args .out .now) _ _
 
-mul-write-u16 : tie.Need-mul-write-u16 Inv-loop μ-loop
-mul-write-u16 c =
+output-place-requires : tie.Need-output-place-requires Inv-loop μ-loop
+output-place-requires c κs =
     let r = c .before .before .before .before .before .before .pre in
     omega (arith, r .few .few-outputs)
 
-add-write-u16 : tie.Need-add-write-u16 Inv-loop μ-loop
-add-write-u16 c =
-    let r = c .before .before .before .before .before .before .pre in
-    omega (arith, r .few .few-outputs)
-
-add-write-u16-2 : tie.Need-add-write-u16-2 Inv-loop μ-loop
-add-write-u16-2 c =
-    let r = c .before .before .before .before .before .before .pre in
+add-write-u32 : tie.Need-add-write-u32 Inv-loop μ-loop
+add-write-u32 c =
+    let r = c .before .before .before .before .before .before .before .pre in
     omega (arith, r .few .few-inputs, r .few .few-gates, r .few .few-outputs)
 
-cast-write-u16 : tie.Need-cast-write-u16 Inv-loop μ-loop
-cast-write-u16 c = omega arith
+cast-write-u32 : tie.Need-cast-write-u32 Inv-loop μ-loop
+cast-write-u32 c = omega arith
 
-write-u16-requires : tie.Need-write-u16-requires Inv-loop μ-loop
-write-u16-requires c κs =
-    let r = c .before .before .before .before .before .before .pre in
-    omega (arith, r .room, c .before .before .loop .inv .room)
+write-u32-requires : tie.Need-write-u32-requires Inv-loop μ-loop
+write-u32-requires c κs =
+    let r = c .before .before .before .before .before .before .before .pre in
+    omega (arith, c .output-place .ensures, r .room, c .before .before .before .loop .inv .room)
 
 add-j : tie.Need-add-j Inv-loop μ-loop
 add-j c = omega arith
@@ -58,8 +53,8 @@ loop-less c = omega arith
 
 loop-again : tie.Need-loop-again Inv-loop μ-loop
 loop-again c =
-    let x = c .before .before .before .before .before .before .before .before .before in
-    outputs-more (x .args .out .now) _ _ _ _ (c .before .before .before .before .before .loop .inv) (omega arith) _ (c .before .before .write-u16 .ensures)
+    let x = c .before .before .before .before .before .before .before .before .before .before in
+    outputs-more (x .args .out .now) _ _ _ _ (c .before .before .before .before .before .before .loop .inv) (omega arith) _ (c .before .before .before .output-place .ensures) _ (c .before .before .write-u32 .ensures)
 
 same-length : tie.Need-same-length Inv-loop μ-loop
 same-length c = c .before .loop .inv .room
@@ -78,11 +73,10 @@ write-outputs-spec =
     add-first
     sub-first
     loop-holds
-    mul-write-u16
-    add-write-u16
-    add-write-u16-2
-    cast-write-u16
-    write-u16-requires
+    output-place-requires
+    add-write-u32
+    cast-write-u32
+    write-u32-requires
     add-j
     loop-less
     loop-again

@@ -7,33 +7,18 @@ use Rattle.bristol.specs.Conversion.{recordBytes}
 use Rattle.bristol.proofs.writing.write_record.Statement.{statement}
 use Rattle.bristol.proofs.writing.write_record.Tie as tie
 
-mul-at : tie.Need-mul-at
-mul-at c =
-    let p = c .before .before .pre in
-    omega (arith, p .0 .few .few-outputs)
-
-add-at : tie.Need-add-at
-add-at c =
-    let p = c .before .before .pre in
-    omega (arith, p .0 .few .few-outputs)
-
 output-wire-requires : tie.Need-output-wire-requires
 output-wire-requires c κs = search needs
 
-sub-at : tie.Need-sub-at
-sub-at c =
-    let p = c .before .before .before .before .pre in
+sub-record-place : tie.Need-sub-record-place
+sub-record-place c =
+    let p = c .before .before .before .pre in
     omega (arith, c .before .output-wire .ensures, p .1 .low)
 
-mul-at-2 : tie.Need-mul-at-2
-mul-at-2 c =
-    let p = c .before .before .before .before .pre in
-    omega (arith, c .before .output-wire .ensures, p .1 .high, p .0 .few .few-inputs, p .0 .few .few-gates)
-
-add-at-2 : tie.Need-add-at-2
-add-at-2 c =
-    let p = c .before .before .before .before .pre in
-    omega (arith, c .before .output-wire .ensures, p .1 .high, p .0 .few .few-inputs, p .0 .few .few-gates, p .0 .few .few-outputs)
+record-place-requires : tie.Need-record-place-requires
+record-place-requires c κs =
+    let p = c .before .before .before .pre in
+    (p .0 .few .few-outputs, omega (arith, c .before .output-wire .ensures, p .1 .low, p .1 .high, p .0 .few .few-gates))
 
 enum-known-g : tie.Need-enum-known-g
 enum-known-g c = search needs
@@ -41,7 +26,7 @@ enum-known-g c = search needs
 write-fields-requires : tie.Need-write-fields-requires
 write-fields-requires c κs =
     let p = c .before .before .before .before .before .before .before .before .pre in
-    omega (arith, c .before .before .before .before .before .output-wire .ensures, p .1 .low, p .1 .high, p .0 .room)
+    omega (arith, c .before .before .before .before .record-place .ensures, c .before .before .before .before .before .before .output-wire .ensures, p .1 .low, p .1 .high, p .0 .room)
 
 enum-known-g-2 : tie.Need-enum-known-g-2
 enum-known-g-2 c = search needs
@@ -49,7 +34,7 @@ enum-known-g-2 c = search needs
 write-fields-requires-2 : tie.Need-write-fields-requires-2
 write-fields-requires-2 c κs =
     let p = c .before .before .before .before .before .before .before .before .pre in
-    omega (arith, c .before .before .before .before .before .output-wire .ensures, p .1 .low, p .1 .high, p .0 .room)
+    omega (arith, c .before .before .before .before .record-place .ensures, c .before .before .before .before .before .before .output-wire .ensures, p .1 .low, p .1 .high, p .0 .room)
 
 enum-known-g-3 : tie.Need-enum-known-g-3
 enum-known-g-3 c = search needs
@@ -57,7 +42,7 @@ enum-known-g-3 c = search needs
 write-fields-requires-3 : tie.Need-write-fields-requires-3
 write-fields-requires-3 c κs =
     let p = c .before .before .before .before .before .before .before .before .pre in
-    omega (arith, c .before .before .before .before .before .output-wire .ensures, p .1 .low, p .1 .high, p .0 .room)
+    omega (arith, c .before .before .before .before .record-place .ensures, c .before .before .before .before .before .before .output-wire .ensures, p .1 .low, p .1 .high, p .0 .room)
 
 same-length : tie.Need-same-length
 same-length c = search needs
@@ -65,9 +50,8 @@ same-length c = search needs
 returns : tie.Need-returns
 unfolding recordBytes
 returns c =
-    let x = c .before .before .before .before .before .before .before .before .before .before .before .args in
     c .before .before .write-fields .ensures
-    ∙ rw (c .before .before .before .before .before .before .before .before .output-wire .ensures, c .before .before .before .before .before .g .given .1) refl
+    ∙ rw (c .before .before .before .before .before .before .before .record-place .ensures, c .before .before .before .before .before .before .before .before .before .output-wire .ensures, c .before .before .before .before .before .g .given .1) refl
 
 same-length-2 : tie.Need-same-length-2
 same-length-2 c = search needs
@@ -75,9 +59,8 @@ same-length-2 c = search needs
 returns-2 : tie.Need-returns-2
 unfolding recordBytes
 returns-2 c =
-    let x = c .before .before .before .before .before .before .before .before .before .before .before .args in
     c .before .before .write-fields2 .ensures
-    ∙ rw (c .before .before .before .before .before .before .before .before .output-wire .ensures, c .before .before .before .before .before .g2 .given .1) refl
+    ∙ rw (c .before .before .before .before .before .before .before .record-place .ensures, c .before .before .before .before .before .before .before .before .before .output-wire .ensures, c .before .before .before .before .before .g2 .given .1) refl
 
 same-length-3 : tie.Need-same-length-3
 same-length-3 c = search needs
@@ -85,20 +68,16 @@ same-length-3 c = search needs
 returns-3 : tie.Need-returns-3
 unfolding recordBytes
 returns-3 c =
-    let x = c .before .before .before .before .before .before .before .before .before .before .before .args in
     c .before .before .write-fields3 .ensures
-    ∙ rw (c .before .before .before .before .before .before .before .before .output-wire .ensures, c .before .before .before .before .before .g3 .given .1) refl
+    ∙ rw (c .before .before .before .before .before .before .before .record-place .ensures, c .before .before .before .before .before .before .before .before .before .output-wire .ensures, c .before .before .before .before .before .g3 .given .1) refl
 
 pub write-record-spec : {M : Type 1} → statement M
 write-record-spec =
     tie.close
     (tie.spec
-    mul-at
-    add-at
     output-wire-requires
-    sub-at
-    mul-at-2
-    add-at-2
+    sub-record-place
+    record-place-requires
     enum-known-g
     write-fields-requires
     enum-known-g-2

@@ -1,12 +1,10 @@
 -- `mpc::preparing::prepare` meets its contract.
 -- Assumes nothing.
-use mathlib.Core.Path.{sym, _∙_}
-use Prim.Native.Nat.{ℕ}
+use mathlib.Core.Path.{refl}
 use borrow.Author.Needs.{needs}
-use lib.ListN.{length-replicate}
 use Rattle.mpc.proofs.Opened.{opened}
-use Rattle.mpc.proofs.Places.{own-room}
-use Rattle.mpc.proofs.Prepared.{prepare-refused, prepare-read}
+use Rattle.mpc.proofs.Lent.{known-few, work-long}
+use Rattle.mpc.proofs.Prepared.{prepare-refused, prepare-short, prepare-left}
 use Rattle.mpc.proofs.preparing.prepare.Statement.{statement}
 use Rattle.mpc.proofs.preparing.prepare.Tie as tie
 
@@ -19,22 +17,29 @@ enum-known-answer c = search needs
 enum-known-answer-2 : tie.Need-enum-known-answer-2
 enum-known-answer-2 c = search needs
 
-slice-aggregate-prepare-lent : tie.Need-slice-aggregate-prepare-lent
-slice-aggregate-prepare-lent c = sym (length-replicate {A = ℕ} 299008 0)
-
-prepare-lent-requires : tie.Need-prepare-lent-requires
-prepare-lent-requires c κs =
-    let k = opened _ _ _ (c .before .before .before .answer2 .given .1) (c .before .before .before .before .before .read .ensures) in
-    (k, own-room _ _ k)
+work-bytes-requires : tie.Need-work-bytes-requires
+work-bytes-requires c κs = known-few _ _ (opened _ _ _ (c .before .answer2 .given .1) (c .before .before .before .read .ensures))
 
 returns : tie.Need-returns
-returns c = prepare-refused _ _ _ _ _ (c .before .before .before .read .ensures) _ (c .before .answer .given .1)
+returns c = prepare-short _ _ _ _ _ _ (c .before .before .before .before .before .read .ensures) _ (c .before .before .before .answer2 .given .1) _ (c .before .work-bytes .ensures) (c .if1 .taken)
 
-same-length : tie.Need-same-length
-same-length c = c .before .before .before .prepare-lent .kept .1 .1 .1 .1 .0
+prepare-lent-requires : tie.Need-prepare-lent-requires
+prepare-lent-requires c κs = (opened _ _ _ (c .before .before .before .before .before .answer2 .given .1) (c .before .before .before .before .before .before .before .read .ensures), work-long _ _ _ (c .before .before .before .work-bytes .ensures) (c .before .before .if1 .left))
+
+clear-after-requires : tie.Need-clear-after-requires
+clear-after-requires c κs = search needs
 
 returns-2 : tie.Need-returns-2
-returns-2 c = c .before .before .before .prepare-lent .ensures ∙ prepare-read _ _ _ _ _ (c .before .before .before .before .before .before .before .before .before .read .ensures) _ (c .before .before .before .before .before .before .before .answer2 .given .1)
+returns-2 c = prepare-refused _ _ _ _ _ _ (c .before .before .before .read .ensures) _ (c .before .answer .given .1)
+
+same-length : tie.Need-same-length
+same-length c = search needs
+
+same-length-2 : tie.Need-same-length-2
+same-length-2 c = search needs
+
+returns-3 : tie.Need-returns-3
+returns-3 c = prepare-left _ _ _ _ _ _ (c .before .before .before .before .before .before .before .before .before .before .before .before .before .before .before .before .read .ensures) _ (c .before .before .before .before .before .before .before .before .before .before .before .before .before .before .answer2 .given .1) _ (c .before .before .before .before .before .before .before .before .before .before .before .before .work-bytes .ensures) (c .before .before .before .before .before .before .before .before .before .before .before .if1 .left) (c .before .before .before .before .before .before .before .before .prepare-lent .result) _ (c .before .before .before .before .before .before .before .before .prepare-lent .ensures) _ _ _ (c .before .before .clear-after .ensures) refl (c .before .before .before .before .before .before .before .before .prepare-lent .kept .1 .1 .1 .1 .1 .0)
 
 pub prepare-spec : {M : Type 1} → statement M
 prepare-spec =
@@ -43,8 +48,11 @@ prepare-spec =
     read-requires
     enum-known-answer
     enum-known-answer-2
-    slice-aggregate-prepare-lent
-    prepare-lent-requires
+    work-bytes-requires
     returns
+    prepare-lent-requires
+    clear-after-requires
+    returns-2
     same-length
-    returns-2)
+    same-length-2
+    returns-3)

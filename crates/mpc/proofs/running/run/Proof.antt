@@ -1,12 +1,10 @@
 -- `mpc::running::run` meets its contract.
 -- Assumes nothing.
-use mathlib.Core.Path.{sym, _∙_}
-use Prim.Native.Nat.{ℕ}
+use mathlib.Core.Path.{refl}
 use borrow.Author.Needs.{needs}
-use lib.ListN.{length-replicate}
 use Rattle.mpc.proofs.Opened.{opened}
-use Rattle.mpc.proofs.Places.{own-room}
-use Rattle.mpc.proofs.Ran.{run-refused, run-read}
+use Rattle.mpc.proofs.Lent.{known-few, work-long}
+use Rattle.mpc.proofs.Ran.{run-refused, run-short, run-left}
 use Rattle.mpc.proofs.running.run.Statement.{statement}
 use Rattle.mpc.proofs.running.run.Tie as tie
 
@@ -19,28 +17,35 @@ enum-known-answer c = search needs
 enum-known-answer-2 : tie.Need-enum-known-answer-2
 enum-known-answer-2 c = search needs
 
-slice-aggregate-run-lent : tie.Need-slice-aggregate-run-lent
-slice-aggregate-run-lent c = sym (length-replicate {A = ℕ} 299008 0)
-
-run-lent-requires : tie.Need-run-lent-requires
-run-lent-requires c κs =
-    let k = opened _ _ _ (c .before .before .before .before .before .answer2 .given .1) (c .before .before .before .before .before .before .before .read .ensures) in
-    (k, own-room _ _ k)
+work-bytes-requires : tie.Need-work-bytes-requires
+work-bytes-requires c κs = known-few _ _ (opened _ _ _ (c .before .answer2 .given .1) (c .before .before .before .read .ensures))
 
 returns : tie.Need-returns
-returns c = run-refused _ _ _ _ _ _ _ _ _ (c .before .before .before .read .ensures) _ (c .before .answer .given .1)
+returns c = run-short _ _ _ _ _ _ _ _ _ _ (c .before .before .before .before .before .read .ensures) _ (c .before .before .before .answer2 .given .1) _ (c .before .work-bytes .ensures) (c .if1 .taken)
 
-same-length : tie.Need-same-length
-same-length c = c .before .before .before .before .before .before .before .run-lent .kept .1 .1 .1 .1 .1 .1 .0
+run-lent-requires : tie.Need-run-lent-requires
+run-lent-requires c κs = (opened _ _ _ (c .before .before .before .before .before .before .before .answer2 .given .1) (c .before .before .before .before .before .before .before .before .before .read .ensures), work-long _ _ _ (c .before .before .before .before .before .work-bytes .ensures) (c .before .before .before .before .if1 .left))
 
-same-length-2 : tie.Need-same-length-2
-same-length-2 c = c .before .before .before .before .before .before .before .run-lent .kept .1 .1 .1 .1 .1 .1 .1 .0
-
-same-length-3 : tie.Need-same-length-3
-same-length-3 c = c .before .before .before .before .before .before .before .run-lent .kept .1 .1 .1 .1 .1 .1 .1 .1 .0
+clear-after-requires : tie.Need-clear-after-requires
+clear-after-requires c κs = search needs
 
 returns-2 : tie.Need-returns-2
-returns-2 c = c .before .before .before .before .before .before .before .run-lent .ensures ∙ run-read _ _ _ _ _ _ _ _ _ (c .before .before .before .before .before .before .before .before .before .before .before .before .before .before .before .read .ensures) _ (c .before .before .before .before .before .before .before .before .before .before .before .before .before .answer2 .given .1)
+returns-2 c = run-refused _ _ _ _ _ _ _ _ _ _ (c .before .before .before .read .ensures) _ (c .before .answer .given .1)
+
+same-length : tie.Need-same-length
+same-length c = search needs
+
+same-length-2 : tie.Need-same-length-2
+same-length-2 c = search needs
+
+same-length-3 : tie.Need-same-length-3
+same-length-3 c = search needs
+
+same-length-4 : tie.Need-same-length-4
+same-length-4 c = search needs
+
+returns-3 : tie.Need-returns-3
+returns-3 c = run-left _ _ _ _ _ _ _ _ _ _ (c .before .before .before .before .before .before .before .before .before .before .before .before .before .before .before .before .before .before .before .before .before .before .read .ensures) _ (c .before .before .before .before .before .before .before .before .before .before .before .before .before .before .before .before .before .before .before .before .answer2 .given .1) _ (c .before .before .before .before .before .before .before .before .before .before .before .before .before .before .before .before .before .before .work-bytes .ensures) (c .before .before .before .before .before .before .before .before .before .before .before .before .before .before .before .before .before .if1 .left) (c .before .before .before .before .before .before .before .before .before .before .before .before .run-lent .result) _ _ _ (c .before .before .before .before .before .before .before .before .before .before .before .before .run-lent .ensures) _ _ _ (c .before .before .clear-after .ensures) refl (c .before .before .before .before .before .before .before .before .before .before .before .before .run-lent .kept .1 .1 .1 .1 .1 .1 .1 .1 .1 .0)
 
 pub run-spec : {M : Type 1} → statement M
 run-spec =
@@ -49,10 +54,13 @@ run-spec =
     read-requires
     enum-known-answer
     enum-known-answer-2
-    slice-aggregate-run-lent
-    run-lent-requires
+    work-bytes-requires
     returns
+    run-lent-requires
+    clear-after-requires
+    returns-2
     same-length
     same-length-2
     same-length-3
-    returns-2)
+    same-length-4
+    returns-3)

@@ -8,13 +8,13 @@ use Rattle.instance.specs.Stretch.{stretchBytes}
 use Rattle.proof.specs.File.{hides, stretchStart}
 use Rattle.proof.specs.Steps.{askOf, asksIn}
 use Rattle.proof.proofs.Leaves.{opened-few}
-use Rattle.proof.proofs.Sizes.{start-none, start-more, start-end, stretch-few}
+use Rattle.proof.proofs.Sizes.{maxStretch, start-none, start-more, start-end, stretch-few}
 use Rattle.proof.proofs.asking.proof_bytes.Statement.{statement}
 use Rattle.proof.proofs.asking.proof_bytes.Tie as tie
 
 abbrev Inv-loop : tie.InvT-loop
 Inv-loop s z table opened m n h at₀ j₀ at j =
-    (j ≤ m) × ((at ≤ 16422 + 2048 * j) × (at ≡ stretchStart (circuitOf s) m n (asksIn n table) j))
+    (j ≤ m) × ((at ≤ 16422 + maxStretch * j) × (at ≡ stretchStart (circuitOf s) m n (asksIn n table) j))
 
 abbrev μ-loop : tie.MeasureT-loop
 μ-loop s z table opened m n h at₀ j₀ at j = m - j
