@@ -4,11 +4,11 @@ ghost use Rattle.refusal.specs.Refusal.{numberOf};
 
 // Why an operation refuses. The sentences are the document's.
 pub enum Refusal {
-    // 1: under 8 bytes; total not 8 + 2O + 8G (the circuit file).
+    // 1: under 16 bytes; total not 16 + 4O + 16G (the circuit file, by order 7).
     Length,
     // 2: I, O or G beyond limits.
     Limits,
-    // 3: a record with another kind, a nonzero second byte, or INV with b not 0.
+    // 3: a record with another kind, or INV with b not 0.
     Record,
     // 5: a wire not written by then, or an output wire at or above I + G.
     Wire,
