@@ -26,12 +26,14 @@ use Rattle.circuit.specs.declared.Sizes.{Sizes}
 use Rattle.refusal.specs.Refusal.{numberOf}
 use Rattle.refusal.specs.declared.Refusal.{Refusal}
 use Rattle.circuit.proofs.Alike.{fields-theorem}
+use Rattle.building.specs.Files.{bytesOf, fileOf}
+use Rattle.building.proofs.Bytes.{bytes-length, bytes-field, at-front}
+use Rattle.building.proofs.Built.{built, not-built}
 use Rattle.circuit.proofs.Answered.{not-refused}
-use Rattle.upgrade.specs.Upgrade.{oldWidth, oldGates, oldFields, readOld, bytesOf, upgraded, upgradeOp}
+use Rattle.upgrade.specs.Upgrade.{oldWidth, oldGates, oldFields, readOld, upgraded, upgradeOp}
 use Rattle.upgrade.specs.Answers.{outcome}
 use Rattle.upgrade.specs.Theorem.{ConvertedSame}
 use Rattle.upgrade.specs.declared.Answer.the-variants.{Refused}
-use Rattle.upgrade.proofs.Written.{bytes-length, bytes-field, at-front}
 
 -- a legal file has the right length
 legal-right : (s : List ℕ) (c : Circuit) → readOld s ≡ legal c → rightLength oldWidth s ≡ true
@@ -48,7 +50,7 @@ unfolding rightLength
 right-count s e = eqb-true (length s) (oldWidth * fieldCount (oldFields s)) e
 
 new-length : (s : List ℕ) → length (upgraded s) ≡ width * fieldCount (oldFields s)
-unfolding upgraded
+unfolding upgraded fileOf
 new-length s = bytes-length (oldFields s) (fieldCount (oldFields s))
 
 module _ (s : List ℕ) (byte : (i : ℕ) → getD s i 0 < 256) where
@@ -57,8 +59,8 @@ module _ (s : List ℕ) (byte : (i : ℕ) → getD s i 0 < 256) where
   small k = omega (arith, leAt-lt oldWidth s (oldWidth * k) byte)
 
   new-field : (k : ℕ) → k < fieldCount (oldFields s) → field width (upgraded s) k ≡ oldFields s k
-  unfolding upgraded
-  new-field k h = bytes-field (oldFields s) small (fieldCount (oldFields s)) k h
+  unfolding upgraded fileOf
+  new-field k h = bytes-field (oldFields s) (fieldCount (oldFields s)) k h (small k)
 
   new-right : rightLength width (upgraded s) ≡ true
   unfolding rightLength
@@ -87,15 +89,6 @@ upgrade-damaged : (s out : List ℕ) (k x : ℕ) → readOld s ≡ refused k x
 unfolding upgradeOp
 upgrade-damaged s out k x e = rw e
 
-built : (file out : List ℕ) → length file ≤ length out
-    → _≡_ {A = Outcome} (builds file out) (record { answer = success (length file ∷ []); left = front file out ∷ [] })
-unfolding builds
-built file out h = rw (le-leb (length file) (length out) h)
-
-not-built : (file out : List ℕ) → length out < length file → builds file out ≡ refuses 6 (out ∷ [])
-unfolding builds
-not-built file out h = rw (lt-leb (length file) (length out) h)
-
 -- what the code leaves, where n fields make the old file: the output is too short, or the new file stands at its front
 module _ (s out : List ℕ) (right : rightLength oldWidth s ≡ true) (n : ℕ) (count : n ≡ length s / oldWidth) where
   count-fields : n ≡ fieldCount (oldFields s)
@@ -106,7 +99,7 @@ module _ (s out : List ℕ) (right : rightLength oldWidth s ≡ true) (n : ℕ) 
 
   pub long-output : width * n ≤ length out → (new : List ℕ) → new ≡ sets out 0 (bytesOf (oldFields s) n)
       → _≡_ {A = Outcome} (record { answer = success (width * n ∷ []); left = new ∷ [] }) (builds (upgraded s) out)
-  unfolding upgraded
+  unfolding upgraded fileOf
   long-output h new e =
       let l : width * n ≡ length (upgraded s) = omega (arith, new-length s, count-fields) in
       let f : new ≡ front (upgraded s) out =

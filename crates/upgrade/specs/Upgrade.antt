@@ -1,13 +1,12 @@
 -- The operation upgrade (document 02, order 7): "Files of the old form are passed through a converter that keeps slots, chain and meaning,
 -- and refuses a damaged one as the old reading did."
 -- Assumes nothing.
-use mathlib.Core.List.{List, [], _∷_, _++_}
-use Prim.Native.Nat.{ℕ, zero, suc}
-use Rattle.bits.specs.Bytes.{leBytes}
+use mathlib.Core.List.{List, [], _∷_}
+use Prim.Native.Nat.{ℕ}
 use Rattle.refusal.specs.Outcome.{refusalAt, Outcome}
 use Rattle.circuit.specs.Building.{builds}
-use Rattle.circuit.specs.Fields.{Fields, field, fieldCount, Reading, refused, legal, readWith}
-use Rattle.circuit.specs.File.{width}
+use Rattle.circuit.specs.Fields.{Fields, field, Reading, refused, legal, readWith}
+use Rattle.building.specs.Files.{fileOf}
 
 -- the old form, that of document 01: "u16 each", the bytes of a field
 abbrev pub oldWidth : ℕ
@@ -25,14 +24,9 @@ oldFields s = field oldWidth s
 abbrev pub readOld : List ℕ → Reading
 readOld s = readWith oldWidth oldGates s
 
--- the first n fields, written in the form in use
-unfoldable pub bytesOf : Fields → ℕ → List ℕ
-bytesOf x zero = []
-bytesOf x (suc n) = bytesOf x n ++ leBytes width (x n)
-
 -- the new file: all fields of the old one, in their order
 unfoldable pub upgraded : List ℕ → List ℕ
-upgraded s = bytesOf (oldFields s) (fieldCount (oldFields s))
+upgraded s = fileOf (oldFields s)
 
 -- what the old reading refuses is refused with its number and slot; else the new file is written, if the lent output is long enough
 abbrev pub onRead : Reading → List ℕ → List ℕ → Outcome

@@ -6,8 +6,9 @@ use Prim.Native.Nat.{ℕ, _-_, _≤_}
 use native.Mathlib.Omega.{arith}
 use lib.ListN.{length}
 use lib.Seq.{sets, length-sets}
-use Rattle.upgrade.specs.Upgrade.{oldFields, bytesOf}
-use Rattle.upgrade.proofs.Written.{bytes-more, bytes-none}
+use Rattle.building.specs.Files.{bytesOf}
+use Rattle.building.proofs.Bytes.{bytes-more, bytes-none}
+use Rattle.upgrade.specs.Upgrade.{oldFields}
 use Rattle.upgrade.proofs.write_fields.Statement.{statement}
 use Rattle.upgrade.proofs.write_fields.Tie as tie
 
