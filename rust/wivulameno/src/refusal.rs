@@ -3,7 +3,7 @@
 use std::error::Error;
 use std::fmt;
 
-/// Why a call was refused. Every lent byte is as it was.
+/// Why a call was refused. Every lent byte is as it was, but for a [`Work`](crate::Work) buffer.
 #[derive(Clone, Copy, Debug, PartialEq, Eq, Hash)]
 #[non_exhaustive]
 pub enum Refusal {

@@ -5,7 +5,8 @@ use crate::circuit::Sizes;
 use crate::limits::{DIGEST_LEN, PROOF_HEADER_LEN, ROOT_LEN};
 
 /// The room that [`prove`](super::prove) asks for: the bytes of a proof with M - tau
-/// opened nodes, in which no chosen instance hides the last party. No proof is longer.
+/// opened nodes, in which no chosen instance hides the last party. No proof is longer;
+/// the longest that can be written opens [`most_opened`] nodes, which can be fewer.
 /// `None` if a number is out of its limits.
 ///
 /// ```
