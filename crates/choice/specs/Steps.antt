@@ -1,5 +1,4 @@
 -- What only the contracts of steps use: no definition of the paper stands here.
--- What only the contracts of private steps use.
 -- The sponge of SHAKE256 that gives out the challenge's stream.
 -- Assumes nothing.
 use mathlib.Core.List.{List}

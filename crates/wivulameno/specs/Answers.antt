@@ -22,7 +22,7 @@ abbrev pub Injective : {A B : Type 0} → (A → B) → Type 0
 Injective {A} f = (a b : A) → f a ≡ f b → a ≡ b
 
 -- the definitions that put each answer enum into the paper's terms: of the refusals; of read; of evaluate; of convert; of upgrade; of prepare,
--- run, show and replay; of expand, open and challenge; of prove; of check; of stock and draw, with the values of a success
+-- run, show and replay; of expand, open, masters, cover and challenge; of prove; of check; of stock and draw, with the values of a success
 pub record DifferentAnswers : Type 0 where
   pub refusals : Injective numberOf
   pub read : Injective readPaper

@@ -1,6 +1,6 @@
 //! A second implementation, to hold the static library against.
 //!
-//! It is written from the standard and the scope paper alone, in its own
+//! It is written from the standard and the papers alone, in its own
 //! shape: plain functions over slices, one module for each subject.
 
 pub mod bits;
@@ -17,7 +17,7 @@ pub mod seeds;
 pub mod shelf;
 pub mod work;
 
-/// The number of a refusal in the scope paper.
+/// The number of a refusal in the papers.
 pub type Refusal = u32;
 
 /// The little-endian u16 at byte `place`.

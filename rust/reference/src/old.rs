@@ -59,7 +59,7 @@ mod tests {
     use super::*;
     use crate::examples;
 
-    /// K and `FOUR` as they were.
+    /// K and `FOUR` in the old form.
     const K: [u8; 18] = [2, 0, 1, 0, 1, 0, 1, 0, 2, 0, 2, 0, 0, 0, 1, 0, 0, 0];
     const FOUR: [u8; 46] = [
         3, 0, 3, 0, 4, 0, 2, 0, 6, 0, 5, 0, 2, 0, // head and outputs

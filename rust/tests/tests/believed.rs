@@ -1,6 +1,6 @@
 //! What a reader must believe: the definitions that the promises of the
 //! operations and of FIPS 202's step mappings, and the statements of the theorems
-//! stand on. What only serves the contracts of private steps (`specs/Steps.antt`,
+//! stand on. What only serves the contracts of steps (`specs/Steps.antt`,
 //! in `circuit` `specs/FieldSteps.antt` too) is not among them.
 
 use std::collections::{BTreeMap, BTreeSet};

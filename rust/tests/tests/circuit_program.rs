@@ -82,7 +82,7 @@ fn other_refusals() {
     assert_eq!(printed(&changed(4, 3)), "no 5\n");
 }
 
-/// K as it was is no file of this form; converted it is K.
+/// K in the old form is no file of this form; converted it is K.
 #[test]
 fn k_converted() {
     let old = [2, 0, 1, 0, 1, 0, 1, 0, 2, 0, 2, 0, 0, 0, 1, 0, 0, 0];

@@ -9,7 +9,7 @@ use tests::proofs::{compare_prove, Prove};
 use tests::random::Random;
 use wivulameno::circuit::upgrade_to_vec;
 
-/// K and `FIVE` as they were.
+/// K and `FIVE` in the old form.
 const OLD_K: [u8; 18] = [2, 0, 1, 0, 1, 0, 1, 0, 2, 0, 2, 0, 0, 0, 1, 0, 0, 0];
 const OLD_FIVE: [u8; 54] = [
     5, 0, 3, 0, 5, 0, 3, 0, // head
