@@ -13,28 +13,6 @@ fn text(path: &str) -> Option<String> {
     fs::read_to_string(root().join(path)).ok()
 }
 
-/// All files below a folder, as one text.
-fn texts(folder: &Path) -> String {
-    let Ok(entries) = fs::read_dir(folder) else {
-        return String::new();
-    };
-    let paths = entries.map(|entry| entry.expect("an entry").path());
-    let text = |path: PathBuf| {
-        if path.is_dir() {
-            texts(&path)
-        } else {
-            fs::read_to_string(&path).expect("a file of text")
-        }
-    };
-    paths.map(text).collect()
-}
-
-/// Whether a name stands in a text as a word of its own.
-fn names(text: &str, name: &str) -> bool {
-    let end = |c: char| c.is_whitespace() || "(){}[]<>,;:.«»".contains(c);
-    text.split(end).any(|word| word == name)
-}
-
 /// The file that a path of the map leads to.
 fn file_of(token: &str) -> Option<String> {
     let parts: Vec<&str> = token.split('/').collect();
@@ -49,19 +27,77 @@ fn file_of(token: &str) -> Option<String> {
     }
 }
 
-/// Whether the function or type at a path of Rattle stands in its crate; a path
-/// of another language has no such crate.
+/// Whether a line of a file of definitions or proofs is the signature of a name: of
+/// a definition, a theorem, a record, a data type, a field or a constructor.
+fn is_signature(line: &str, name: &str) -> bool {
+    let Some((names, _)) = line.split_once(" : ") else {
+        return false;
+    };
+    let marks = ["pub", "unfoldable", "abbrev"];
+    // a level of types, in braces, can follow the name
+    let words = names.split_once(" {").map_or(names, |(name, _)| name);
+    let words = words.split_whitespace();
+    let mut words = words.skip_while(|word| marks.contains(word));
+    match words.next() {
+        // parameters follow the name
+        Some("record" | "data") => words.next() == Some(name),
+        Some("--" | "let") | None => false,
+        Some(_) if names.contains(['=', '(', 'λ', '→']) => false,
+        Some(first) => first == name || words.any(|word| word == name),
+    }
+}
+
+/// Whether a line of Rattle begins the function, type or constant of a name.
+fn begins(line: &str, name: &str) -> bool {
+    let end = |c: char| !(c.is_alphanumeric() || c == '_');
+    let code = line.split("//").next().unwrap_or("");
+    let words: Vec<&str> = code.split(end).collect();
+    let kinds = ["fn", "struct", "enum", "const"];
+    words
+        .windows(2)
+        .any(|pair| kinds.contains(&pair[0]) && pair[1] == name)
+}
+
+/// Whether a file of tests has a test of this name, marked as one.
+fn has_test(text: &str, name: &str) -> bool {
+    let start = format!("fn {name}(");
+    let mut marked = false;
+    for line in text.lines() {
+        if marked && line.starts_with(&start) {
+            return true;
+        }
+        marked = line == "#[test]" || (marked && line.starts_with("#["));
+    }
+    false
+}
+
+/// Whether a name stands in the file that the path before it leads to.
+fn has_name(path: &str, text: &str, name: &str) -> bool {
+    if path.ends_with(".rs") {
+        has_test(text, name)
+    } else {
+        text.lines().any(|line| is_signature(line, name))
+    }
+}
+
+/// Whether the function or type at a path of Rattle stands in its module.
 fn function_stands(token: &str) -> bool {
     let parts: Vec<&str> = token.split("::").collect();
-    let source = root().join("crates").join(parts[0]).join("src");
-    !source.exists() || names(&texts(&source), parts[parts.len() - 1])
+    let (name, between) = (parts[parts.len() - 1], &parts[1..parts.len() - 1]);
+    // a method has its type before it
+    let module = between
+        .iter()
+        .find(|part| part.starts_with(char::is_lowercase));
+    let file = module.unwrap_or(&"lib");
+    let source = text(&format!("crates/{}/src/{file}.rt", parts[0]));
+    source.is_some_and(|source| source.lines().any(|line| begins(line, name)))
 }
 
 /// What a line says that does not stand, and the number of things it says.
 fn check(line: &str) -> (Vec<String>, usize) {
     let mut wrong = vec![];
     let mut count = 0;
-    let mut file: Option<String> = None;
+    let mut file: Option<(String, String)> = None;
     let mut after_path = false;
     for (i, part) in line.split('`').enumerate() {
         if i % 2 == 0 {
@@ -72,13 +108,13 @@ fn check(line: &str) -> (Vec<String>, usize) {
             continue;
         }
         let stands = if let Some(path) = file_of(part) {
-            file = text(&path);
+            file = text(&path).map(|text| (path, text));
             after_path = true;
             file.is_some()
-        } else if part.contains("::") {
+        } else if part.contains("::") && !part.contains(' ') {
             function_stands(part)
-        } else if let Some(file) = &file {
-            names(file, part)
+        } else if let Some((path, text)) = &file {
+            has_name(path, text, part)
         } else {
             continue;
         };
@@ -109,8 +145,30 @@ fn every_name_stands() {
 fn a_wrong_name_is_seen() {
     let seen = |line: &str| check(line).0;
     assert!(seen("`bits/specs/Bits`: `pack`, `unpack`; `bits::oct`").is_empty());
+    assert!(seen("`tests/circuit_cases`: `records`; `bits/must-fail/oct_rounded_down`").is_empty());
     assert_eq!(seen("`bits/specs/Bits`: `pack`, `unpak`"), ["unpak"]);
     assert_eq!(seen("`bits/specs/Bit`: `pack`"), ["bits/specs/Bit"]);
     assert_eq!(seen("`bits::oct_`"), ["bits::oct_"]);
+    assert_eq!(seen("`bitz::oct`"), ["bitz::oct"]);
     assert_eq!(seen("`bits/must-fail/none`"), ["bits/must-fail/none"]);
+    assert_eq!(seen("`tests/circuit_cases`: `recorded`"), ["recorded"]);
+}
+
+/// A word that the file has elsewhere is no definition, no function and no test.
+#[test]
+fn a_word_elsewhere_is_no_definition() {
+    let seen = |line: &str| check(line).0;
+    // brought in; in a comment; a variable; in a type
+    for name in ["List", "lowest", "b", "ℕ"] {
+        assert_eq!(seen(&format!("`bits/specs/Bits`: `{name}`")), [name]);
+    }
+    // in another module; called there; in a comment there
+    for name in ["convert", "read_header", "Converts"] {
+        let path = format!("bristol::heading::{name}");
+        let stands = name == "read_header";
+        assert_eq!(seen(&format!("`{path}`")).is_empty(), stands, "{path}");
+    }
+    assert_eq!(seen("`bristol::convert`"), ["bristol::convert"]);
+    // a function that is no test
+    assert_eq!(seen("`tests/theorem_names`: `check`"), ["check"]);
 }
