@@ -8,13 +8,13 @@ use native.Mathlib.Omega.{arith}
 use lib.Dec.{eqb, leb, eqb·zero-suc, eqb·suc-suc}
 use lib.ListN.{length, getD, take, drop, length-drop}
 use lib.Seq.{slice, slice-cons, slice-empty, length-slice, take-add, drop-at, length-take-le}
-use borrow.Author.Tests.{leb-true, ne-eqb, eq-eqb, eqb-true}
+use borrow.Author.Tests.{leb-true, eq-eqb, eqb-true}
 use Rattle.bits.proofs.Tests.{and-true-left, and-true-right, test-eq}
 use Rattle.bristol_text.specs.Text.{isDigit, allDigits, isNumber, valueOf}
 use Rattle.bristol_text.specs.Steps.{run, passes, stop, tokenAt, numberAt, Digits}
 use Rattle.bristol_text.specs.declared.Class.the-variants.{Digit, InToken}
 use Rattle.bristol_text.specs.declared.Number.the-variants.{Value, Malformed}
-use Rattle.bristol_text.proofs.Digits.{digit-low}
+use Rattle.bristol_text.proofs.Runs.{digit-in-token}
 
 -- every byte passes p
 unfoldable all : (ℕ → Bool) → List ℕ → Bool
@@ -42,12 +42,6 @@ all-digits : (l : List ℕ) → allDigits l ≡ all (passes Digit) l
 unfolding allDigits all passes
 all-digits [] = refl
 all-digits (x ∷ l) = ap (λ (b : Bool). isDigit x && b) (all-digits l)
-
-digit-in-token : (x : ℕ) → passes Digit x ≡ true → passes InToken x ≡ true
-unfolding passes
-digit-in-token x e =
-    let low : 48 ≤ x = digit-low x e in
-    rw (ne-eqb x 32 (omega arith))
 
 eqb-add : (k a b : ℕ) → eqb a b ≡ eqb (k + a) (k + b)
 eqb-add k a b =

@@ -61,7 +61,7 @@ module _ (p q : ℕ → Bool) (both : (x : ℕ) → p x ≡ true → q x ≡ tru
   run-through [] = rw (run-nil p, run-nil q) refl
   run-through (x ∷ s) = through-first x s (p x) refl (run-through s)
 
-digit-in-token : (x : ℕ) → passes Digit x ≡ true → passes InToken x ≡ true
+pub digit-in-token : (x : ℕ) → passes Digit x ≡ true → passes InToken x ≡ true
 unfolding passes
 digit-in-token x e = ap not (ne-eqb x space (λ q. omega (arith, digit-low x e)))
 

@@ -20,6 +20,8 @@ use Rattle.keccak.specs.Sponge.{xorInto, absorbBlocks, padding}
 use Rattle.keccak.specs.Steps.{permuted, xorBytes, byteAt, xorByte, absorbs, padded}
 use Rattle.permutation.proofs.Agree.{length-lanes, lanes-lt}
 use Rattle.permutation.proofs.Lanes.{Lanes64}
+use Rattle.keccak.proofs.Bytes.{bytes-tail, bytes-append, bytes-take, bytes-drop}
+pub use Rattle.keccak.proofs.Bytes.{Bytes}
 use Rattle.keccak.proofs.Steps.{xorBytes-append, absorbs-block, turned-full, turned-part, absorbs-append}
 use Rattle.bits.proofs.Ops.{bitXor-assoc, shifted-xor}
 use Rattle.permutation.proofs.Strings.{length-laneBytes, getD-laneBytes, keccakF-lanes}
@@ -112,13 +114,6 @@ module _ (l : List ℕ) (st : State l) (k : ℕ) (in-state : k < 200) (b : ℕ) 
       (ext-getD 0 (laneBytes (xorByte l k b)) _ (m′ ∙ sym (length-set (laneBytes l) k _ ∙ m))
       (λ i h. byte-is (xorByte l k b) i (omega (arith, xorByte-long)) ∙ byte-after i (omega arith)))
 
--- every element is a byte
-abbrev pub Bytes : List ℕ → Type 0
-Bytes M = (i : ℕ) → getD M i 0 < 256
-
-tail-bytes : (b : ℕ) (M : List ℕ) → Bytes (b ∷ M) → Bytes M
-tail-bytes b M h i = h (suc i)
-
 -- the permutation leaves 25 lanes of 64 bits
 pub permuted-state : (l : List ℕ) → State (permuted l)
 permuted-state l = record { long = length-lanes _; small = λ k. lanes-lt _ k }
@@ -128,7 +123,7 @@ pub xorBytes-state : (M l : List ℕ) (j : ℕ) → State l → Bytes M → j + 
 unfolding xorBytes
 xorBytes-state [] l j st h k = st
 xorBytes-state (b ∷ M) l j st h k =
-    xorBytes-state M (xorByte l j b) (j + 1) (xorByte-state l st j (omega arith) b (h 0)) (tail-bytes b M h) (omega arith)
+    xorBytes-state M (xorByte l j b) (j + 1) (xorByte-state l st j (omega arith) b (h 0)) (bytes-tail b M h) (omega arith)
 
 -- the string after a byte at place j, from there on
 set-from : (S : List ℕ) (j b : ℕ) (M : List ℕ) → j < length S
@@ -146,7 +141,7 @@ unfolding xorBytes
 xorBytes-bytes [] l j st h k = unfold xorInto in sym (take-append-drop j (laneBytes l))
 xorBytes-bytes (b ∷ M) l j st h k =
     let m : length (laneBytes l) ≡ 200 = length-laneBytes l ∙ ap (λ (x : ℕ). 8 * x) (st .long) in
-    xorBytes-bytes M (xorByte l j b) (j + 1) (xorByte-state l st j (omega arith) b (h 0)) (tail-bytes b M h) (omega arith)
+    xorBytes-bytes M (xorByte l j b) (j + 1) (xorByte-state l st j (omega arith) b (h 0)) (bytes-tail b M h) (omega arith)
     ∙ ap (λ (S : List ℕ). take (j + 1) S ++ xorInto (drop (j + 1) S) M) (xorByte-bytes l st j (omega arith) b (h 0))
     ∙ set-from (laneBytes l) j b M (omega arith)
 
@@ -241,12 +236,6 @@ module _ (r first : ℕ) (some : 0 < r) (below : r < 200) (small : first < 128) 
       long zero = omega arith
       long (suc i) = rest (r - m % r - 2) i
 
-  -- bytes of both parts
-  append-bytes : (M N : List ℕ) → Bytes M → Bytes N → Bytes (M ++ N)
-  append-bytes [] N h k i = k i
-  append-bytes (b ∷ M) N h k zero = h 0
-  append-bytes (b ∷ M) N h k (suc i) = append-bytes M N (tail-bytes b M h) k i
-
   -- a last block, shorter than the rate, and the padding
   last-block : (M l : List ℕ) → State l → Bytes M → length M < r
       → padded r first (absorbs r (record { lanes = l; fill = 0 }) M)
@@ -263,17 +252,6 @@ module _ (r first : ℕ) (some : 0 < r) (below : r < 200) (small : first < 128) 
   block-bytes M l st h k =
       let x = xorBytes-state M l 0 st h (omega arith) in
       keccakF-lanes (xorBytes l 0 M) (x .long) ∙ ap keccakF (xorBytes-bytes M l 0 st h (omega arith))
-
-  take-bytes : (n : ℕ) (M : List ℕ) → Bytes M → Bytes (take n M)
-  take-bytes zero M h i = omega arith
-  take-bytes (suc n) [] h i = omega arith
-  take-bytes (suc n) (b ∷ M) h zero = h 0
-  take-bytes (suc n) (b ∷ M) h (suc i) = take-bytes n M (tail-bytes b M h) i
-
-  drop-bytes : (n : ℕ) (M : List ℕ) → Bytes M → Bytes (drop n M)
-  drop-bytes zero M h i = h i
-  drop-bytes (suc n) [] h i = omega arith
-  drop-bytes (suc n) (b ∷ M) h i = drop-bytes n M (tail-bytes b M h) i
 
   -- a whole block
   whole-block : (B l : List ℕ) → length B ≡ r
@@ -297,7 +275,7 @@ module _ (r first : ℕ) (some : 0 < r) (below : r < 200) (small : first < 128) 
         permuted (xorBytes l 0 P),
         last-block M l st h k,
         permuted-state (xorBytes l 0 P),
-        block-bytes P l st (append-bytes M _ h (padding-byte (length M))) (omega arith)
+        block-bytes P l st (bytes-append M _ h (padding-byte (length M))) (omega arith)
             ∙ ap (λ (X : List ℕ). keccakF (xorInto (laneBytes l) X)) (sym (take-all r P (omega arith))) ∙ (unfold absorbBlocks in refl),
       )
   absorbed (suc n) M l st h a b =
@@ -308,7 +286,7 @@ module _ (r first : ℕ) (some : 0 < r) (below : r < 200) (small : first < 128) 
       let nB : length B ≡ r = length-take-le r M (omega arith) in
       let nR : length R ≡ length M - r = length-drop r M in
       let l₂ : List ℕ = permuted (xorBytes l 0 B) in
-      let ih = absorbed n R l₂ (permuted-state (xorBytes l 0 B)) (drop-bytes r M h) (omega arith) (omega arith) in
+      let ih = absorbed n R l₂ (permuted-state (xorBytes l 0 B)) (bytes-drop r M h) (omega arith) (omega arith) in
       let s : absorbs r (record { lanes = l; fill = 0 }) M ≡ absorbs r (record { lanes = l₂; fill = 0 }) R =
       ap (absorbs r (record { lanes = l; fill = 0 })) (sym (take-append-drop r M)) ∙ absorbs-append r B R _
       ∙ ap (λ (t : Sponge). absorbs r t R) (whole-block B l nB) in
@@ -318,7 +296,7 @@ module _ (r first : ℕ) (some : 0 < r) (below : r < 200) (small : first < 128) 
       let rest : drop r (M ++ p) ≡ R ++ padding r first (length R) = drop-append-le r M p (omega arith) ∙ ap (λ (X : List ℕ). R ++ X) (sym q) in
       let front : keccakF (xorInto (laneBytes l) (take r (M ++ p))) ≡ laneBytes l₂ =
       ap (λ (X : List ℕ). keccakF (xorInto (laneBytes l) X)) (take-append-le r M p (omega arith))
-      ∙ sym (block-bytes B l st (take-bytes r M h) (omega arith)) in (
+      ∙ sym (block-bytes B l st (bytes-take r M h) (omega arith)) in (
         ih .0,
         ap (padded r first) s ∙ ih .1,
         ih .2,

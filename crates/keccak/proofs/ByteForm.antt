@@ -25,6 +25,7 @@ use Rattle.bits.proofs.Tabulate.{length-tabulate, tabulate-cong}
 use Rattle.bits.proofs.Xor.{xor-false}
 use Rattle.permutation.specs.Permutation.{StateArray, rounds, fromString, lane, lanes, laneBytes, toString, keccakF}
 use Rattle.keccak.specs.Sponge.{xorInto, absorbBlocks, squeezeBlocks, padding, sponge, sha3-256, shake128, shake256}
+use Rattle.keccak.proofs.Bytes.{Bytes, bytes-append, bytes-take, bytes-zeros}
 use Rattle.keccak.proofs.Lengths.{length-absorb}
 use Rattle.keccak.specs.Bitstrings.{zeros, xorBits, fromBitString, Lane, Plane, toBitString, KECCAK-p, pad10*1, blockOf, absorb, squeeze, SPONGE, KECCAK, SHA3-256, SHAKE128, SHAKE256, h2b, b2h, SHA3-256-on-bytes, SHAKE128-on-bytes, SHAKE256-on-bytes, PadMultiple, TurnsEnough}
 
@@ -196,29 +197,6 @@ unfolding keccakF KECCAK-p
 h2b-keccak S = h2b-string (rounds 24 (fromString S)) ∙ ap (λ (A : StateArray). toBitString (rounds 24 A)) (sym (array-h2b S))
 
 -- ---- lengths and bytes
-
--- each element is a byte
-abbrev Bytes : List ℕ → Type 0
-Bytes X = (i : ℕ) → getD X i 0 < 256
-
--- of two strings one after the other
-bytes-append : (X Y : List ℕ) → Bytes X → Bytes Y → Bytes (X ++ Y)
-bytes-append [] Y h k i = k i
-bytes-append (x ∷ X) Y h k zero = h 0
-bytes-append (x ∷ X) Y h k (suc i) = bytes-append X Y (λ j. h (suc j)) k i
-
--- of the first n
-bytes-take : (n : ℕ) (X : List ℕ) → Bytes X → Bytes (take n X)
-bytes-take zero X h i = omega arith
-bytes-take (suc n) [] h i = omega arith
-bytes-take (suc n) (x ∷ X) h zero = h 0
-bytes-take (suc n) (x ∷ X) h (suc i) = bytes-take n X (λ j. h (suc j)) i
-
--- zeros are bytes
-bytes-zeros : (n : ℕ) → Bytes (replicate n 0)
-bytes-zeros zero i = omega arith
-bytes-zeros (suc n) zero = omega arith
-bytes-zeros (suc n) (suc i) = bytes-zeros n i
 
 -- what lanes are written to is bytes
 bytes-lanes : (L : List ℕ) → Bytes (laneBytes L)
