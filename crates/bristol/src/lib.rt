@@ -18,38 +18,38 @@ pub enum Answer {
 }
 
 // The numbers I, O and G of a text.
-pub struct Sizes {
+pub(crate) struct Sizes {
     pub inputs: usize,
     pub outputs: usize,
     pub gates: usize,
 }
 
 // The two numbers of line 1.
-pub enum Counts {
+pub(crate) enum Counts {
     Of(usize, usize),
     Malformed,
 }
 
 // The sum of the sizes on a line of groups.
-pub enum Groups {
+pub(crate) enum Groups {
     Sum(usize),
     Malformed,
 }
 
 // The sum on a text's next line, and the place after it.
-pub enum GroupLine {
+pub(crate) enum GroupLine {
     Sum(usize, Cursor),
     Malformed,
 }
 
 // What the header lines answer: the sizes, and the place after them.
-pub enum Header {
+pub(crate) enum Header {
     Good(Sizes, Cursor),
     Refused(Refusal),
 }
 
 // What follows the last space of a gate line.
-pub enum Kind {
+pub(crate) enum Kind {
     Xor,
     And,
     Inv,
@@ -57,40 +57,40 @@ pub enum Kind {
 }
 
 // A gate: the wires that it reads and, last, the wire that it writes.
-pub enum Gate {
+pub(crate) enum Gate {
     Xor(usize, usize, usize),
     And(usize, usize, usize),
     Inv(usize, usize),
 }
 
 // What a gate line holds.
-pub enum GateRead {
+pub(crate) enum GateRead {
     Read(Gate),
     Unknown,
     Malformed,
 }
 
 // A text's next line as a gate line, and the place after it.
-pub struct NextGate {
+pub(crate) struct NextGate {
     pub read: GateRead,
     pub next: Cursor,
 }
 
 // What is found of a gate line's kind, or of its form.
-pub enum Finding {
+pub(crate) enum Finding {
     Good,
     Unknown,
     Malformed,
 }
 
 // What a gate line answers: the wire that it writes and the place after it.
-pub enum LineCheck {
+pub(crate) enum LineCheck {
     Writes(usize, Cursor),
     Refused(Refusal),
 }
 
 // What the gate lines answer.
-pub enum Check {
+pub(crate) enum Check {
     Good,
     Refused(Refusal),
 }
