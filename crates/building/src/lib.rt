@@ -1,4 +1,4 @@
-// Definitions and laws alone: a circuit file built from its parts. Four fields written at once.
+// A circuit file built from its parts: its definition and laws, and four fields written at once.
 ghost use mathlib.Core.Path.{_≡_};
 ghost use Prim.Native.Nat.{_+_, _*_, _≤_};
 ghost use lib.ListN.{length};
