@@ -1,8 +1,8 @@
--- Theorem, converted: the file of an accepted text reads as the text's circuit, which evaluates as the text does.
+-- Theorem, converted: the file of an accepted text reads as the text's circuit, which evaluates as the text does, and is written.
 -- Assumes nothing.
 use mathlib.Core.Path.{_≡_, refl, ap, _∙_}
 use mathlib.Core.Bool.{Bool, true, false, _||_}
-use mathlib.Core.List.{List, [], map}
+use mathlib.Core.List.{List, [], _∷_, map}
 use Prim.Native.Nat.{ℕ, zero, suc, _+_, _*_, _≤_}
 use native.Mathlib.Omega.{arith}
 use lib.Dec.{ltb}
@@ -10,6 +10,8 @@ use lib.ListN.{length}
 use borrow.Author.Tests.{le-leb, lt-ltb, le-ltb, eq-eqb}
 use Rattle.bits.specs.Bits.{tabulate}
 use Rattle.bits.proofs.Tabulate.{tabulate-cong}
+use Rattle.refusal.specs.Outcome.{success, Outcome}
+use Rattle.circuit.specs.Building.{front}
 use Rattle.circuit.specs.Circuit as paper
 use Rattle.circuit.specs.Fields as form
 use Rattle.circuit.specs.File.{width, maxInputs, maxOutputs, maxGates, inputsOf, outputsOf, gatesOf, headOf, outputWire, withinLimits, rightLength, goodRecords, chainWalk, goodChain, onWalk, chainFrom, gatesInOrder, goodWires, circuitOf, legal, readCircuit}
@@ -17,8 +19,11 @@ use Rattle.circuit.specs.Steps.{goodRecord, goodOutputs}
 use Rattle.bits.specs.Counting.{count}
 use Rattle.circuit.proofs.Visits.{chain-theorem}
 use Rattle.circuit.proofs.Walking.{well-ends, chain-walks}
-use Rattle.bristol.specs.Rules.{Text, written, readable, lastWire, outputWires}
-use Rattle.bristol.specs.Conversion.{asGate, asCircuit, firstSlot, fileOf, Reads, Converted}
+use Rattle.building.proofs.Built.{built}
+use Rattle.bristol.specs.Rules.{Text, Reading, says, written, readable, lastWire, outputWires, readText}
+use Rattle.bristol.specs.Conversion.{asGate, asCircuit, firstSlot, textFile}
+use Rattle.bristol.specs.Operations.{conversion, convertOp}
+use Rattle.bristol.specs.Theorem.{Converted}
 use Rattle.bristol.proofs.Accepted.{Accepted, text-accepted}
 use Rattle.bristol.proofs.Chained.{linked-walks, linked-gates, linked-good, fits-reads}
 use Rattle.bristol.proofs.Filed.{file-inputs, file-outputs, file-gates, file-head, file-length, file-output, last-small}
@@ -58,7 +63,7 @@ same-parts a b c = rw (a, b, c)
 
 module _ (t : Text) (k : Accepted t) where
   abbrev f : List ℕ
-  f = fileOf t
+  f = textFile t
 
   limits-good : withinLimits f ≡ true
   limits-good =
@@ -68,7 +73,7 @@ module _ (t : Text) (k : Accepted t) where
 
   length-good : rightLength f ≡ true
   unfolding form.rightLength
-  length-good = eq-eqb (length f) (width * (4 + outputsOf f + 4 * gatesOf f)) (omega (arith, file-length t k, file-outputs t k, file-gates t k))
+  length-good = eq-eqb (length f) (width * (4 + outputsOf f + 4 * gatesOf f)) (omega (arith, file-length t, file-outputs t k, file-gates t k))
 
   pub head : headOf f ≡ firstSlot (t .inputs) (t .gates)
   head = file-head t k (head-small t k)
@@ -112,12 +117,14 @@ module _ (t : Text) (k : Accepted t) where
 
   reads-file : readCircuit f ≡ legal (asCircuit t)
   reads-file =
-      all-tests f (asCircuit t) (le-ltb (length f) (width * 4) (omega (arith, file-length t k))) limits-good length-good records-good chain-good
+      all-tests f (asCircuit t) (le-ltb (length f) (width * 4) (omega (arith, file-length t))) limits-good length-good records-good chain-good
       wires-good same-circuit
 
-reads : Reads
-unfolding Reads
-reads s t e = reads-file t (text-accepted t s e)
+written-file : (s out : List ℕ) (t : Text) → readText s ≡ says t → length (textFile t) ≤ length out
+    → _≡_ {A = Outcome} (convertOp s out) (record { answer = success (length (textFile t) ∷ []); left = front (textFile t) out ∷ [] })
+unfolding convertOp conversion
+written-file s out t e h = ap (λ (x : Reading). conversion x out) e ∙ built (textFile t) out h
 
+-- Theorem, converted
 pub converted : Converted
-converted = record { meant = meant; reads = reads }
+converted = record { meant = meant; reads = λ s t e. reads-file t (text-accepted t s e); written = written-file }

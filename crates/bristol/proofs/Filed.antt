@@ -1,39 +1,36 @@
--- The file of an accepted text: its header, and the record of each gate line.
+-- The file of an accepted text: its parts one after the other, its fields, and the record of each gate line.
 -- Assumes nothing.
-use mathlib.Core.Path.{_≡_, refl, ap, _∙_}
-use mathlib.Core.Bool.{Bool, true, false, cond, _||_}
-use mathlib.Core.List.{List, [], _∷_, _++_}
-use Prim.Native.Nat.{ℕ, _+_, _*_, _≤_, _<_}
+use mathlib.Core.Path.{_≡_, refl, sym, ap, ap₂, _∙_}
+use mathlib.Core.Bool.{Bool, true, false, _||_}
+use mathlib.Core.List.{List, [], _∷_, _++_, flatten, append-assoc}
+use Prim.Native.Nat.{ℕ, suc, _+_, _-_, _*_, _≤_, _<_}
 use native.Mathlib.Omega.{arith}
 use lib.Dec.{eqb}
-use lib.ListN.{length, length-append}
+use lib.ListN.{length}
 use borrow.Author.Tests.{eq-eqb}
-use Rattle.bits.specs.Bytes.{leAt, leBytes}
+use Rattle.bits.specs.Bits.{tabulate}
+use Rattle.bits.specs.Bytes.{leBytes}
 use Rattle.bits.proofs.Little.{length-leBytes}
+use Rattle.bits.proofs.Tabulate.{tabulate-cong}
 use Rattle.circuit.specs.Fields as form
-use Rattle.circuit.specs.File.{width, inputsOf, outputsOf, gatesOf, headOf, outputWire}
-use Rattle.circuit.specs.Steps.{recordSize, recordPlace}
-use Rattle.circuit.proofs.Places.{leAt-left, leAt-right}
-use Rattle.bristol.specs.Rules.{GateLine, xor, and, inv, Text, writes, written, lastWire}
-use Rattle.bristol.specs.Conversion.{firstSlot, fields, recordBytes, recordFor, headerPart, outputPart, recordPart, fileOf}
+use Rattle.circuit.specs.Fields.{Fields, field, fieldCount}
+use Rattle.circuit.specs.File.{width, fieldsOf, inputsOf, outputsOf, gatesOf, headOf, outputWire, nextOf}
+use Rattle.circuit.specs.Steps.{recordSize, recordPlace, recordAt, kindOf, wireA, wireB}
+use Rattle.building.specs.Files.{Four, laid, bytesOf, fileOf, SmallFour}
+use Rattle.building.specs.Steps.{fourBytes}
+use Rattle.building.proofs.Bytes.{bytes-field}
+use Rattle.building.proofs.Built as building
+use Rattle.building.proofs.Places.{laid-inputs, laid-outputs, laid-gates, laid-head, laid-count, laid-output, laid-kind, laid-a, laid-b, laid-next}
+use Rattle.bristol.specs.Rules.{GateLine, Text, writes, written, lastWire}
+use Rattle.bristol.specs.Conversion.{firstSlot, recordOf, recordFor, partsOf, textFile}
+use Rattle.bristol.specs.Steps.{fourOf}
 use Rattle.bristol.proofs.Accepted.{Accepted}
-use Rattle.bristol.proofs.Parts.{four-bytes, joined-length, joined-at}
+use Rattle.bristol.proofs.Parts.{fourAt, four-more, bytes-each, bytes-fours}
+use Rattle.bristol.proofs.Stores.{parts-length}
 
-pub record-length : (g : GateLine) (next : ℕ) → length (recordBytes g next) ≡ recordSize
-unfolding recordBytes fields leBytes
-record-length (xor a b c) next = refl
-record-length (and a b c) next = refl
-record-length (inv a c) next = refl
-
--- every record has so many bytes
-pub for-length : (I w : ℕ) (gs : List GateLine) → length (recordFor I w gs) ≡ recordSize
-unfolding recordFor fields leBytes
-for-length I w [] = refl
-for-length I w (g ∷ gs) = pick (eqb w (writes g)) (for-length I w gs)
-  where
-    pick : (b : Bool) → length (recordFor I w gs) ≡ recordSize → length (cond b (recordBytes g (firstSlot I gs)) (recordFor I w gs)) ≡ recordSize
-    pick true e = record-length g (firstSlot I gs)
-    pick false e = e
+pub four-length : (q : Four) → length (fourOf q) ≡ recordSize
+unfolding fourBytes leBytes
+four-length q = refl
 
 or-left : (a b : Bool) → a || b ≡ false → a ≡ false
 or-left true b e = e
@@ -45,75 +42,149 @@ or-right false b e = e
 
 -- the record for the wire of a gate line is the record of that line
 pub for-line : (I : ℕ) (before : List GateLine) (g : GateLine) (after : List GateLine) → written before (writes g) ≡ false
-    → recordFor I (writes g) (before ++ (g ∷ after)) ≡ recordBytes g (firstSlot I after)
+    → recordFor I (writes g) (before ++ (g ∷ after)) ≡ recordOf g (firstSlot I after)
 unfolding recordFor written
 for-line I [] g after e = rw (eq-eqb (writes g) (writes g) refl)
 for-line I (h ∷ before) g after e =
     rw (or-left (eqb (writes g) (writes h)) (written before (writes g)) e)
     (for-line I before g after (or-right (eqb (writes g) (writes h)) (written before (writes g)) e))
 
-module _ (t : Text) (k : Accepted t) where
+-- the parts of the file: header, output wires, records
+unfoldable pub headerPart : Text → List ℕ
+headerPart t = fourBytes (t .inputs) (t .outputs) (length (t .gates)) (firstSlot (t .inputs) (t .gates))
+
+unfoldable pub outputPart : Text → List ℕ
+outputPart t = flatten (tabulate (t .outputs) (λ j. leBytes width (lastWire t j)))
+
+unfoldable pub recordPart : Text → List ℕ
+recordPart t = flatten (tabulate (length (t .gates)) (λ j. fourOf (recordFor (t .inputs) (t .inputs + j) (t .gates))))
+
+four-same : {a b c d a′ b′ c′ d′ : ℕ} → a ≡ a′ → b ≡ b′ → c ≡ c′ → d ≡ d′ → fourBytes a b c d ≡ fourBytes a′ b′ c′ d′
+four-same p q r s = cc
+
+module _ (t : Text) where
+  abbrev I : ℕ
+  I = t .inputs
+
+  abbrev O : ℕ
+  O = t .outputs
+
+  abbrev G : ℕ
+  G = length (t .gates)
+
+  abbrev x : Fields
+  x = laid (partsOf t)
+
   pub header-length : length (headerPart t) ≡ recordSize
-  unfolding headerPart fields leBytes
+  unfolding headerPart fourBytes leBytes
   header-length = refl
 
-  pub file-inputs : inputsOf (fileOf t) ≡ t .inputs
-  unfolding fileOf headerPart fields leBytes leAt form.field
-  file-inputs = four-bytes (t .inputs) (omega (arith, k .few-inputs))
-
-  pub file-outputs : outputsOf (fileOf t) ≡ t .outputs
-  unfolding fileOf headerPart fields leBytes leAt form.field
-  file-outputs = four-bytes (t .outputs) (omega (arith, k .few-outputs))
-
-  pub file-gates : gatesOf (fileOf t) ≡ length (t .gates)
-  unfolding fileOf headerPart fields leBytes leAt form.field
-  file-gates = four-bytes (length (t .gates)) (omega (arith, k .few-gates))
-
-  pub file-head : firstSlot (t .inputs) (t .gates) < 4294967296 → headOf (fileOf t) ≡ firstSlot (t .inputs) (t .gates)
-  unfolding fileOf headerPart fields leBytes leAt form.field
-  file-head h = four-bytes (firstSlot (t .inputs) (t .gates)) h
-
-  pub output-length : length (outputPart t) ≡ t .outputs * width
+  pub output-length : length (outputPart t) ≡ O * width
   unfolding outputPart
-  output-length = joined-length width (t .outputs) (λ j. leBytes width (lastWire t j)) (λ j. length-leBytes width (lastWire t j))
+  output-length = parts-length width O (λ j. leBytes width (lastWire t j)) (λ j h. length-leBytes width (lastWire t j))
 
-  pub file-length : length (fileOf t) ≡ recordPlace (t .outputs) (length (t .gates))
-  unfolding fileOf recordPart
-  file-length =
-      rw (length-append, length-append)
-      (omega (
-        arith,
-        header-length,
-        output-length,
-        joined-length recordSize (length (t .gates)) (λ j. recordFor (t .inputs) (t .inputs + j) (t .gates)) (λ j. for-length (t .inputs) (t .inputs + j) (t .gates)),
-      ))
+  count : fieldCount x ≡ 4 + O + 4 * G
+  unfolding partsOf
+  count = laid-count (partsOf t)
 
-  -- a number in the record of slot j + 1
-  pub in-record : (m j i : ℕ) → j < length (t .gates) → i + m ≤ recordSize
-      → leAt m (fileOf t) (recordPlace (t .outputs) j + i) ≡ leAt m (recordFor (t .inputs) (t .inputs + j) (t .gates)) i
-  unfolding fileOf recordPart
-  in-record m j i h l =
-      leAt-right m (headerPart t) (outputPart t ++ recordPart t) (recordPlace (t .outputs) j + i) (width * t .outputs + (recordSize * j + i)) (omega (arith, header-length))
-      ∙ leAt-right m (outputPart t) (recordPart t) (width * t .outputs + (recordSize * j + i)) (j * recordSize + i) (omega (arith, output-length))
-      ∙ joined-at recordSize (length (t .gates)) (λ j. recordFor (t .inputs) (t .inputs + j) (t .gates))
-      (λ j. for-length (t .inputs) (t .inputs + j) (t .gates)) m j i h l
+  pub file-length : length (textFile t) ≡ recordPlace O G
+  unfolding textFile partsOf
+  file-length = omega (arith, building.file-length (partsOf t))
+
+  -- the four fields of slot j + 1
+  slot-bytes : (j : ℕ) → j < G → fourAt x (4 + O + 4 * j) ≡ fourOf (recordFor I (I + j) (t .gates))
+  unfolding partsOf
+  slot-bytes j h =
+      let p = partsOf t in
+      let w : I + (1 + j) - 1 ≡ I + j = omega arith in
+      let k : ℕ = 4 + O + 4 * j in
+      let at : form.recordAt x (1 + j) ≡ k = omega (arith, laid-outputs p) in
+      let e₁ : suc k ≡ form.recordAt x (1 + j) + 1 = omega arith in
+      let e₂ : suc (suc k) ≡ form.recordAt x (1 + j) + 2 = omega arith in
+      let e₃ : suc (suc (suc k)) ≡ form.recordAt x (1 + j) + 3 = omega arith in
+      four-same
+      (ap x (sym at) ∙ laid-kind p (1 + j) (omega arith) (omega arith))
+      (ap x e₁ ∙ laid-a p (1 + j) (omega arith) (omega arith))
+      (ap x e₂ ∙ laid-b p (1 + j) (omega arith) (omega arith))
+      (ap x e₃ ∙ laid-next p (1 + j) (omega arith) (omega arith))
+      ∙ ap (λ (i : ℕ). fourOf (recordFor I i (t .gates))) w
+
+  front-bytes : bytesOf x 4 ≡ headerPart t
+  unfolding bytesOf headerPart partsOf
+  front-bytes =
+      let p = partsOf t in
+      four-more x 0 ∙ four-same (laid-inputs p) (laid-outputs p) (laid-gates p) (laid-head p)
+
+  output-bytes : (j : ℕ) → j < O → leBytes width (x (4 + j)) ≡ leBytes width (lastWire t j)
+  unfolding partsOf
+  output-bytes j h = ap (leBytes width) (laid-output (partsOf t) j h)
+
+  pub file-parts : textFile t ≡ headerPart t ++ (outputPart t ++ recordPart t)
+  unfolding textFile fileOf outputPart recordPart
+  file-parts =
+      ap (bytesOf x) count
+      ∙ bytes-fours x (4 + O) G
+      ∙ ap₂ (λ (a b : List ℕ). a ++ b)
+      (bytes-each x 4 O ∙ ap₂ (λ (a b : List ℕ). a ++ b) front-bytes (ap flatten (tabulate-cong O (λ j. leBytes width (x (4 + j))) (λ j. leBytes width (lastWire t j)) output-bytes)))
+      (ap flatten (tabulate-cong G (λ j. fourAt x (4 + O + 4 * j)) (λ j. fourOf (recordFor I (I + j) (t .gates))) slot-bytes))
+      ∙ append-assoc (headerPart t) (outputPart t) (recordPart t)
+
+  -- a field, where it is small
+  pub field-is : (i v : ℕ) → x i ≡ v → v < 4294967296 → i < 4 + O + 4 * G → field width (textFile t) i ≡ v
+  unfolding textFile fileOf
+  field-is i v e s h = bytes-field x (fieldCount x) i (omega (arith, count)) (omega arith) ∙ e
+
+module _ (t : Text) (k : Accepted t) where
+  pub file-inputs : inputsOf (textFile t) ≡ t .inputs
+  unfolding partsOf
+  file-inputs = field-is t 0 (t .inputs) (laid-inputs (partsOf t)) (omega (arith, k .few-inputs)) (omega arith)
+
+  pub file-outputs : outputsOf (textFile t) ≡ t .outputs
+  unfolding partsOf
+  file-outputs = field-is t 1 (t .outputs) (laid-outputs (partsOf t)) (omega (arith, k .few-outputs)) (omega arith)
+
+  pub file-gates : gatesOf (textFile t) ≡ length (t .gates)
+  unfolding partsOf
+  file-gates = field-is t 2 (length (t .gates)) (laid-gates (partsOf t)) (omega (arith, k .few-gates)) (omega arith)
+
+  pub file-head : firstSlot (t .inputs) (t .gates) < 4294967296 → headOf (textFile t) ≡ firstSlot (t .inputs) (t .gates)
+  unfolding partsOf
+  file-head h = field-is t 3 (firstSlot (t .inputs) (t .gates)) (laid-head (partsOf t)) h (omega arith)
 
   pub last-small : (j : ℕ) → j < t .outputs → lastWire t j < t .inputs + length (t .gates)
   unfolding lastWire
   last-small j h = omega (arith, k .enough)
 
-  in-output : (j : ℕ) → j < t .outputs → leAt width (outputPart t) (j * width + 0) ≡ lastWire t j
-  unfolding outputPart leAt leBytes
-  in-output j h =
-      joined-at width (t .outputs) (λ j. leBytes width (lastWire t j)) (λ j. length-leBytes width (lastWire t j)) width j 0 h (omega arith)
-      ∙ four-bytes (lastWire t j) (omega (arith, last-small j h, k .few-inputs, k .few-gates))
-
   -- output wire j
-  pub file-output : (j : ℕ) → j < t .outputs → outputWire (fileOf t) j ≡ lastWire t j
-  unfolding fileOf form.field
+  pub file-output : (j : ℕ) → j < t .outputs → outputWire (textFile t) j ≡ lastWire t j
+  unfolding partsOf
   file-output j h =
-      let p : width * j ≡ j * width + 0 = omega arith in
-      leAt-right width (headerPart t) (outputPart t ++ recordPart t) (width * (4 + j)) (width * j) (omega (arith, header-length))
-      ∙ leAt-left width (outputPart t) (recordPart t) (width * j) (omega (arith, output-length))
-      ∙ ap (leAt width (outputPart t)) p
-      ∙ in-output j h
+      field-is t (4 + j) (lastWire t j) (laid-output (partsOf t) j h) (omega (arith, last-small j h, k .few-inputs, k .few-gates)) (omega arith)
+
+  -- the record of slot j, where its fields are small
+  module _ (j : ℕ) (a : 1 ≤ j) (b : j ≤ length (t .gates)) (s : SmallFour (partsOf t .slot j)) where
+    b-third : j ≤ partsOf t .header .third
+    unfolding partsOf
+    b-third = b
+
+    in-slot : (r v : ℕ) → laid (partsOf t) (form.recordAt (laid (partsOf t)) j + r) ≡ v → v < 4294967296 → r < 4 → fieldsOf (textFile t) (recordAt (textFile t) j + r) ≡ v
+    unfolding partsOf
+    in-slot r v e l h =
+        let same : recordAt (textFile t) j + r ≡ form.recordAt (laid (partsOf t)) j + r = omega (arith, file-outputs, laid-outputs (partsOf t)) in
+        ap (fieldsOf (textFile t)) same ∙ field-is t (form.recordAt (laid (partsOf t)) j + r) v e l (omega (arith, laid-outputs (partsOf t)))
+
+    pub slot-kind : kindOf (textFile t) j ≡ partsOf t .slot j .first
+    slot-kind =
+        let p = partsOf t in
+        let z : (i : ℕ) → i + 0 ≡ i = λ i. omega arith in
+        ap (fieldsOf (textFile t)) (sym (z (recordAt (textFile t) j)))
+        ∙ in-slot 0 (p .slot j .first) (ap (laid p) (z (form.recordAt (laid p) j)) ∙ laid-kind p j a b-third) (s .first) (omega arith)
+
+    pub slot-a : wireA (textFile t) j ≡ partsOf t .slot j .second
+    slot-a = in-slot 1 (partsOf t .slot j .second) (laid-a (partsOf t) j a b-third) (s .second) (omega arith)
+
+    pub slot-b : wireB (textFile t) j ≡ partsOf t .slot j .third
+    slot-b = in-slot 2 (partsOf t .slot j .third) (laid-b (partsOf t) j a b-third) (s .third) (omega arith)
+
+    pub slot-next : nextOf (textFile t) j ≡ partsOf t .slot j .fourth
+    slot-next = in-slot 3 (partsOf t .slot j .fourth) (laid-next (partsOf t) j a b-third) (s .fourth) (omega arith)

@@ -3,30 +3,29 @@
 use mathlib.Core.Path.{_≡_, refl, sym, ap, _∙_}
 use mathlib.Core.Bool.{Bool, true, false, cond, not, _&&_, _||_}
 use mathlib.Core.List.{List, [], _∷_, _++_, append-assoc}
-use Prim.Native.Nat.{ℕ, _+_, _-_, _*_, _≤_, _<_}
+use Prim.Native.Nat.{ℕ, _+_, _-_, _≤_, _<_}
 use native.Mathlib.Omega.{arith}
 use lib.Dec.{eqb, leb, ltb}
 use lib.ListN.{length}
 use borrow.Author.Tests.{leb-true, ltb-true, eqb-true, not-true}
-use Rattle.bits.specs.Bytes.{leAt, leBytes}
 use Rattle.bits.proofs.Tests.{and-true-left, and-true-right}
 use Rattle.circuit.specs.Circuit as paper
 use Rattle.circuit.specs.Fields as form
-use Rattle.circuit.specs.File.{width, inputsOf, gatesOf, fieldsOf, nextOf}
-use Rattle.circuit.specs.Steps.{recordSize, recordPlace, recordAt, kindOf, wireA, wireB, gateAt, goodRecord}
+use Rattle.circuit.specs.File.{inputsOf, nextOf}
+use Rattle.circuit.specs.Steps.{kindOf, wireA, wireB, gateAt, goodRecord}
+use Rattle.building.specs.Files.{Four, SmallFour}
 use Rattle.bristol.specs.Rules.{GateLine, xor, and, inv, Text, writes, written, readable, writable, fitsBelow}
-use Rattle.bristol.specs.Conversion.{asGate, slotOf, firstSlot, fields, recordBytes, recordFor, fileOf}
+use Rattle.bristol.specs.Conversion.{asGate, slotOf, firstSlot, recordOf, recordFor, partsOf, textFile}
 use Rattle.bristol.proofs.Accepted.{Accepted, Fits}
 use Rattle.bristol.proofs.Chained.{Stands, Linked, written-more}
-use Rattle.bristol.proofs.Parts.{four-bytes}
-use Rattle.bristol.proofs.Filed.{for-line, file-inputs, file-outputs, file-gates, in-record}
+use Rattle.bristol.proofs.Filed.{for-line, file-inputs, file-gates, slot-kind, slot-a, slot-b, slot-next}
 
 -- what a slot holds
-record Holds (s : List ℕ) (x kind a b next : ℕ) : Type 0 where
-  kind-is : kindOf s x ≡ kind
-  a-is : wireA s x ≡ a
-  b-is : wireB s x ≡ b
-  next-is : nextOf s x ≡ next
+record Holds (s : List ℕ) (x : ℕ) (q : Four) : Type 0 where
+  kind-is : kindOf s x ≡ q .first
+  a-is : wireA s x ≡ q .second
+  b-is : wireB s x ≡ q .third
+  next-is : nextOf s x ≡ q .fourth
 
 pick : ℕ → ℕ → ℕ → ℕ → paper.Gate
 pick n a b c = cond (eqb n 1) (paper.xor a b c) (cond (eqb n 2) (paper.and a b c) (paper.inv a c))
@@ -34,16 +33,16 @@ pick n a b c = cond (eqb n 1) (paper.xor a b c) (cond (eqb n 2) (paper.and a b c
 passes : ℕ → ℕ → Bool
 passes n b = eqb n 1 || eqb n 2 || (eqb n 3 && eqb b 0)
 
-holds-gate : (s : List ℕ) (x n a b next c : ℕ) → Holds s x n a b next → inputsOf s + x - 1 ≡ c → gateAt s x ≡ pick n a b c
+holds-gate : (s : List ℕ) (x : ℕ) (q : Four) (c : ℕ) → Holds s x q → inputsOf s + x - 1 ≡ c → gateAt s x ≡ pick (q .first) (q .second) (q .third) c
 unfolding form.gateAt pick
-holds-gate s x n a b next c h e = same (h .kind-is) (h .a-is) (h .b-is) e
+holds-gate s x q c h e = same (h .kind-is) (h .a-is) (h .b-is) e
   where
     same : {n₁ n₂ a₁ a₂ b₁ b₂ c₁ c₂ : ℕ} → n₁ ≡ n₂ → a₁ ≡ a₂ → b₁ ≡ b₂ → c₁ ≡ c₂ → pick n₁ a₁ b₁ c₁ ≡ pick n₂ a₂ b₂ c₂
     same p q r s = cc
 
-holds-good : (s : List ℕ) (x n a b next : ℕ) → Holds s x n a b next → goodRecord s x ≡ passes n b
+holds-good : (s : List ℕ) (x : ℕ) (q : Four) → Holds s x q → goodRecord s x ≡ passes (q .first) (q .third)
 unfolding form.goodRecord passes
-holds-good s x n a b next h = same (h .kind-is) (h .b-is)
+holds-good s x q h = same (h .kind-is) (h .b-is)
   where
     same : {n₁ n₂ b₁ b₂ : ℕ} → n₁ ≡ n₂ → b₁ ≡ b₂ → passes n₁ b₁ ≡ passes n₂ b₂
     same p q = cc
@@ -60,7 +59,7 @@ module _ (t : Text) (k : Accepted t) where
   G = length (t .gates)
 
   abbrev f : List ℕ
-  f = fileOf t
+  f = textFile t
 
   -- a line that fits writes a wire above the inputs, not written before
   record Fresh (before : List GateLine) (g : GateLine) : Type 0 where
@@ -105,26 +104,10 @@ module _ (t : Text) (k : Accepted t) where
       let n = fresh before g (h .0) in
       omega (arith, n .low, n .high)
 
-  -- a number in the record of a line
+  -- the slot of a line
   module _ (before : List GateLine) (g : GateLine) (after : List GateLine) (e : t .gates ≡ before ++ (g ∷ after)) (n : Fresh before g) where
-    in-line : (p i : ℕ) → p ≡ recordPlace (t .outputs) (writes g - I) + i → i + width ≤ recordSize → leAt width f p ≡ leAt width (recordBytes g (firstSlot I after)) i
-    in-line p i e′ h =
-        let j : writes g - I < G = omega (arith, n .low, n .high) in
-        let w : I + (writes g - I) ≡ writes g = omega (arith, n .low) in
-        ap (leAt width f) e′
-        ∙ in-record t k width (writes g - I) i j h
-        ∙ ap (λ (x : ℕ). leAt width (recordFor I x (t .gates)) i) w
-        ∙ ap (λ (l : List GateLine). leAt width (recordFor I (writes g) l) i) e
-        ∙ ap (λ (r : List ℕ). leAt width r i) (for-line I before g after (n .new))
-
-    -- the kind, and a field after it
-    in-kind : kindOf f (slotOf I g) ≡ leAt width (recordBytes g (firstSlot I after)) 0
-    unfolding slotOf form.field
-    in-kind = in-line _ 0 (omega (arith, file-outputs t k)) (omega arith)
-
-    in-field : (i : ℕ) → i < 4 → fieldsOf f (recordAt f (slotOf I g) + i) ≡ leAt width (recordBytes g (firstSlot I after)) (width * i)
-    unfolding slotOf form.field
-    in-field i h = in-line _ (width * i) (omega (arith, file-outputs t k)) (omega arith)
+    abbrev q : Four
+    q = recordOf g (firstSlot I after)
 
     own-wire : inputsOf f + slotOf I g - 1 ≡ writes g
     unfolding slotOf
@@ -134,30 +117,38 @@ module _ (t : Text) (k : Accepted t) where
     unfolding slotOf
     own-low = omega arith
 
-    own-high : slotOf I g ≤ gatesOf f
+    own-high : slotOf I g ≤ G
     unfolding slotOf
-    own-high = omega (arith, file-gates t k, n .low, n .high)
+    own-high = omega (arith, n .low, n .high)
 
-    abbrev bytes : List ℕ
-    bytes = recordBytes g (firstSlot I after)
+    -- has its record
+    own-record : partsOf t .slot (slotOf I g) ≡ q
+    unfolding slotOf partsOf
+    own-record =
+        let w : I + (writes g - I + 1) - 1 ≡ writes g = omega (arith, n .low) in
+        ap (λ (x : ℕ). recordFor I x (t .gates)) w ∙ ap (recordFor I (writes g)) e ∙ for-line I before g after (n .new)
 
-    -- the slot holds the line's gate, from what stands in the record's bytes
-    made : (kind a b : ℕ) → leAt width bytes 0 ≡ kind → leAt width bytes width ≡ a → leAt width bytes (width * 2) ≡ b
-        → leAt width bytes (width * 3) ≡ firstSlot I after → pick kind a b (writes g) ≡ asGate g → passes kind b ≡ true → Stands f I g after
-    made kind a b is-kind is-a is-b is-next same good =
-        let held : Holds f (slotOf I g) kind a b (firstSlot I after) =
+    held : SmallFour q → Holds f (slotOf I g) q
+    held s =
+        let r = own-record in
+        let small : SmallFour (partsOf t .slot (slotOf I g)) = rw r s in
         record {
-          kind-is = in-kind ∙ is-kind;
-          a-is = in-field 1 (omega arith) ∙ is-a;
-          b-is = in-field 2 (omega arith) ∙ is-b;
-          next-is = in-field 3 (omega arith) ∙ is-next;
-        } in
+          kind-is = slot-kind t k (slotOf I g) own-low own-high small ∙ ap (λ (x : Four). x .first) r;
+          a-is = slot-a t k (slotOf I g) own-low own-high small ∙ ap (λ (x : Four). x .second) r;
+          b-is = slot-b t k (slotOf I g) own-low own-high small ∙ ap (λ (x : Four). x .third) r;
+          next-is = slot-next t k (slotOf I g) own-low own-high small ∙ ap (λ (x : Four). x .fourth) r;
+        }
+
+    -- so it holds the line's gate
+    made : SmallFour q → pick (q .first) (q .second) (q .third) (writes g) ≡ asGate g → q .fourth ≡ firstSlot I after → passes (q .first) (q .third) ≡ true
+        → Stands f I g after
+    made s same next good =
         record {
-          gate = holds-gate f (slotOf I g) kind a b (firstSlot I after) (writes g) held own-wire ∙ same;
-          next = held .next-is;
+          gate = holds-gate f (slotOf I g) q (writes g) (held s) own-wire ∙ same;
+          next = held s .next-is ∙ next;
           low = own-low;
-          high = own-high;
-          good = holds-good f (slotOf I g) kind a b (firstSlot I after) held ∙ good;
+          high = omega (arith, own-high, file-gates t k);
+          good = holds-good f (slotOf I g) q (held s) ∙ good;
         }
 
   next-fits : (after : List GateLine) → firstSlot I after ≤ G → firstSlot I after < 4294967296
@@ -165,23 +156,36 @@ module _ (t : Text) (k : Accepted t) where
 
   stands : (before : List GateLine) (g : GateLine) (after : List GateLine) → t .gates ≡ before ++ (g ∷ after) → fitsBelow I G before g ≡ true
       → Small before → firstSlot I after ≤ G → Stands f I g after
-  unfolding fitsBelow recordBytes fields leBytes leAt pick passes asGate writes
+  unfolding fitsBelow recordOf pick passes asGate writes
   stands before (xor a b c) after e h m d =
       let two = and-true-left (readable I G before a && readable I G before b) (writable I G before c) h in
-      made before (xor a b c) after e (fresh before (xor a b c) h) 1 a b refl
-      (four-bytes a (small-read before a m (and-true-left (readable I G before a) (readable I G before b) two)))
-      (four-bytes b (small-read before b m (and-true-right (readable I G before a) (readable I G before b) two)))
-      (four-bytes (firstSlot I after) (next-fits after d)) refl refl
+      made before (xor a b c) after e (fresh before (xor a b c) h)
+      (record {
+        first = omega arith;
+        second = small-read before a m (and-true-left (readable I G before a) (readable I G before b) two);
+        third = small-read before b m (and-true-right (readable I G before a) (readable I G before b) two);
+        fourth = next-fits after d;
+      })
+      refl refl refl
   stands before (and a b c) after e h m d =
       let two = and-true-left (readable I G before a && readable I G before b) (writable I G before c) h in
-      made before (and a b c) after e (fresh before (and a b c) h) 2 a b refl
-      (four-bytes a (small-read before a m (and-true-left (readable I G before a) (readable I G before b) two)))
-      (four-bytes b (small-read before b m (and-true-right (readable I G before a) (readable I G before b) two)))
-      (four-bytes (firstSlot I after) (next-fits after d)) refl refl
+      made before (and a b c) after e (fresh before (and a b c) h)
+      (record {
+        first = omega arith;
+        second = small-read before a m (and-true-left (readable I G before a) (readable I G before b) two);
+        third = small-read before b m (and-true-right (readable I G before a) (readable I G before b) two);
+        fourth = next-fits after d;
+      })
+      refl refl refl
   stands before (inv a c) after e h m d =
-      made before (inv a c) after e (fresh before (inv a c) h) 3 a 0 refl
-      (four-bytes a (small-read before a m (and-true-left (readable I G before a) (writable I G before c) h))) refl
-      (four-bytes (firstSlot I after) (next-fits after d)) refl refl
+      made before (inv a c) after e (fresh before (inv a c) h)
+      (record {
+        first = omega arith;
+        second = small-read before a m (and-true-left (readable I G before a) (writable I G before c) h);
+        third = omega arith;
+        fourth = next-fits after d;
+      })
+      refl refl refl
 
   -- by induction on the lines that are left
   linked : (before gs : List GateLine) → t .gates ≡ before ++ gs → Fits I G before gs → Small before → Linked f I gs

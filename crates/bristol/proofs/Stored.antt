@@ -1,8 +1,8 @@
 -- The records of a text's gates, stored in the text's order, are the records of the file.
 -- Assumes nothing.
-use mathlib.Core.Path.{_≡_, refl, sym, ap, _∙_}
+use mathlib.Core.Path.{_≡_, refl, sym, ap, ap₂, _∙_}
 use mathlib.Core.Bool.{Bool, true, false, cond, not, _&&_, _||_}
-use mathlib.Core.List.{List, [], _∷_, _++_, map, append-assoc, append-nil}
+use mathlib.Core.List.{List, [], _∷_, _++_, map, flatten, append-assoc, append-nil}
 use mathlib.Core.Logic.{⊎-elim}
 use mathlib.Core.Option.{Option, none, some}
 use Prim.Native.Nat.{ℕ, zero, suc, _+_, _-_, _*_, _≤_, _<_}
@@ -23,12 +23,12 @@ use Rattle.circuit.specs.File.{width, gatesOf, headOf, chainFrom}
 use Rattle.circuit.proofs.Visits.{chain-theorem}
 use Rattle.bristol_text.specs.Text.{Line}
 use Rattle.bristol.specs.Rules.{GateLine, xor, and, inv, Text, refused, says, isKnown, kindOn, gateOn, writes, written, readable, writable, fitsBelow, gateElse22, gateLines}
-use Rattle.bristol.specs.Conversion.{slotOf, firstSlot, recordBytes, recordFor, joined, headerPart, outputPart, recordPart, fileOf}
-use Rattle.bristol.specs.Steps.{stored, gateBefore, gatesFrom}
+use Rattle.bristol.specs.Conversion.{slotOf, firstSlot, recordOf, recordFor, textFile}
+use Rattle.bristol.specs.Steps.{fourOf, recordBytes, stored, gateBefore, gatesFrom}
 use Rattle.bristol.proofs.Accepted.{Fits, Accepted, after}
 use Rattle.bristol.proofs.Chained.{Linked, written-more}
 use Rattle.bristol.proofs.Converts.{chain-good, head}
-use Rattle.bristol.proofs.Filed.{record-length, file-gates, file-length, header-length, output-length}
+use Rattle.bristol.proofs.Filed.{headerPart, outputPart, recordPart, four-length, file-gates, file-length, file-parts, header-length, output-length}
 use Rattle.bristol.proofs.Slots.{all-linked}
 use Rattle.bristol.proofs.Stores.{sets-at, parts-of, putAt, put-here, put-other, put-part}
 
@@ -74,21 +74,21 @@ module _ (I G : ℕ) where
 
   put-length : (f : ℕ → List ℕ) (g : GateLine) (x j : ℕ) → ((k : ℕ) → k < G → length (f k) ≡ recordSize) → (k : ℕ) → k < G → length (putAt f j (recordBytes g x) k) ≡ recordSize
   put-length f g x j e k h =
-      ⊎-elim (λ q. ap length (put-here f j (recordBytes g x) k q) ∙ record-length g x) (λ n. ap length (put-other f j (recordBytes g x) k n) ∙ e k h) (eq-or-ne k j)
+      ⊎-elim (λ q. ap length (put-here f j (recordBytes g x) k q) ∙ four-length (recordOf g x)) (λ n. ap length (put-other f j (recordBytes g x) k n) ∙ e k h) (eq-or-ne k j)
 
   stored-parts : (O : ℕ) (a c : List ℕ) → length a ≡ recordPlace O 0 → (above gs : List GateLine) → Fits I G above gs → (f : ℕ → List ℕ) → ((k : ℕ) → k < G → length (f k) ≡ recordSize)
-      → stored I O gs (a ++ (joined (tabulate G f) ++ c)) ≡ a ++ (joined (tabulate G (filledBy gs f)) ++ c)
+      → stored I O gs (a ++ (flatten (tabulate G f) ++ c)) ≡ a ++ (flatten (tabulate G (filledBy gs f)) ++ c)
   unfolding stored filledBy Fits
   stored-parts O a c l above [] w f e = refl
   stored-parts O a c l above (g ∷ gs) w f e =
       let n = fits-writes I G above g (w .0) in
       let r = recordBytes g (firstSlot I gs) in
       let j : writes g - I < G = omega arith in
-      ap (stored I O gs) (put-part a c G f (writes g - I) r (recordPlace O (writes g - I)) j e (record-length g (firstSlot I gs)) (omega arith))
+      ap (stored I O gs) (put-part a c G f (writes g - I) r (recordPlace O (writes g - I)) j e (four-length (recordOf g (firstSlot I gs))) (omega arith))
       ∙ stored-parts O a c l (above ++ (g ∷ [])) gs (w .1) (putAt f (writes g - I) r) (put-length f g (firstSlot I gs) (writes g - I) e)
 
   -- what each record then is
-  filled-at : (above gs : List GateLine) → Fits I G above gs → (f : ℕ → List ℕ) (j : ℕ) → filledBy gs f j ≡ cond (written gs (I + j)) (recordFor I (I + j) gs) (f j)
+  filled-at : (above gs : List GateLine) → Fits I G above gs → (f : ℕ → List ℕ) (j : ℕ) → filledBy gs f j ≡ cond (written gs (I + j)) (fourOf (recordFor I (I + j) gs)) (f j)
   unfolding filledBy Fits written recordFor
   filled-at above [] w f j = refl
   filled-at above (g ∷ gs) w f j = filled-at (above ++ (g ∷ [])) gs (w .1) (putAt f (writes g - I) r) j ∙ ⊎-elim same other (eq-or-ne (I + j) (writes g))
@@ -102,14 +102,14 @@ module _ (I G : ℕ) where
       mine : written (above ++ (g ∷ [])) (writes g) ≡ true
       mine = written-more above g (writes g) ∙ rw (eq-eqb (writes g) (writes g) refl) (or-true (written above (writes g)))
 
-      same : I + j ≡ writes g → cond (written gs (I + j)) (recordFor I (I + j) gs) (putAt f (writes g - I) r j)
-          ≡ cond (eqb (I + j) (writes g) || written gs (I + j)) (cond (eqb (I + j) (writes g)) r (recordFor I (I + j) gs)) (f j)
+      same : I + j ≡ writes g → cond (written gs (I + j)) (fourOf (recordFor I (I + j) gs)) (putAt f (writes g - I) r j)
+          ≡ cond (eqb (I + j) (writes g) || written gs (I + j)) (fourOf (cond (eqb (I + j) (writes g)) (recordOf g (firstSlot I gs)) (recordFor I (I + j) gs))) (f j)
       same e =
           rw (ap (written gs) e ∙ later I G (above ++ (g ∷ [])) gs (w .1) (writes g) mine, eq-eqb (I + j) (writes g) e)
           (put-here f (writes g - I) r j (omega arith))
 
-      other : (I + j ≡ writes g → ⊥) → cond (written gs (I + j)) (recordFor I (I + j) gs) (putAt f (writes g - I) r j)
-          ≡ cond (eqb (I + j) (writes g) || written gs (I + j)) (cond (eqb (I + j) (writes g)) r (recordFor I (I + j) gs)) (f j)
+      other : (I + j ≡ writes g → ⊥) → cond (written gs (I + j)) (fourOf (recordFor I (I + j) gs)) (putAt f (writes g - I) r j)
+          ≡ cond (eqb (I + j) (writes g) || written gs (I + j)) (fourOf (cond (eqb (I + j) (writes g)) (recordOf g (firstSlot I gs)) (recordFor I (I + j) gs))) (f j)
       other n = rw (ne-eqb (I + j) (writes g) n, put-other f (writes g - I) r j (λ q. n (omega (arith, low))))
 
 -- the chain visits the slots of the gate lines
@@ -143,7 +143,7 @@ module _ (t : Text) (k : Accepted t) where
   -- every wire above the inputs is written
   all-written : (j : ℕ) → j < G → written (t .gates) (I + j) ≡ true
   all-written j h =
-      let f = fileOf t in
+      let f = textFile t in
       let once : count (suc j) (chainFrom f (gatesOf f) (headOf f)) ≡ 1 =
       chain-theorem .sound f (chain-good t k) .once (suc j) (omega arith) (omega (arith, file-gates t k)) in
       let some : count (suc j) (chainFrom f G (firstSlot I (t .gates))) ≡ 1 = rw (file-gates t k, head t k) at once in
@@ -172,35 +172,35 @@ module _ (t : Text) (k : Accepted t) where
         let hp = headerPart t in
         let op = outputPart t in
         ap (λ (l : List ℕ). sets l (outputPlace 0) op)
-        (sets-at out [] (take recordSize out) (drop recordSize out) hp 0 (sym (take-append-drop recordSize out)) refl (length-take-le recordSize out (omega arith) ∙ sym (header-length t k)))
-        ∙ sets-at (hp ++ drop recordSize out) hp (take (width * O) (drop recordSize out)) rest op (outputPlace 0) (ap (λ (l : List ℕ). hp ++ l) (sym (take-append-drop (width * O) (drop recordSize out)))) (header-length t k)
-        (length-take-le (width * O) (drop recordSize out) (omega (arith, length-drop recordSize out)) ∙ omega (arith, output-length t k))
+        (sets-at out [] (take recordSize out) (drop recordSize out) hp 0 (sym (take-append-drop recordSize out)) refl (length-take-le recordSize out (omega arith) ∙ sym (header-length t)))
+        ∙ sets-at (hp ++ drop recordSize out) hp (take (width * O) (drop recordSize out)) rest op (outputPlace 0) (ap (λ (l : List ℕ). hp ++ l) (sym (take-append-drop (width * O) (drop recordSize out)))) (header-length t)
+        (length-take-le (width * O) (drop recordSize out) (omega (arith, length-drop recordSize out)) ∙ omega (arith, output-length t))
 
-    filled-record : (j : ℕ) → j < G → filledBy I G (t .gates) part j ≡ recordFor I (I + j) (t .gates)
+    filled-record : (j : ℕ) → j < G → filledBy I G (t .gates) part j ≡ fourOf (recordFor I (I + j) (t .gates))
     filled-record j h = filled-at I G [] (t .gates) (k .fits) part j ∙ rw (all-written j h)
 
-    beyond : drop (G * recordSize) rest ≡ drop (length (fileOf t)) out
+    beyond : drop (G * recordSize) rest ≡ drop (length (textFile t)) out
     beyond =
-        let e : recordSize + (width * O + G * recordSize) ≡ length (fileOf t) = omega (arith, file-length t k) in
+        let e : recordSize + (width * O + G * recordSize) ≡ length (textFile t) = omega (arith, file-length t) in
         drop-drop (G * recordSize) (width * O) (drop recordSize out) ∙ drop-drop (width * O + G * recordSize) recordSize out ∙ ap (λ (i : ℕ). drop i out) e
 
     -- the whole is the file
-    pub all-stored : stored I O (t .gates) (sets (sets out 0 (headerPart t)) (outputPlace 0) (outputPart t)) ≡ front (fileOf t) out
-    unfolding fileOf recordPart
+    pub all-stored : stored I O (t .gates) (sets (sets out 0 (headerPart t)) (outputPlace 0) (outputPart t)) ≡ front (textFile t) out
+    unfolding recordPart
     all-stored =
         let hp = headerPart t in
         let op = outputPart t in
-        let rp = joined (tabulate G (λ j. recordFor I (I + j) (t .gates))) in
+        let rp = flatten (tabulate G (λ j. fourOf (recordFor I (I + j) (t .gates)))) in
         let c = drop (G * recordSize) rest in
-        let len : length (hp ++ op) ≡ recordPlace O 0 = omega (arith, length-append hp op, header-length t k, output-length t k) in
+        let len : length (hp ++ op) ≡ recordPlace O 0 = omega (arith, length-append hp op, header-length t, output-length t) in
         ap (stored I O (t .gates))
         (front-parts ∙ ap (λ (l : List ℕ). hp ++ (op ++ l)) (sym (take-append-drop (G * recordSize) rest) ∙ ap (λ (l : List ℕ). l ++ c) (sym (parts-of recordSize G rest)))
-        ∙ sym (append-assoc hp op (joined (tabulate G part) ++ c)))
+        ∙ sym (append-assoc hp op (flatten (tabulate G part) ++ c)))
         ∙ stored-parts I G O (hp ++ op) c len [] (t .gates) (k .fits) part part-length
-        ∙ ap (λ (l : List ℕ). (hp ++ op) ++ (l ++ c)) (ap joined (tabulate-cong G (filledBy I G (t .gates) part) (λ j. recordFor I (I + j) (t .gates)) filled-record))
+        ∙ ap (λ (l : List ℕ). (hp ++ op) ++ (l ++ c)) (ap flatten (tabulate-cong G (filledBy I G (t .gates) part) (λ j. fourOf (recordFor I (I + j) (t .gates))) filled-record))
         ∙ append-assoc hp op (rp ++ c)
         ∙ sym (append-assoc hp (op ++ rp) c ∙ ap (λ (l : List ℕ). hp ++ l) (append-assoc op rp c))
-        ∙ ap (λ (l : List ℕ). (hp ++ (op ++ rp)) ++ l) beyond
+        ∙ ap₂ (λ (a b : List ℕ). a ++ b) (sym (file-parts t)) beyond
 
 -- the gates of an accepted text are those on its lines
 module _ (I O G : ℕ) (t : Text) where

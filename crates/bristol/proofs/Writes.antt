@@ -1,29 +1,29 @@
 -- The walk that stores the records of good gate lines, and what a buffer holds after it.
 -- Assumes nothing.
-use mathlib.Core.Path.{_≡_, refl, sym, ap, subst, _∙_}
+use mathlib.Core.Path.{_≡_, refl, sym, ap, ap₂, subst, _∙_}
 use mathlib.Core.Bool.{Bool, true, false, cond, not}
-use mathlib.Core.List.{List, [], _∷_, _++_}
+use mathlib.Core.List.{List, [], _∷_, _++_, flatten}
 use mathlib.Core.Option.{Option, none, some}
 use Prim.Native.Nat.{ℕ, suc, _+_, _-_, _*_, _≤_, _<_}
 use native.Mathlib.Omega.{arith}
-use lib.Dec.{leb}
 use lib.ListN.{length, drop}
 use lib.Seq.{sets, length-sets}
-use borrow.Author.Tests.{le-leb, lt-leb}
 use Rattle.refusal.specs.Refusal.{numberOf}
 use Rattle.refusal.specs.Outcome.{success, refuses}
 use Rattle.refusal.specs.declared.Refusal.{Refusal}
 use Rattle.bits.specs.Bits.{tabulate}
 use Rattle.bits.specs.Bytes.{leBytes}
-use Rattle.circuit.specs.Building.{front, builds}
+use Rattle.circuit.specs.Building.{front}
 use Rattle.circuit.specs.File.{width}
 use Rattle.circuit.specs.Steps.{outputPlace, recordPlace}
+use Rattle.building.specs.Steps.{fourBytes}
+use Rattle.building.proofs.Built.{built, not-built}
 use Rattle.bristol_text.specs.Text.{Line, lines}
 use Rattle.bristol_text.specs.declared.Cursor.{Cursor}
 use Rattle.bristol.specs.Rules.{GateLine, Text, Reading, refused, says, isKnown, kindOn, gateOn, writes, fitsBelow, lastWire, gateElse22, gateLines}
-use Rattle.bristol.specs.Conversion.{slotOf, firstSlot, fields, recordBytes, joined, headerPart, outputPart, fileOf}
+use Rattle.bristol.specs.Conversion.{slotOf, firstSlot, textFile}
 use Rattle.bristol.specs.Operations.{conversion}
-use Rattle.bristol.specs.Steps.{Begun, HeaderTold, lineOf, gateOf, readAs, gateRead, firstGate, GateAt, Few, gatesAt, refusalOf, gateBefore, gatesFrom, Going, Output, Room, Started, stored, filed}
+use Rattle.bristol.specs.Steps.{recordBytes, Begun, HeaderTold, lineOf, gateOf, readAs, gateRead, firstGate, GateAt, Few, gatesAt, refusalOf, gateBefore, gatesFrom, Going, Output, Room, Started, stored, filed}
 use Rattle.bristol.specs.declared.Gate.{Gate}
 use Rattle.bristol.specs.declared.GateRead.{GateRead}
 use Rattle.bristol.specs.declared.GateRead.the-variants.{Read, Unknown, Malformed}
@@ -31,7 +31,7 @@ use Rattle.bristol.specs.declared.Header.{Header}
 use Rattle.bristol.specs.declared.Header.the-variants as header
 use Rattle.bristol.specs.declared.Sizes.{Sizes}
 use Rattle.bristol.proofs.Accepted.{Accepted, More, gates-accepted, below, accepted}
-use Rattle.bristol.proofs.Filed.{file-length}
+use Rattle.bristol.proofs.Filed.{headerPart, outputPart, file-length}
 use Rattle.bristol.proofs.Lined.{line-of-gate}
 use Rattle.bristol.proofs.Stored.{fits-writes, all-stored, gates-from}
 
@@ -155,7 +155,7 @@ module _ (s : List ℕ) (z : Sizes) (out₀ x : List ℕ) where
 
 -- the stores of a header, the output wires and the records
 unfoldable wholeOf : ℕ → ℕ → ℕ → ℕ → List GateLine → List ℕ → List ℕ
-wholeOf I O G head gs out = stored I O gs (sets (sets out 0 (fields I O G head)) (outputPlace 0) (joined (tabulate O (λ k. leBytes width (I + G - O + k)))))
+wholeOf I O G head gs out = stored I O gs (sets (sets out 0 (fourBytes I O G head)) (outputPlace 0) (flatten (tabulate O (λ k. leBytes width (I + G - O + k)))))
 
 record SaysSome (x : Reading) : Type 0 where
   text : Text
@@ -194,7 +194,7 @@ module _ (s : List ℕ) (z : Sizes) (at : ℕ) (few : Few z) where
     same-gates = gates-from (z .inputs) (z .outputs) (z .gates) t (z .gates) [] (lines (drop at s)) e
 
     text-stored : (out : List ℕ) (head : ℕ) → recordPlace (z .outputs) (z .gates) ≤ length out → head ≡ firstSlot (z .inputs) (gatesFrom (lines (drop at s)))
-        → wholeOf (z .inputs) (z .outputs) (z .gates) head (gatesFrom (lines (drop at s))) out ≡ front (fileOf t) out
+        → wholeOf (z .inputs) (z .outputs) (z .gates) head (gatesFrom (lines (drop at s))) out ≡ front (textFile t) out
     unfolding wholeOf headerPart outputPart lastWire
     text-stored out head room h =
         let a = inputs-are in
@@ -219,7 +219,7 @@ module _ (s : List ℕ) (z : Sizes) (at : ℕ) (few : Few z) where
 
     -- a text without gates
     pub filed-none : (out : List ℕ) → recordPlace (z .outputs) (z .gates) ≤ length out → z .gates ≡ 0
-        → sets (sets out 0 (fields (z .inputs) (z .outputs) (z .gates) 0)) (outputPlace 0) (joined (tabulate (z .outputs) (λ k. leBytes width (z .inputs + z .gates - z .outputs + k)))) ≡ filed (gatesAt s z at) out
+        → sets (sets out 0 (fourBytes (z .inputs) (z .outputs) (z .gates) 0)) (outputPlace 0) (flatten (tabulate (z .outputs) (λ k. leBytes width (z .inputs + z .gates - z .outputs + k)))) ≡ filed (gatesAt s z at) out
     unfolding wholeOf stored firstSlot gatesAt
     filed-none out room e =
         let ls = lines (drop at s) in
@@ -233,31 +233,33 @@ module _ (s : List ℕ) (z : Sizes) (at : ℕ) (few : Few z) where
     pub filed-some : (out : List ℕ) → recordPlace (z .outputs) (z .gates) ≤ length out → (left next : ℕ) (g : Gate) → Next s z left at next g
         → (slot : ℕ) → slot ≡ writes (lineOf g) - z .inputs + 1
         → stored (z .inputs) (z .outputs) (lineOf g ∷ gatesFrom (lines (drop next s)))
-        (sets (sets out 0 (fields (z .inputs) (z .outputs) (z .gates) slot)) (outputPlace 0) (joined (tabulate (z .outputs) (λ k. leBytes width (z .inputs + z .gates - z .outputs + k))))) ≡ filed (gatesAt s z at) out
+        (sets (sets out 0 (fourBytes (z .inputs) (z .outputs) (z .gates) slot)) (outputPlace 0) (flatten (tabulate (z .outputs) (λ k. leBytes width (z .inputs + z .gates - z .outputs + k))))) ≡ filed (gatesAt s z at) out
     unfolding wholeOf firstSlot slotOf
     filed-some out room left next g n slot f =
         sym (ap (λ (gs : List GateLine). wholeOf (z .inputs) (z .outputs) (z .gates) slot gs out) (n .gates))
         ∙ all-filed out slot room (f ∙ sym (ap (firstSlot (z .inputs)) (n .gates)))
 
-    file-size : (t : Text) → gatesAt s z at ≡ says t → length (fileOf t) ≡ recordPlace (z .outputs) (z .gates)
-    file-size t e = omega (arith, file-length t (sizes-accepted t e), outputs-are t e, gates-are t e)
+    file-size : (t : Text) → gatesAt s z at ≡ says t → length (textFile t) ≡ recordPlace (z .outputs) (z .gates)
+    file-size t e = omega (arith, file-length t, outputs-are t e, gates-are t e)
 
     -- an output that is too short, and one that is long enough
     pub convert-short : (out : List ℕ) → length out < recordPlace (z .outputs) (z .gates) → refuses 6 (out ∷ []) ≡ conversion (gatesAt s z at) out
-    unfolding conversion builds
+    unfolding conversion
     convert-short out h =
         let k = some-text (gatesAt s z at) good in
-        sym (ap (λ (x : Reading). conversion x out) (k .same) ∙ rw (lt-leb (length (fileOf (k .text))) (length out) (omega (arith, file-size (k .text) (k .same)))))
+        sym (ap (λ (x : Reading). conversion x out) (k .same) ∙ not-built (textFile (k .text)) out (omega (arith, file-size (k .text) (k .same))))
 
     pub convert-long : (out : List ℕ) → recordPlace (z .outputs) (z .gates) ≤ length out → (size : ℕ) → size ≡ recordPlace (z .outputs) (z .gates) → (new : List ℕ)
         → new ≡ filed (gatesAt s z at) out → record { answer = success (size ∷ []); left = new ∷ [] } ≡ conversion (gatesAt s z at) out
-    unfolding conversion builds filed
+    unfolding conversion filed
     convert-long out h size p new e =
         let k = some-text (gatesAt s z at) good in
-        let n : length (fileOf (k .text)) ≡ size = file-size (k .text) (k .same) ∙ sym p in
-        let f : new ≡ front (fileOf (k .text)) out = e ∙ ap (λ (x : Reading). filed x out) (k .same) in
-        let l : leb (length (fileOf (k .text))) (length out) ≡ true = le-leb (length (fileOf (k .text))) (length out) (omega arith) in
-        sym (ap (λ (x : Reading). conversion x out) (k .same) ∙ rw (l, f, n))
+        let n : length (textFile (k .text)) ≡ size = file-size (k .text) (k .same) ∙ sym p in
+        let f : new ≡ front (textFile (k .text)) out = e ∙ ap (λ (x : Reading). filed x out) (k .same) in
+        sym
+        (ap (λ (x : Reading). conversion x out) (k .same)
+        ∙ built (textFile (k .text)) out (omega arith)
+        ∙ ap₂ (λ (i : ℕ) (l : List ℕ). record { answer = success (i ∷ []); left = l ∷ [] }) n (sym f))
 
 -- a reading that is refused
 pub convert-refused : (x : Reading) (n : ℕ) (out : List ℕ) → some n ≡ refusalOf x → refuses n (out ∷ []) ≡ conversion x out

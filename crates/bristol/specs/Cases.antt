@@ -6,7 +6,7 @@ use mathlib.Core.List.{List, [], _∷_, _++_}
 use Prim.Native.Nat.{ℕ}
 use lib.Dec.{ltb}
 use Rattle.circuit.specs.File as file
-use Rattle.bristol.specs.Conversion.{asCircuit, fileOf}
+use Rattle.bristol.specs.Conversion.{asCircuit, textFile}
 use Rattle.bristol_text.specs.Text.{LF}
 use Rattle.bristol.specs.Rules.{and, Text, refused, says, meaning, readText}
 
@@ -41,7 +41,7 @@ pub record Cases : Type 0 where
   pub gives-one : meaning both (λ w. true) ≡ true ∷ []
   pub gives-zero : meaning both (λ w. ltb w 1) ≡ false ∷ []
   -- its file reads as its circuit
-  pub converted : file.readCircuit (fileOf both) ≡ file.legal (asCircuit both)
+  pub converted : file.readCircuit (textFile both) ≡ file.legal (asCircuit both)
   -- 22: a number with a leading zero, "01 3"
   pub leading-zero : readText (48 ∷ counts ++ LF ∷ []) ≡ refused 22
   -- 22: two spaces, "1  3"

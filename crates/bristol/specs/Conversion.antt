@@ -1,19 +1,14 @@
--- The circuit and the circuit file that a text is converted to, and the statement that the file is right.
--- Document 02, order 3: "Wire w written by a gate goes to slot w − I + 1, and the chain follows the text. Outputs are the last wires.
--- A converted circuit evaluates as the text does by that format's rules".
+-- The circuit and the circuit file that a text is converted to.
+-- Document 02, order 3: "Wire w written by a gate goes to slot w − I + 1, and the chain follows the text. Outputs are the last wires."
 -- Assumes nothing.
-use mathlib.Core.Path.{_≡_}
-use mathlib.Core.Bool.{Bool, cond}
-use mathlib.Core.List.{List, [], _∷_, _++_, map}
+use mathlib.Core.Bool.{cond}
+use mathlib.Core.List.{List, [], _∷_, map}
 use Prim.Native.Nat.{ℕ, _+_, _-_}
 use lib.Dec.{eqb}
 use lib.ListN.{length}
-use Rattle.bits.specs.Bits.{tabulate}
-use Rattle.bits.specs.Bytes.{leBytes}
 use Rattle.circuit.specs.Circuit as paper
-use Rattle.circuit.specs.File as file
-use Rattle.circuit.specs.File.{width}
-use Rattle.bristol.specs.Rules.{GateLine, xor, and, inv, Text, says, writes, lastWire, outputWires, meaning, readText}
+use Rattle.building.specs.Files.{Four, Parts, laid, fileOf}
+use Rattle.bristol.specs.Rules.{GateLine, xor, and, inv, Text, writes, lastWire, outputWires}
 
 -- a gate line as a gate of our circuits
 unfoldable pub asGate : GateLine → paper.Gate
@@ -33,50 +28,27 @@ unfoldable pub firstSlot : ℕ → List GateLine → ℕ
 firstSlot I [] = 0
 firstSlot I (g ∷ gs) = slotOf I g
 
--- four fields of a circuit file: "All circuit file fields become u32"
-unfoldable pub fields : ℕ → ℕ → ℕ → ℕ → List ℕ
-fields a b c d = leBytes width a ++ (leBytes width b ++ (leBytes width c ++ leBytes width d))
-
 -- "record 16 bytes: kind, a, b, next", the kind 1 for XOR, 2 for AND, 3 for INV
-unfoldable pub recordBytes : GateLine → ℕ → List ℕ
-recordBytes (xor a b c) next = fields 1 a b next
-recordBytes (and a b c) next = fields 2 a b next
-recordBytes (inv a c) next = fields 3 a 0 next
+unfoldable pub recordOf : GateLine → ℕ → Four
+recordOf (xor a b c) next = record { first = 1; second = a; third = b; fourth = next }
+recordOf (and a b c) next = record { first = 2; second = a; third = b; fourth = next }
+recordOf (inv a c) next = record { first = 3; second = a; third = 0; fourth = next }
 
 -- the record of the gate that writes wire w, and there always is one; its link leads to the gate on the next line: "the chain
 -- follows the text"
-unfoldable pub recordFor : ℕ → ℕ → List GateLine → List ℕ
-recordFor I w [] = fields 0 0 0 0
-recordFor I w (g ∷ gs) = cond (eqb w (writes g)) (recordBytes g (firstSlot I gs)) (recordFor I w gs)
+unfoldable pub recordFor : ℕ → ℕ → List GateLine → Four
+recordFor I w [] = record { first = 0; second = 0; third = 0; fourth = 0 }
+recordFor I w (g ∷ gs) = cond (eqb w (writes g)) (recordOf g (firstSlot I gs)) (recordFor I w gs)
 
--- the parts in order
-unfoldable pub joined : List (List ℕ) → List ℕ
-joined [] = []
-joined (p ∷ ps) = p ++ joined ps
-
--- "Header: I, O, G, head", "then O output wire numbers", then the records in slot order
-unfoldable pub headerPart : Text → List ℕ
-headerPart t = fields (t .inputs) (t .outputs) (length (t .gates)) (firstSlot (t .inputs) (t .gates))
-
-unfoldable pub outputPart : Text → List ℕ
-outputPart t = joined (tabulate (t .outputs) (λ j. leBytes width (lastWire t j)))
-
-unfoldable pub recordPart : Text → List ℕ
-recordPart t = joined (tabulate (length (t .gates)) (λ j. recordFor (t .inputs) (t .inputs + j) (t .gates)))
+-- the parts of the file: "Header: I, O, G, head", "Outputs are the last wires", and the records, slot k that of wire I + k − 1
+unfoldable pub partsOf : Text → Parts
+partsOf t =
+    record {
+      header = record { first = t .inputs; second = t .outputs; third = length (t .gates); fourth = firstSlot (t .inputs) (t .gates) };
+      output = lastWire t;
+      slot = λ k. recordFor (t .inputs) (t .inputs + k - 1) (t .gates);
+    }
 
 -- the circuit file
-unfoldable pub fileOf : Text → List ℕ
-fileOf t = headerPart t ++ (outputPart t ++ recordPart t)
-
--- a converted circuit evaluates as the text does
-unfoldable pub Meant : Type 0
-Meant = (t : Text) (v : ℕ → Bool) → paper.evaluate (asCircuit t) v ≡ meaning t v
-
--- the file of an accepted text reads as that circuit
-unfoldable pub Reads : Type 0
-Reads = (s : List ℕ) (t : Text) → readText s ≡ says t → file.readCircuit (fileOf t) ≡ file.legal (asCircuit t)
-
--- Theorem, converted
-pub record Converted : Type 0 where
-  pub meant : Meant
-  pub reads : Reads
+unfoldable pub textFile : Text → List ℕ
+textFile t = fileOf (laid (partsOf t))

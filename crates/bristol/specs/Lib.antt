@@ -4,3 +4,4 @@ pub mod Conversion
 pub mod Operations
 pub mod Rules
 pub mod Steps
+pub mod Theorem

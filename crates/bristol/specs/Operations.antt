@@ -5,12 +5,12 @@ use Prim.Native.Nat.{ℕ}
 use Rattle.refusal.specs.Outcome.{Outcome, refuses}
 use Rattle.circuit.specs.Building.{builds}
 use Rattle.bristol.specs.Rules.{Reading, refused, says, readText}
-use Rattle.bristol.specs.Conversion.{fileOf}
+use Rattle.bristol.specs.Conversion.{textFile}
 
 -- a refusal, or the file in the lent output
 unfoldable pub conversion : Reading → List ℕ → Outcome
 conversion (refused k) out = refuses k (out ∷ [])
-conversion (says t) out = builds (fileOf t) out
+conversion (says t) out = builds (textFile t) out
 
 -- converting a text into a lent output
 unfoldable pub convertOp : List ℕ → List ℕ → Outcome

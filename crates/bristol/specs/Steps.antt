@@ -15,7 +15,9 @@ use Rattle.circuit.specs.Building.{front}
 use Rattle.circuit.specs.File.{maxInputs, maxOutputs, maxGates}
 use Rattle.circuit.specs.Steps.{recordPlace}
 use Rattle.bristol.specs.Rules.{GateLine, xor, and, inv, Reading, refused, says, numbersOn, isCounts, isGroups, groupSum, kindOn, isKnown, gateOn, writes, gateLines}
-use Rattle.bristol.specs.Conversion.{firstSlot, recordBytes, fileOf}
+use Rattle.building.specs.Files.{Four}
+use Rattle.building.specs.Steps.{fourBytes}
+use Rattle.bristol.specs.Conversion.{firstSlot, recordOf, textFile}
 use Rattle.bristol.specs.declared.Counts.{Counts}
 use Rattle.bristol.specs.declared.Counts.the-variants as counts
 use Rattle.bristol.specs.declared.Groups.{Groups}
@@ -218,6 +220,13 @@ pub record Started (s : List ℕ) (z : Sizes) (at w : ℕ) (out : List ℕ) : Ty
   pub some-gates : 1 ≤ z .gates
   pub going : Going s z (z .gates - 1) at
 
+-- four fields as bytes, and those of the record of a gate line
+abbrev pub fourOf : Four → List ℕ
+fourOf q = fourBytes (q .first) (q .second) (q .third) (q .fourth)
+
+abbrev pub recordBytes : GateLine → ℕ → List ℕ
+recordBytes g next = fourOf (recordOf g next)
+
 -- the records of gate lines, stored one after the other
 unfoldable pub stored : ℕ → ℕ → List GateLine → List ℕ → List ℕ
 stored I O [] out = out
@@ -226,4 +235,4 @@ stored I O (g ∷ gs) out = stored I O gs (sets out (recordPlace O (writes g - I
 -- the file of what is read, at the front of a buffer
 unfoldable pub filed : Reading → List ℕ → List ℕ
 filed (refused k) out = out
-filed (says t) out = front (fileOf t) out
+filed (says t) out = front (textFile t) out

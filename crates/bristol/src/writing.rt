@@ -1,6 +1,6 @@
 // Writing the circuit file of a text whose lines are all good.
 ghost use mathlib.Core.Path.{_≡_};
-ghost use mathlib.Core.List.{_∷_};
+ghost use mathlib.Core.List.{_∷_, flatten};
 ghost use mathlib.Core.Option.{none};
 ghost use Prim.Native.Nat.{_+_, _-_, _*_, _≤_};
 ghost use lib.ListN.{length, drop};
@@ -9,35 +9,38 @@ ghost use Rattle.bits.specs.Bits.{tabulate};
 ghost use Rattle.bits.specs.Bytes.{leBytes};
 ghost use Rattle.bristol_text.specs.Text.{lines};
 ghost use Rattle.circuit.specs.File.{width};
-ghost use Rattle.circuit.specs.Steps.{recordSize, outputPlace, recordPlace};
+ghost use Rattle.circuit.specs.Steps.{outputPlace, recordPlace};
+ghost use Rattle.building.specs.Steps.{fourBytes};
 ghost use Rattle.bristol.specs.Rules.{writes};
-ghost use Rattle.bristol.specs.Conversion.{fields, joined, recordBytes};
-ghost use Rattle.bristol.specs.Steps.{lineOf, gatesFrom, gatesAt, refusalOf, Output, Room, Started, stored, filed};
+ghost use Rattle.bristol.specs.Steps.{recordBytes, lineOf, gatesFrom, gatesAt, refusalOf, Output, Room, Started, stored, filed};
 use crate::Gate;
 use crate::GateRead;
 use crate::Sizes;
 use crate::gates::next_gate;
 use crate::gates::output_wire;
 use bristol_text::Cursor;
-use circuit::WIDTH;
+use building::write_four;
 use circuit::records::output_place;
-use circuit::records::record_place;
 
-// Writes four fields.
-fn write_fields(out: &mut [u8], at: usize, a: usize, b: usize, c: usize, d: usize)
-    requires { ⌜ at + recordSize ≤ length (now out) ⌝ }
-    ensures { λ _. ⌜ now (out .exit) ≡ sets (now (out .entry)) at (fields a b c d) ⌝ }
+// Writes four fields, the first at field k.
+fn write_fields(out: &mut [u8], k: usize, a: usize, b: usize, c: usize, d: usize)
+    requires { ⌜ width * (k + 4) ≤ length (now out) ⌝ }
+    ensures { λ _. ⌜ now (out .exit) ≡ sets (now (out .entry)) (width * k) (fourBytes a b c d) ⌝ }
 {
-    bits::write_u32(out, at, (a % 4294967296) as u32);
-    bits::write_u32(out, at + WIDTH, (b % 4294967296) as u32);
-    bits::write_u32(out, at + 2 * WIDTH, (c % 4294967296) as u32);
-    bits::write_u32(out, at + 3 * WIDTH, (d % 4294967296) as u32);
+    write_four(
+        out,
+        k,
+        (a % 4294967296) as u32,
+        (b % 4294967296) as u32,
+        (c % 4294967296) as u32,
+        (d % 4294967296) as u32,
+    );
 }
 
 // Writes the numbers of the output wires, which are the last wires.
 fn write_outputs(out: &mut [u8], z: Sizes)
     requires { ⌜ Room z (now out) ⌝ }
-    ensures { λ _. ⌜ now (out .exit) ≡ sets (now (out .entry)) (outputPlace 0) (joined (tabulate (z .outputs) (λ k. leBytes width (z .inputs + z .gates - z .outputs + k)))) ⌝ }
+    ensures { λ _. ⌜ now (out .exit) ≡ sets (now (out .entry)) (outputPlace 0) (flatten (tabulate (z .outputs) (λ k. leBytes width (z .inputs + z .gates - z .outputs + k)))) ⌝ }
 {
     let n = z.outputs;
     let first = z.inputs + z.gates - z.outputs;
@@ -53,11 +56,11 @@ fn write_record(out: &mut [u8], z: Sizes, g: Gate, next: usize)
     requires { ⌜ Room z (now out) × Output z (writes (lineOf g)) ⌝ }
     ensures { λ _. ⌜ now (out .exit) ≡ sets (now (out .entry)) (recordPlace (z .outputs) (writes (lineOf g) - z .inputs)) (recordBytes (lineOf g) next) ⌝ }
 {
-    let at = record_place(z.outputs, output_wire(g) - z.inputs);
+    let k = 4 + z.outputs + 4 * (output_wire(g) - z.inputs);
     match g {
-        Gate::Xor(a, b, _) => write_fields(out, at, 1, a, b, next),
-        Gate::And(a, b, _) => write_fields(out, at, 2, a, b, next),
-        Gate::Inv(a, _) => write_fields(out, at, 3, a, 0, next),
+        Gate::Xor(a, b, _) => write_fields(out, k, 1, a, b, next),
+        Gate::And(a, b, _) => write_fields(out, k, 2, a, b, next),
+        Gate::Inv(a, _) => write_fields(out, k, 3, a, 0, next),
     }
 }
 

@@ -1,84 +1,45 @@
--- `bristol::writing::write_fields` meets its contract: the four fields are written one after the other.
+-- `bristol::writing::write_fields` meets its contract: of each number its low 32 bits are written.
 -- Assumes nothing.
 use borrow.Author.Needs.{needs}
 use mathlib.Core.Path.{ap, _∙_}
-use mathlib.Core.List.{List}
-use Prim.Native.Nat.{ℕ, _+_, _*_, _%_}
+use Prim.Native.Nat.{_*_}
 use lib.Seq.{sets}
-use Rattle.bits.specs.Bytes.{leBytes}
 use Rattle.circuit.specs.File.{width}
-use Rattle.bristol.proofs.Stores.{four-fields}
+use Rattle.bristol.proofs.Stores.{four-low}
 use Rattle.bristol.proofs.writing.write_fields.Statement.{statement}
 use Rattle.bristol.proofs.writing.write_fields.Tie as tie
 
-cast-write-u32 : tie.Need-cast-write-u32
-cast-write-u32 c = search needs
+cast-write-four : tie.Need-cast-write-four
+cast-write-four c = search needs
 
-write-u32-requires : tie.Need-write-u32-requires
-write-u32-requires c κs = search needs
+cast-write-four-2 : tie.Need-cast-write-four-2
+cast-write-four-2 c = search needs
 
-add-write-u32 : tie.Need-add-write-u32
-add-write-u32 c = search needs
+cast-write-four-3 : tie.Need-cast-write-four-3
+cast-write-four-3 c = search needs
 
-cast-write-u32-2 : tie.Need-cast-write-u32-2
-cast-write-u32-2 c = search needs
+cast-write-four-4 : tie.Need-cast-write-four-4
+cast-write-four-4 c = search needs
 
-write-u32-requires-2 : tie.Need-write-u32-requires-2
-write-u32-requires-2 c κs = search needs
-
-mul-write-u32 : tie.Need-mul-write-u32
-mul-write-u32 c = search needs
-
-add-write-u32-2 : tie.Need-add-write-u32-2
-add-write-u32-2 c = search needs
-
-cast-write-u32-3 : tie.Need-cast-write-u32-3
-cast-write-u32-3 c = search needs
-
-write-u32-requires-3 : tie.Need-write-u32-requires-3
-write-u32-requires-3 c κs = search needs
-
-mul-write-u32-2 : tie.Need-mul-write-u32-2
-mul-write-u32-2 c = search needs
-
-add-write-u32-3 : tie.Need-add-write-u32-3
-add-write-u32-3 c = search needs
-
-cast-write-u32-4 : tie.Need-cast-write-u32-4
-cast-write-u32-4 c = search needs
-
-write-u32-requires-4 : tie.Need-write-u32-requires-4
-write-u32-requires-4 c κs = search needs
+write-four-requires : tie.Need-write-four-requires
+write-four-requires c κs = search needs
 
 same-length : tie.Need-same-length
 same-length c = search needs
 
 returns : tie.Need-returns
 returns c =
-    let x = c .before .before .before .before .before .before .before .before .before .before .before .before .before .before .before .before .before .args in
-    c .before .before .write-u324 .ensures
-    ∙ ap (λ (l : List ℕ). sets l (x .at + 3 * width) (leBytes width (x .d % 4294967296)))
-    (c .before .before .before .before .before .before .write-u323 .ensures
-    ∙ ap (λ (l : List ℕ). sets l (x .at + 2 * width) (leBytes width (x .c % 4294967296)))
-    (c .before .before .before .before .before .before .before .before .before .before .write-u322 .ensures ∙ ap (λ (l : List ℕ). sets l (x .at + width) (leBytes width (x .b % 4294967296))) (c .before .before .before .before .before .before .before .before .before .before .before .before .before .before .write-u32 .ensures)))
-    ∙ four-fields (x .out .now) (x .at) (x .a) (x .b) (x .c) (x .d)
+    let x = c .before .before .before .before .before .args in
+    c .before .before .write-four .ensures ∙ ap (sets (x .out .now) (width * x .k)) (four-low (x .a) (x .b) (x .c) (x .d))
 
 pub write-fields-spec : {M : Type 1} → statement M
 write-fields-spec =
     tie.close
     (tie.spec
-    cast-write-u32
-    write-u32-requires
-    add-write-u32
-    cast-write-u32-2
-    write-u32-requires-2
-    mul-write-u32
-    add-write-u32-2
-    cast-write-u32-3
-    write-u32-requires-3
-    mul-write-u32-2
-    add-write-u32-3
-    cast-write-u32-4
-    write-u32-requires-4
+    cast-write-four
+    cast-write-four-2
+    cast-write-four-3
+    cast-write-four-4
+    write-four-requires
     same-length
     returns)
