@@ -4,19 +4,18 @@ use mathlib.Core.Path.{_≡_, refl, sym, ap, ap₂, _∙_, fun-ext}
 use mathlib.Core.Bool.{Bool, true, false, cond}
 use mathlib.Core.List.{List, [], _∷_}
 use mathlib.Core.Logic.{⊎-elim}
-use Prim.Native.Nat.{ℕ, zero, suc, _+_, _-_, _*_, _/_, _%_, _≤_, _<_}
+use Prim.Native.Nat.{ℕ, _+_, _-_, _*_, _/_, _%_, _≤_, _<_}
 use native.Mathlib.Omega.{arith}
 use borrow.Author.Tests.{eq-eqb, le-leb, lt-leb}
 use lib.Dec.{eqb, ltb}
-use lib.ListN.{length, List·getD-eq-default}
-use Rattle.bits.specs.Bytes.{leAt}
+use lib.ListN.{length}
 use Rattle.bits.proofs.Numbers.{lt-or-le}
 use Rattle.refusal.specs.Outcome.{success, refuses, Outcome}
 use Rattle.circuit.specs.Building.{front, builds}
 use Rattle.circuit.specs.Fields.{field, fieldCount, withinLimits, rightLength, readFields}
 use Rattle.circuit.specs.File.{width, maxGates, readCircuit}
+use Rattle.circuit.proofs.Alike.{beyond}
 use Rattle.circuit.proofs.Readings.{read-rest}
-use Rattle.bits.proofs.Little.{leAt-zero, leAt-suc}
 use Rattle.building.specs.Files.{Four, Parts, among, laid, bytesOf, fileOf, SmallFour, Small, BuiltTheorem}
 use Rattle.building.proofs.Bytes.{bytes-length, bytes-field}
 use Rattle.building.proofs.Places.{laid-outputs, laid-gates, laid-count, laid-beyond}
@@ -31,11 +30,6 @@ among-small q s r = pick (eqb r 0) (eqb r 1) (eqb r 2)
     pick false true c = s .second
     pick false false true = s .third
     pick false false false = s .fourth
-
--- beyond the end, every number is 0
-beyond : (n : ℕ) (s : List ℕ) (k : ℕ) → length s ≤ k → leAt n s k ≡ 0
-beyond zero s k h = leAt-zero s k
-beyond (suc n) s k h = omega (arith, leAt-suc n s k, List·getD-eq-default s 0 {n = k} h, beyond n s (k + 1) (omega arith))
 
 module _ (p : Parts) where
   pub file-length : length (fileOf (laid p)) ≡ 16 + 4 * p .header .second + 16 * p .header .third

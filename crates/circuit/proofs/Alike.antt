@@ -19,7 +19,7 @@ use Rattle.circuit.specs.Meaning.{SameFields, FieldsTheorem, KindTheorem
 use Rattle.circuit.proofs.Readings.{read-rest}
 
 -- beyond the end, every number is 0
-beyond : (n : ℕ) (s : List ℕ) (k : ℕ) → length s ≤ k → leAt n s k ≡ 0
+pub beyond : (n : ℕ) (s : List ℕ) (k : ℕ) → length s ≤ k → leAt n s k ≡ 0
 beyond zero s k h = leAt-zero s k
 beyond (suc n) s k h = omega (arith, leAt-suc n s k, List·getD-eq-default s 0 {n = k} h, beyond n s (k + 1) (omega arith))
 
