@@ -1,16 +1,18 @@
--- The parity of a word by folding it onto itself.
+-- The parity of a word at any width, and by the number of its ones.
 -- Assumes nothing.
 use mathlib.Core.Path.{_≡_, refl, sym, ap, _∙_}
-use mathlib.Core.Bool.{Bool, false}
-use Prim.Native.Nat.{ℕ, zero, suc, _+_, _-_, _/_, _%_, _^_, _≤_, _<_}
+use mathlib.Core.Bool.{Bool, true, false}
+use Prim.Native.Nat.{ℕ, zero, suc, _+_, _-_, _*_, _/_, _%_, _^_, _≤_, _<_}
 use native.Mathlib.Nat.{add-suc, add-zero}
+use native.Mathlib.Numerals.{add-one, one-add}
 use native.Mathlib.Omega.{arith}
-use lib.Bits.{bitXor}
-use Rattle.bits.specs.Bits.{bitVal, testBit, fromBits}
+use lib.Count.{ones, ones-step}
+use lib.Pow.{shr-lt}
+use Rattle.bits.specs.Bits.{bitVal, odd, testBit, fromBits}
 use Rattle.bits.specs.Xor.{_⊕_, xors}
-use Rattle.bits.proofs.Bitwise.{testBit-xor}
-use Rattle.bits.proofs.Numbers.{bit-at, fromBits-lt, testBit-high, testBit-shr}
-use Rattle.bits.proofs.Xor.{xor-assoc, xor-false, xors-cong, xors-false, xors-xor}
+use Rattle.bits.proofs.Bitwise.{odd-add-even}
+use Rattle.bits.proofs.Numbers.{bit-at, fromBits-lt, mod-two, odd-bitVal, testBit-high, testBit-shr}
+use Rattle.bits.proofs.Xor.{xor-assoc, xor-false, xors-cong, xors-false, xors-front, xors-zero}
 use Rattle.words.specs.Words.{parity}
 use Rattle.words.proofs.Columns.{word-parity}
 
@@ -34,23 +36,30 @@ parity-wide n N x h l =
 pub word-mask : (N n : ℕ) (f : ℕ → Bool) → n ≤ N → parity N (fromBits n f) ≡ xors n f
 word-mask N n f h = parity-wide n N (fromBits n f) h (fromBits-lt n f) ∙ word-parity n n f (omega arith)
 
--- a word folded once
-fold : (k x y : ℕ) → y ≡ bitXor x (x / 2 ^ k) → parity (k + k) x ≡ parity k y
-unfolding parity
-fold k x y e =
-    xors-add k k (testBit x) ∙ sym (xors-xor k (testBit x) (λ i. testBit x (k + i)))
-    ∙ xors-cong k _ (testBit y) (λ i l. sym (ap (λ (v : ℕ). testBit v i) e ∙ testBit-xor x (x / 2 ^ k) i ∙ ap (λ (b : Bool). testBit x i ⊕ b) (testBit-shr x k i)))
+-- the lowest bit of a sum of two digits
+add-digit : (a b : Bool) → odd (bitVal a + bitVal b) ≡ a ⊕ b
+unfolding odd
+add-digit true true = refl
+add-digit true false = refl
+add-digit false true = refl
+add-digit false false = refl
 
--- the parity of one bit
-single : (f : ℕ) → testBit f 0 ≡ parity 1 f
-unfolding parity xors
-single f = refl
+-- the lowest bit of a digit and a number
+add-lowest : (a : Bool) (y : ℕ) → odd (bitVal a + y) ≡ a ⊕ odd y
+add-lowest a y =
+    let e : bitVal a + y ≡ y / 2 * 2 + (bitVal a + y % 2) = omega arith in
+    ap odd e ∙ odd-add-even (y / 2) (bitVal a + y % 2) ∙ ap (λ (d : ℕ). odd (bitVal a + d)) (mod-two y) ∙ add-digit a (odd y)
 
--- a word of 64 bits folded six times
-pub folded : (x a b c d e : ℕ) → a ≡ bitXor x (x / 2 ^ 32) → b ≡ bitXor a (a / 2 ^ 16) → c ≡ bitXor b (b / 2 ^ 8) → d ≡ bitXor c (c / 2 ^ 4)
-    → e ≡ bitXor d (d / 2 ^ 2) → bitXor e (e / 2 ^ 1) % 2 ≡ bitVal (parity 64 x)
-folded x a b c d e p q r s t =
-    let f : ℕ = bitXor e (e / 2 ^ 1) in
-    let one : f % 2 ≡ f / 2 ^ 0 % 2 = omega arith in
-    one ∙ bit-at f 0
-    ∙ ap bitVal (single f ∙ sym (fold 32 x a p ∙ fold 16 a b q ∙ fold 8 b c r ∙ fold 4 c d s ∙ fold 2 d e t ∙ fold 1 e f refl))
+-- the parity of a word of n bits is that of the number of its ones
+pub ones-parity : (n x : ℕ) → x < 2 ^ n → odd (ones x) ≡ parity n x
+unfolding parity ones
+ones-parity zero x l =
+    let z : x ≡ 0 = omega arith in
+    ap (λ (v : ℕ). odd (ones v)) z ∙ odd-bitVal false ∙ sym (xors-zero (testBit x))
+ones-parity (suc n) x l =
+    let whole : x % 2 ≡ x / 2 ^ 0 % 2 = omega arith in
+    let lowest : x % 2 ≡ bitVal (testBit x 0) = whole ∙ bit-at x 0 in
+    let h : x / 2 < 2 ^ n = shr-lt n 1 (rw (add-one n) l) in
+    ap odd (ones-step x) ∙ ap (λ (d : ℕ). odd (d + ones (x / 2))) lowest ∙ add-lowest (testBit x 0) (ones (x / 2))
+    ∙ ap (λ (b : Bool). testBit x 0 ⊕ b) (ones-parity n (x / 2) h ∙ xors-cong n (testBit (x / 2)) (λ i. testBit x (suc i)) (λ i k. testBit-shr x 1 i ∙ ap (testBit x) (one-add i)))
+    ∙ sym (xors-front n (testBit x))

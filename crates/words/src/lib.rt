@@ -18,12 +18,7 @@ pub(crate) fn wide(x: u8) -> u64
 pub fn parity(x: u64) -> u8
     ensures { λ r. ⌜ r ≡ bitVal (parity 64 x) ⌝ }
 {
-    let a = x ^ (x >> 32);
-    let b = a ^ (a >> 16);
-    let c = b ^ (b >> 8);
-    let d = c ^ (c >> 4);
-    let e = d ^ (d >> 2);
-    ((e ^ (e >> 1)) % 2) as u8
+    (u64::count_ones(x) % 2) as u8
 }
 
 // The word with the lowest bit of m at each place.
