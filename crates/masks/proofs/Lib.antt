@@ -1,6 +1,7 @@
 pub mod Parts
 pub mod Sums
 pub mod Adding
+pub mod Begun
 pub mod Turns
 pub mod Joint
 pub mod Corrects

@@ -27,7 +27,7 @@ use Rattle.words.specs.Steps as words
 use Rattle.masks.specs.Masks.{maskCorrections}
 use Rattle.masks.specs.Steps.{wireCount, rowLength, masksFrom, productsFrom, cleared, summed, loaded, walked, made, rowsFrom, sumBit, correctionsOf, worked, Ready, Lent}
 use Rattle.masks.proofs.Parts.{byte-before, bit-before, clear-part, part-sets, sets-over}
-use Rattle.masks.proofs.Sums.{sum-length, sum-bit, sum-take, load-length, load-kept, load-input, load-other}
+use Rattle.masks.proofs.Sums.{clear-at, sum-length, sum-bit, sum-take, load-length, load-kept, load-input, load-other}
 use Rattle.masks.proofs.Joint.{walked-before}
 use Rattle.masks.proofs.Corrects.{Made, Holds, walk-corrects}
 use Rattle.masks.proofs.Kept.{length-correctionsOf}
@@ -102,8 +102,8 @@ module _ (s : List ℕ) (z : Sizes) (n a at : ℕ) (m : List ℕ) (lent : Lent s
     all-ands = ap ands gates-all ∙ sym (lent .ands)
 
     -- what the walk asks
-    pub ready : (m2 : List ℕ) → length m2 ≡ length m → Ready s z h at m2
-    ready m2 e = record {
+    pub ready : (m2 m1 : List ℕ) (size : ℕ) → length m2 ≡ length m → length m1 ≡ length m → size ≡ oct (z .ands) → m2 ≡ cleared at size m1 → Ready s z h at m2
+    ready m2 m1 size e d f g = record {
       chained = record { laid = lent .legal .laid; chain = chain-good };
       reads = all-wired;
       count = all-ands;
@@ -111,6 +111,9 @@ module _ (s : List ℕ) (z : Sizes) (n a at : ℕ) (m : List ℕ) (lent : Lent s
       row = lent .row;
       room = omega (arith, lent .corrections, lent .tapes, e);
       low = lent .low;
+      zeros = λ j l.
+          ap (λ (v : List ℕ). getD v (at + j) 0) g
+          ∙ clear-at at size m1 j (omega (arith, f)) (omega (arith, lent .corrections, lent .tapes, d, f));
     }
 
     -- the memory with the input masks loaded

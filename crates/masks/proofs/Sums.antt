@@ -39,7 +39,7 @@ module _ (to len : ℕ) (m : List ℕ) where
   clear-length = fill-length _ _ m len
 
   -- a byte that is cleared
-  clear-at : (j : ℕ) → j < len → to + len ≤ length m → at (cleared to len m) (to + j) ≡ 0
+  pub clear-at : (j : ℕ) → j < len → to + len ≤ length m → at (cleared to len m) (to + j) ≡ 0
   unfolding cleared
   clear-at j l h = fill-at (λ i. to + i) (λ i. 0) m len j l (omega arith) (λ u a b. omega arith)
 

@@ -2,12 +2,12 @@
 -- The memory for W wires: a byte a wire, its mask in the lowest bit; then one row, the XOR of all parties' tapes.
 -- Assumes nothing.
 use mathlib.Core.Path.{_≡_}
-use mathlib.Core.Bool.{Bool, _&&_}
+use mathlib.Core.Bool.{Bool, cond, _&&_}
 use mathlib.Core.List.{List}
-use Prim.Native.Nat.{ℕ, zero, suc, _+_, _-_, _*_, _≤_}
+use Prim.Native.Nat.{ℕ, zero, suc, _+_, _-_, _*_, _/_, _%_, _^_, _≤_, _<_}
 use lib.Bits.{bitXor, bitAnd}
-use lib.Dec.{ltb}
-use lib.ListN.{length, set, take, drop}
+use lib.Dec.{eqb, ltb}
+use lib.ListN.{length, getD, set, take, drop}
 use Rattle.bits.specs.Bits.{oct, pack, odd, bitVal, bitAt}
 use Rattle.bits.specs.Bytes.{rowOf}
 use Rattle.bits.specs.Xor.{xors}
@@ -72,9 +72,33 @@ corrected k (Xor a b) t m cs = cs
 corrected k (And a b) t m cs = putBit cs t (odd (bitXor (bitAnd (at m a) (at m b)) (bitVal (bitAt m k))))
 corrected k (Inv a) t m cs = cs
 
--- what a gate asks: its wires are below W, and an AND gate's bit k is in the memory
-abbrev pub Reads : ℕ → ℕ → Gate → List ℕ → Type 0
-Reads W k g m = within W g × ((W ≤ length m) × (k + andOne g ≤ 8 * length m))
+-- one gate: an AND gate's correction is put as bit c of the memory, its product shares' XOR being bit p; then wire `out` has the gate's mask
+abbrev pub passed : Gate → ℕ → ℕ → ℕ → ℕ → List ℕ → List ℕ
+passed g out k p c m =
+    let v : List ℕ = corrected p g c m m in
+    set v out (maskByte k g v)
+
+-- the byte that correction t comes into: a new one where those before it end one
+unfoldable pub carried : ℕ → ℕ → ℕ
+carried t byte = cond (eqb (t % 8) 0) 0 byte
+
+-- the byte that has the corrections before a gate, t of them, after it
+abbrev pub byteAfter : ℕ → Gate → ℕ → List ℕ → ℕ → ℕ
+byteAfter p (Xor a b) t m byte = byte
+byteAfter p (And a b) t m byte = carried (t + 1) (byte + bitVal (odd (bitXor (bitAnd (at m a) (at m b)) (bitVal (bitAt m p)))) * 2 ^ (t % 8))
+byteAfter p (Inv a) t m byte = byte
+
+-- what a gate asks: its wires are in the memory, and of an AND gate the bits k and p and the place of its correction, whose byte has the
+-- bits before it and no other
+pub record Asks (g : Gate) (out k p c t byte : ℕ) (m : List ℕ) : Type 0 where
+  pub wires : within (length m) g
+  pub written : out < length m
+  pub mask : k + andOne g ≤ 8 * length m
+  pub product : p + andOne g ≤ 8 * length m
+  pub place : 8 * c + t + andOne g ≤ 8 * length m
+  pub held : 1 ≤ andOne g → byte ≡ at m (c + t / 8)
+  pub low : byte < 2 ^ (t % 8)
+  pub few : t ≤ 4194304
 
 -- k gates of the file s from slot `slot` on, with t AND gates before them: the memory
 unfoldable pub walked : List ℕ → ℕ → ℕ → ℕ → ℕ → List ℕ → List ℕ
@@ -89,7 +113,7 @@ made s masks products (suc k) slot t m cs =
     made s masks products k (nextOf s slot) (t + andOne (gateOf s slot)) (set m (inputsOf s + slot - 1) (maskByte (masks + t) (gateOf s slot) m))
     (corrected (products + t) (gateOf s slot) t m cs)
 
--- the chain of the file s from h on, with memory for its wires and a row, and for the corrections after them, from byte `at` on
+-- the chain of the file s from h on, with memory for its wires and a row, and zeros for the corrections after them, from byte `at` on
 pub record Ready (s : List ℕ) (z : Sizes) (h at : ℕ) (m : List ℕ) : Type 0 where
   pub chained : Chained s (z .inputs) (z .outputs) (z .gates) h
   pub reads : wired s (wireCount z) (z .gates) h
@@ -98,6 +122,7 @@ pub record Ready (s : List ℕ) (z : Sizes) (h at : ℕ) (m : List ℕ) : Type 0
   pub row : wireCount z + rowLength z ≤ at
   pub room : at + oct (z .ands) ≤ length m
   pub low : at ≤ 1073741824
+  pub zeros : (j : ℕ) → j < oct (z .ands) → getD m (at + j) 0 ≡ 0
 
 -- a legal file s with its numbers, and a memory with the tape rows of n parties from byte a on, room for the corrections from byte `at`
 -- on before them, and for the wires and a row before those

@@ -5,23 +5,12 @@ ghost use lib.ListN.{length, take, drop};
 ghost use lib.Seq.{sets};
 ghost use Rattle.bits.specs.Bits.{oct};
 ghost use Rattle.circuit.specs.Steps.{andOne};
-ghost use Rattle.masks.specs.Steps.{masksFrom, productsFrom, loaded, maskByte, corrected, Reads, walked, made, Ready, Lent, worked, rowsFrom, correctionsOf};
+ghost use Rattle.masks.specs.Steps.{masksFrom, productsFrom, loaded, carried, Asks, passed, byteAfter, walked, made, Ready, Lent, worked, rowsFrom, correctionsOf};
 use crate::rows::add_rows;
 use crate::rows::clear_part;
 use circuit::Gate;
 use circuit::Sizes;
 use circuit::records::record;
-
-// 1 for an AND gate, 0 for another.
-fn and_one(g: Gate) -> usize
-    ensures { λ r. ⌜ r ≡ andOne g ⌝ }
-{
-    match g {
-        Gate::Xor(_, _) => 0,
-        Gate::And(_, _) => 1,
-        Gate::Inv(_) => 0,
-    }
-}
 
 // Gives the input wires their masks, and zero to the other wires.
 fn load_inputs(memory: &mut [u8], wires: usize, inputs: usize)
@@ -37,30 +26,57 @@ fn load_inputs(memory: &mut [u8], wires: usize, inputs: usize)
     }
 }
 
-// The mask of a gate's output; an AND gate takes bit k of the memory.
-fn mask_byte(memory: &[u8], wires: usize, k: usize, gate: Gate) -> u8
-    requires { ⌜ Reads wires k gate (now memory) ⌝ }
-    ensures { λ r. ⌜ r ≡ maskByte k gate (now (memory .entry)) ⌝ }
-{
-    match gate {
-        Gate::Xor(a, b) => memory[a] ^ memory[b],
-        Gate::And(_, _) => bits::bit(memory, k),
-        Gate::Inv(a) => memory[a],
-    }
+// What a gate leaves beside the memory: the AND gates passed, and the byte that the next correction comes into.
+struct Passed {
+    ands: usize,
+    byte: u8,
 }
 
-// Puts the correction of an AND gate at bit c of the memory; bit k is the XOR of its product shares.
-fn correct(memory: &mut [u8], wires: usize, k: usize, gate: Gate, c: usize)
-    requires { ⌜ Reads wires k gate (now memory) × (c + andOne gate ≤ 8 * length (now memory)) ⌝ }
-    ensures { λ _. ⌜ now (memory .exit) ≡ corrected k gate c (now (memory .entry)) (now (memory .entry)) ⌝ }
+// The byte that correction t comes into: a new one where those before it end one.
+fn carried(t: usize, byte: u8) -> u8
+    ensures { λ r. ⌜ r ≡ carried t byte ⌝ }
+{
+    if t % 8 == 0 { 0 } else { byte }
+}
+
+// Gives wire `out` the mask of a gate's output. An AND gate takes bit k of the memory for it, and its correction, which has bit p, the XOR of
+// its product shares, is put as bit t of those from byte `at` on: `byte` has the bits before it.
+fn pass(
+    memory: &mut [u8],
+    gate: Gate,
+    out: usize,
+    k: usize,
+    p: usize,
+    at: usize,
+    t: usize,
+    byte: u8,
+) -> Passed
+    requires { ⌜ Asks gate out k p at t byte (now memory) ⌝ }
+    ensures { λ r. ⌜ now (memory .exit) ≡ passed gate out k p (8 * at + t) (now (memory .entry)) ⌝ }
+    ensures { λ r. ⌜ (r .ands ≡ t + andOne gate) × (r .byte ≡ byteAfter p gate t (now (memory .entry)) byte) ⌝ }
 {
     match gate {
-        Gate::Xor(_, _) => {}
-        Gate::And(a, b) => {
-            let x = (memory[a] & memory[b]) ^ bits::bit(memory, k);
-            bits::put_bit(memory, c, x);
+        Gate::Xor(a, b) => {
+            let x = memory[a] ^ memory[b];
+            memory[out] = x;
+            Passed { ands: t, byte }
         }
-        Gate::Inv(_) => {}
+        Gate::And(a, b) => {
+            let c = (memory[a] & memory[b]) ^ bits::bit(memory, p);
+            let y = byte + ((c % 2) << ((t % 8) as u8));
+            memory[at + t / 8] = y;
+            let x = bits::bit(memory, k);
+            memory[out] = x;
+            Passed {
+                ands: t + 1,
+                byte: carried(t + 1, y),
+            }
+        }
+        Gate::Inv(a) => {
+            let x = memory[a];
+            memory[out] = x;
+            Passed { ands: t, byte }
+        }
     }
 }
 
@@ -77,13 +93,14 @@ fn walk(s: &[u8], z: Sizes, head: usize, at: usize, memory: &mut [u8])
     let mut left = z.gates;
     let mut slot = head;
     let mut t = 0;
+    let mut byte: u8 = 0;
     while 0 < left {
         let r = record(s, outputs, slot);
         let g = r.gate;
-        correct(memory, wires, products + t, g, 8 * at + t);
-        let x = mask_byte(memory, wires, masks + t, g);
-        memory[inputs + (slot - 1)] = x;
-        t += and_one(g);
+        let out = inputs + (slot - 1);
+        let p = pass(memory, g, out, masks + t, products + t, at, t, byte);
+        t = p.ands;
+        byte = p.byte;
         slot = r.next;
         left -= 1;
     }

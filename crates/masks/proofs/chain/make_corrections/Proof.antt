@@ -53,7 +53,9 @@ walk-requires c κs =
     let load = clear .before .before .before .before in
     let sum = load .before .before .before .before in
     let head = sum .before .before in
-    ready _ _ _ _ _ _ (head .before .before .before .before .before .before .before .before .pre) _ (head .head .ensures) _ (clear .clear-part .kept .0 ∙ load .load-inputs .kept .0 ∙ sum .add-rows .kept .0)
+    ready _ _ _ _ _ _ (head .before .before .before .before .before .before .before .before .pre) _ (head .head .ensures) _ _ _
+    (clear .clear-part .kept .0 ∙ load .load-inputs .kept .0 ∙ sum .add-rows .kept .0) (load .load-inputs .kept .0 ∙ sum .add-rows .kept .0)
+    (head .before .oct2 .ensures) (clear .clear-part .ensures)
 
 same-length : tie.Need-same-length
 same-length c =
