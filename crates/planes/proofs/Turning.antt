@@ -2,10 +2,10 @@
 -- Assumes nothing.
 use mathlib.Core.Path.{_≡_, refl, sym, ap, ap₂, _∙_}
 use mathlib.Core.Bool.{Bool, cond}
-use mathlib.Core.List.{List}
+use mathlib.Core.List.{List, [], _∷_}
 use mathlib.Core.Logic.{⊎-elim, _≢_}
 use Prim.Native.Nat.{ℕ, zero, suc, _+_, _-_, _*_, _/_, _%_, _^_, _≤_, _<_}
-use native.Mathlib.Nat.{add-comm, add-mul, lt-of-lt-of-le, mul-assoc, mul-comm, mul-le-mul-right}
+use native.Mathlib.Nat.{add-comm, add-mul, add-suc, add-zero, lt-of-lt-of-le, mul-assoc, mul-comm, mul-le-mul-right}
 use native.Mathlib.Numerals.{add-one}
 use native.Mathlib.Omega.{arith}
 use borrow.Author.Tests.{lt-ltb, le-ltb}
@@ -227,6 +227,12 @@ pub put-none : (to hidden : ℕ) (row m : List ℕ) → m ≡ putBits to hidden 
 unfolding putBits
 put-none to hidden row m = refl
 
+-- a bit of one byte
+bit-single : (x t : ℕ) → t < 8 → bitAt (x ∷ []) t ≡ testBit x t
+bit-single x t l =
+    let e : t ≡ 8 * 0 + t = omega arith in
+    ap (bitAt (x ∷ [])) e ∙ bitAt-byte (x ∷ []) 0 t l
+
 -- one more
 pub put-turn : (to hidden t k old new x : ℕ) (row m v w : List ℕ) → m ≡ putBits to hidden row t w → old ≡ leAt 8 m (to + 8 * t) → k ≡ bitVal (bitAt row t)
     → new ≡ every 64 (odd k) → x ≡ chosen hidden new old → v ≡ sets m (to + 8 * t) (leBytes 8 x) → v ≡ putBits to hidden row (t + 1) w
@@ -235,6 +241,35 @@ put-turn to hidden t k old new x row m v w e o b n c d =
     let y : new ≡ every 64 (bitAt row t) = n ∙ ap (λ (z : ℕ). every 64 (odd z)) b ∙ ap (every 64) (odd-bitVal (bitAt row t)) in
     d ∙ ap (λ (z : ℕ). sets m (to + 8 * t) (leBytes 8 z)) (c ∙ ap₂ (chosen hidden) y o)
     ∙ ap (λ (z : List ℕ). sets z (to + 8 * t) (leBytes 8 (chosen hidden (every 64 (bitAt row t)) (leAt 8 z (to + 8 * t))))) e ∙ rw add-one
+
+-- one more bit of a byte x
+pub put-byte-turn : (to hidden t old new x y : ℕ) (m v w : List ℕ) → t < 8 → m ≡ putBits to hidden (x ∷ []) t w → old ≡ leAt 8 m (to + 8 * t)
+    → new ≡ every 64 (odd (x / 2 ^ t)) → y ≡ chosen hidden new old → v ≡ sets m (to + 8 * t) (leBytes 8 y) → v ≡ putBits to hidden (x ∷ []) (t + 1) w
+unfolding testBit
+put-byte-turn to hidden t old new x y m v w l e o n c d =
+    let b : bitAt (x ∷ []) t ≡ odd (x / 2 ^ t) = bit-single x t l in
+    put-turn to hidden t (bitVal (bitAt (x ∷ []) t)) old new y (x ∷ []) m v w e o refl
+    (n ∙ ap (every 64) (sym (odd-bitVal (bitAt (x ∷ []) t) ∙ b))) c d
+
+-- the bits of byte k of a row
+put-add : (to hidden k x c : ℕ) (row w : List ℕ) → x ≡ getD row k 0 → c ≤ 8
+    → putBits (to + 64 * k) hidden (x ∷ []) c (putBits to hidden row (8 * k) w) ≡ putBits to hidden row (8 * k + c) w
+unfolding putBits
+put-add to hidden k x zero row w e l = ap (λ (i : ℕ). putBits to hidden row i w) (sym (add-zero (8 * k)))
+put-add to hidden k x (suc c) row w e l =
+    let f : ℕ → List ℕ → Bool → List ℕ = λ i z b. sets z i (leBytes 8 (chosen hidden (every 64 b) (leAt 8 z i))) in
+    let p : to + 64 * k + 8 * c ≡ to + 8 * (8 * k + c) = omega arith in
+    let b : bitAt (x ∷ []) c ≡ bitAt row (8 * k + c) =
+    bit-single x c (omega arith) ∙ ap (λ (y : ℕ). testBit y c) e ∙ sym (bitAt-byte row k c (omega arith)) in
+    ap₂ (λ (i : ℕ) (z : List ℕ). f i z (bitAt (x ∷ []) c)) p (put-add to hidden k x c row w e (omega arith))
+    ∙ ap (f (to + 8 * (8 * k + c)) (putBits to hidden row (8 * k + c) w)) b ∙ ap (λ (i : ℕ). putBits to hidden row i w) (sym (add-suc (8 * k) c))
+
+-- one more byte
+pub put-bytes-turn : (to hidden k x : ℕ) (row m v w : List ℕ) → m ≡ putBits to hidden row (8 * k) w → x ≡ getD row k 0
+    → v ≡ putBits (to + 64 * k) hidden (x ∷ []) 8 m → v ≡ putBits to hidden row (8 * (k + 1)) w
+put-bytes-turn to hidden k x row m v w e b d =
+    let n : 8 * k + 8 ≡ 8 * (k + 1) = omega arith in
+    d ∙ ap (putBits (to + 64 * k) hidden (x ∷ []) 8) e ∙ put-add to hidden k x 8 row w b (omega arith) ∙ ap (λ (i : ℕ). putBits to hidden row i w) n
 
 -- the whole steps
 pub tapes-loaded : (l : Layout) (n : ℕ) (s : List ℕ) (len : ℕ) (m : List ℕ) (to : ℕ) (k v : List ℕ) → to ≡ tapeAt l 0 → k ≡ clearedTapes l m

@@ -1,7 +1,7 @@
 -- Rows and words of one memory: one turn of each loop, and the whole steps.
 -- Assumes nothing.
 use mathlib.Core.Path.{_≡_, sym, ap, ap₂, _∙_}
-use mathlib.Core.List.{List}
+use mathlib.Core.List.{List, [], _∷_}
 use Prim.Native.Nat.{ℕ, _+_, _-_, _*_, _/_, _%_, _≤_, _<_}
 use native.Mathlib.Omega.{arith}
 use lib.ListN.{length, getD, take, drop, length-drop}
@@ -17,7 +17,7 @@ use Rattle.words.proofs.Fill.{fill-cong, fill-read}
 use Rattle.words.proofs.Turns.{blocks-bit, place-within, turned-word}
 use Rattle.planes.specs.Steps.{tapeAt, broadcastWord, correctionsAt, rowsAt, tape, clearedTapes, loadedWords, rowsIn, loadedGroups, loadedRows, storedWords, storedBlock, putBits, putParty}
 use Rattle.planes.specs.declared.Layout.{Layout}
-use Rattle.planes.proofs.Turning.{groups-other, leAt-blocks, load-turn, party-put, put-turn, store-turn, tapes-loaded, tapes-turn}
+use Rattle.planes.proofs.Turning.{groups-other, leAt-blocks, load-turn, party-put, put-bytes-turn, put-turn, store-turn, tapes-loaded, tapes-turn}
 use Rattle.planes.proofs.Views.{clear-length}
 use Rattle.planes.proofs.Stored.{put-byte, stored-at, stored-other}
 use Rattle.planes.proofs.Held.{bitAt-held, clear-other, drop-cong, words-source}
@@ -94,6 +94,13 @@ put-within-turn to hidden t k old new x a m v w low e o b n c d =
     put-turn to hidden t k old new x (drop a w) m v w e o
     (b ∙ ap bitVal (bitAt-held a m w (λ j u. ap (λ (z : List ℕ). getD z j 0) e ∙ put-byte to hidden (drop a w) w t j (omega arith)) t))
     n c d
+
+-- one more byte of the row
+pub put-held-turn : (to hidden k x a : ℕ) (m v w : List ℕ) → to + 64 * k ≤ a → m ≡ putBits to hidden (drop a w) (8 * k) w → x ≡ getD m (a + k) 0
+    → v ≡ putBits (to + 64 * k) hidden (x ∷ []) 8 m → v ≡ putBits to hidden (drop a w) (8 * (k + 1)) w
+put-held-turn to hidden k x a m v w low e b d =
+    put-bytes-turn to hidden k x (drop a w) m v w e
+    (b ∙ ap (λ (z : List ℕ). getD z (a + k) 0) e ∙ put-byte to hidden (drop a w) w (8 * k) (a + k) (omega arith) ∙ sym (getD-drop a w k 0)) d
 
 -- the whole steps
 pub rows-in-words : (l : Layout) (n len to a : ℕ) (m k v : List ℕ) → to ≡ tapeAt l 0 → a ≡ rowsAt l → k ≡ clearedTapes l m

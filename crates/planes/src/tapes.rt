@@ -1,5 +1,6 @@
 // The tapes of all parties as words, by blocks of 8 rows.
 ghost use mathlib.Core.Path.{_≡_};
+ghost use mathlib.Core.List.{[], _∷_};
 ghost use Prim.Native.Nat.{_+_, _*_, _/_, _≤_, _<_};
 ghost use lib.ListN.{length, drop};
 ghost use Rattle.words.specs.Steps.{turned};
@@ -94,12 +95,42 @@ pub fn load_rows(l: Layout, memory: &mut [u8], len: usize, n: usize)
     load_groups(memory, a, len, n, to);
 }
 
-// Puts the bits of a row at the places of hidden in the words from `to` on: no branch tells them.
+// Puts the bits of a byte at the places of hidden in the 8 words from `to` on: no branch tells them.
+fn put_byte(memory: &mut [u8], to: usize, hidden: u64, x: u8)
+    requires { ⌜ to + 64 ≤ length (now memory) ⌝ }
+    ensures { λ _. ⌜ now (memory .exit) ≡ putBits to hidden (x ∷ []) 8 (now (memory .entry)) ⌝ }
+{
+    let mut t = 0;
+    while t < 8 {
+        let old = bits::read_u64(memory, to + 8 * t);
+        let new = every(x >> (t as u8));
+        let y = chosen(hidden, new, old);
+        bits::write_u64(memory, to + 8 * t, y);
+        t += 1;
+    }
+}
+
+// Puts the bits of the whole bytes of a row of count bits at the places of hidden in the words from `to` on.
+fn put_bytes(memory: &mut [u8], to: usize, hidden: u64, row: &[u8], count: usize)
+    requires { ⌜ (to + 8 * count ≤ length (now memory)) × (count ≤ 8 * length (now row)) ⌝ }
+    ensures { λ _. ⌜ now (memory .exit) ≡ putBits to hidden (now (row .entry)) (8 * (count / 8)) (now (memory .entry)) ⌝ }
+{
+    let whole = count / 8;
+    let mut k = 0;
+    while k < whole {
+        let x = row[k];
+        put_byte(memory, to + 64 * k, hidden, x);
+        k += 1;
+    }
+}
+
+// Puts the bits of a row at the places of hidden in the words from `to` on.
 fn put_bits(memory: &mut [u8], to: usize, hidden: u64, row: &[u8], count: usize)
     requires { ⌜ (to + 8 * count ≤ length (now memory)) × (count ≤ 8 * length (now row)) ⌝ }
     ensures { λ _. ⌜ now (memory .exit) ≡ putBits to hidden (now (row .entry)) count (now (memory .entry)) ⌝ }
 {
-    let mut t = 0;
+    put_bytes(memory, to, hidden, row, count);
+    let mut t = 8 * (count / 8);
     while t < count {
         let old = bits::read_u64(memory, to + 8 * t);
         let new = every(bits::bit(row, t));
@@ -118,12 +149,28 @@ pub fn put_party(l: Layout, q: usize, p: usize, row: &[u8], count: usize, memory
     put_bits(memory, to, place(p), row, count);
 }
 
+// Puts the bits of the whole bytes of a row of count bits, which stands in the memory from byte a on, at the places of hidden in the words
+// from `to` on.
+fn put_held_bytes(memory: &mut [u8], to: usize, hidden: u64, a: usize, count: usize)
+    requires { ⌜ (a ≤ 1073741824) × ((to + 8 * count ≤ a) × (8 * a + count ≤ 8 * length (now memory))) ⌝ }
+    ensures { λ _. ⌜ now (memory .exit) ≡ putBits to hidden (drop a (now (memory .entry))) (8 * (count / 8)) (now (memory .entry)) ⌝ }
+{
+    let whole = count / 8;
+    let mut k = 0;
+    while k < whole {
+        let x = memory[a + k];
+        put_byte(memory, to + 64 * k, hidden, x);
+        k += 1;
+    }
+}
+
 // Puts the bits of a row that stands in the memory from byte a on at the places of hidden in the words from `to` on.
 fn put_held_bits(memory: &mut [u8], to: usize, hidden: u64, a: usize, count: usize)
     requires { ⌜ (a ≤ 1073741824) × ((to + 8 * count ≤ a) × (8 * a + count ≤ 8 * length (now memory))) ⌝ }
     ensures { λ _. ⌜ now (memory .exit) ≡ putBits to hidden (drop a (now (memory .entry))) count (now (memory .entry)) ⌝ }
 {
-    let mut t = 0;
+    put_held_bytes(memory, to, hidden, a, count);
+    let mut t = 8 * (count / 8);
     while t < count {
         let old = bits::read_u64(memory, to + 8 * t);
         let new = every(bits::bit(memory, 8 * a + t));

@@ -2,22 +2,30 @@
 -- Assumes nothing.
 use native.Mathlib.Omega.{arith}
 use mathlib.Core.Path.{_≡_, refl, _∙_}
-use Prim.Native.Nat.{_-_, _≤_}
+use mathlib.Core.List.{List}
+use Prim.Native.Nat.{ℕ, _-_, _≤_}
 use lib.ListN.{length, drop}
 use Rattle.planes.specs.Steps.{putBits}
-use Rattle.planes.proofs.Turning.{put-none}
 use Rattle.planes.proofs.Within.{put-within-turn}
 use Rattle.planes.proofs.tapes.put_held_bits.Statement.{statement}
 use Rattle.planes.proofs.tapes.put_held_bits.Tie as tie
 
 abbrev Inv-loop : tie.InvT-loop
-Inv-loop memory₀ to hidden a count t₀ memory t = (t ≤ count) × ((length memory ≡ length memory₀) × (memory ≡ putBits to hidden (drop a memory₀) t memory₀))
+Inv-loop memory₀ to hidden a count t₀ memory t =
+    (t ≤ count)
+    × ((length memory ≡ length memory₀) × ((w : List ℕ) → memory₀ ≡ putBits to hidden (drop a w) t₀ w → memory ≡ putBits to hidden (drop a w) t w))
 
 abbrev μ-loop : tie.MeasureT-loop
 μ-loop memory₀ to hidden a count t₀ memory t = count - t
 
+put-held-bytes-requires : tie.Need-put-held-bytes-requires Inv-loop μ-loop
+put-held-bytes-requires c κs = (omega arith, (omega arith, omega arith))
+
+mul-t : tie.Need-mul-t Inv-loop μ-loop
+mul-t c = omega arith
+
 loop-holds : tie.Need-loop-holds Inv-loop μ-loop
-loop-holds c = (omega arith, (refl, put-none _ _ _ _))
+loop-holds c = (omega arith, (refl, λ w e. e))
 
 mul-read-u64 : tie.Need-mul-read-u64 Inv-loop μ-loop
 mul-read-u64 c = omega arith
@@ -63,16 +71,26 @@ loop-again c =
     let r = c .before .before .write-u64 in
     let h = c .before .before .before .before in
     let b = h .before .before in
-    let l = b .before .before .before .before .before .loop in
-    (omega arith, (r .kept .0 ∙ l .inv .1 .0, put-within-turn _ _ (l .t) _ _ _ _ _ _ _ _ (omega arith) (l .inv .1 .1) (b .before .before .read-u64 .ensures) (b .bit .ensures) (h .before .every .ensures) (h .chosen .ensures) (r .ensures)))
+    let u = b .before .before .before .before .before in
+    let l = u .loop in
+    let low = u .before .before .before .before .before .before .pre .1 .0 in (
+      omega arith,
+      (
+        r .kept .0 ∙ l .inv .1 .0,
+        λ w e.
+            put-within-turn _ _ (l .t) _ _ _ _ _ _ _ w (omega (arith, low, b .before .before .before .before .loop-test .taken)) (l .inv .1 .1 w e) (b .before .before .read-u64 .ensures) (b .bit .ensures)
+            (h .before .every .ensures) (h .chosen .ensures) (r .ensures),
+      ),
+    )
 
 same-length : tie.Need-same-length Inv-loop μ-loop
-same-length c = c .before .loop .inv .1 .0
+same-length c = c .before .loop .inv .1 .0 ∙ c .before .before .before .before .put-held-bytes .kept .0
 
 returns : tie.Need-returns Inv-loop μ-loop
 returns c =
-    let e : c .before .loop .t ≡ c .before .before .before .args .count = omega arith in
-    rw (← e) (c .before .loop .inv .1 .1)
+    let r = c .before .before .before .before in
+    let e : c .before .loop .t ≡ r .before .before .before .args .count = omega arith in
+    rw (← e) (c .before .loop .inv .1 .1 _ (r .put-held-bytes .ensures))
 
 pub put-held-bits-spec : {M : Type 1} → statement M
 put-held-bits-spec =
@@ -80,6 +98,8 @@ put-held-bits-spec =
     (tie.spec
     Inv-loop
     μ-loop
+    put-held-bytes-requires
+    mul-t
     loop-holds
     mul-read-u64
     add-read-u64
