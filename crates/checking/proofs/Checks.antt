@@ -1,16 +1,20 @@
--- The check of a proof with a good header: what the table of its challenge asks, and the answer after each test.
+-- The tests of a proof with a good header: what the table of its challenge asks, the answer after each test, and what is known of a
+-- proof that passes.
 -- Assumes nothing.
 use mathlib.Core.Path.{_≡_, sym, ap, _∙_}
 use mathlib.Core.Bool.{Bool, true, false, not}
-use mathlib.Core.List.{List, []}
+use mathlib.Core.List.{List, [], _++_}
 use Prim.Native.Nat.{ℕ, suc, _+_, _-_, _*_, _^_, _≤_, _<_}
 use native.Mathlib.Omega.{arith}
 use borrow.Author.Tests.{eq-eqb, ne-eqb}
 use lib.ListN.{length, take, drop, replicate}
+use lib.Seq.{take-at}
 use Rattle.bits.specs.Bytes.{rowOf, sameBytes}
+use Rattle.bits.proofs.Tabulate.{length-tabulate}
 use Rattle.refusal.specs.Outcome.{refuses, done}
 use Rattle.circuit.specs.Circuit.{Circuit}
 use Rattle.circuit.specs.File.{circuitOf}
+use Rattle.circuit.specs.declared.Sizes.{Sizes}
 use Rattle.circuit.proofs.Answered.{fell, held}
 use Rattle.choice.specs.Challenge.{challengeOf}
 use Rattle.cover.specs.Masters.{height, coverBytes, masterFrom}
@@ -18,15 +22,19 @@ use Rattle.cover.specs.Steps.{hiddenBy, marksOf, coverBy, nodesOf, followOf}
 use Rattle.cover.proofs.Following.{length-regrown, regrow-master}
 use Rattle.cover.proofs.Masters.{cover-bytes-same, master-from-same}
 use Rattle.instance.specs.Instance.{Asked}
+use Rattle.instance.specs.Steps.{Tree}
+use Rattle.mpc.specs.Steps.{Known}
 use Rattle.proof.specs.Protocol.{statementOf, challenged}
 use Rattle.proof.specs.File.{headerHstar, hides, nodesAt, masterAt, proofBytes}
-use Rattle.proof.specs.Check.{checkProof}
 use Rattle.proof.specs.Steps.{tableOf, asksIn, Asking, marksIn, masterIn, Drawable}
 use Rattle.proof.proofs.Chosen.{some-chosen}
 use Rattle.proof.proofs.Inside.{stretches-after, length-nodesAt}
 use Rattle.proof.proofs.Leaves.{leaves-at, hides-table, cover-in}
 use Rattle.proof.proofs.Askings.{asks-same, asking-challenge, length-table}
-use Rattle.checking.specs.Steps.{allUnused, allOutputs, recomputed, Sized, Rebuilt, Headed}
+use Rattle.checking.specs.declared.entering.Shape.{Shape}
+use Rattle.checking.specs.declared.entering.Entry.{Entry}
+use Rattle.checking.specs.declared.entering.Entry.the-variants.{Refused, Taken}
+use Rattle.checking.specs.Steps.{allUnused, allOutputs, recomputed, tested, judged, Sized, Rebuilt, Headed, Tested, Ready, Took, inTable, inMarks}
 use Rattle.checking.proofs.Headers.{hstar-length, headed-counts, headed-parties, headed-some, headed-few}
 
 -- the opened nodes of a proof, where the nodes are marked by a table
@@ -68,38 +76,45 @@ module _ (M n : ℕ) (table proof : List ℕ) (entries : length table ≡ M)
     rebuilt-nodes : Rebuilt M n table proof nodes
     rebuilt-nodes = record { rows = rebuilt-rows; masters = rebuilt-masters }
 
--- the tests of a proof, made with what is asked
-module _ (c : Circuit) (y proof : List ℕ) (M n : ℕ) (ask : ℕ → Asked) where
+-- the tests that need no run, made with what is asked
+module _ (c : Circuit) (proof : List ℕ) (M n : ℕ) (ask : ℕ → Asked) where
   -- another length than is implied
-  asked-length : (length proof ≡ proofBytes c M n ask → ⊥) → refuses 12 [] ≡ checkProof c y proof M n ask
-  unfolding checkProof
+  asked-length : (length proof ≡ proofBytes c M n ask → ⊥) → refuses 12 [] ≡ tested c proof M n ask (done [])
+  unfolding tested
   asked-length t = rw (ne-eqb (length proof) (proofBytes c M n ask) t)
 
-  -- the length that is implied
+  -- the length that is implied; unused bits
   module _ (size : length proof ≡ proofBytes c M n ask) where
-    -- unused bits
-    asked-unused : allUnused c M n ask proof ≡ false → refuses 7 [] ≡ checkProof c y proof M n ask
-    unfolding checkProof
+    asked-unused : allUnused c M n ask proof ≡ false → refuses 7 [] ≡ tested c proof M n ask (done [])
+    unfolding tested
     asked-unused u = rw (eq-eqb (length proof) (proofBytes c M n ask) size, u)
 
     -- no unused bits
-    module _ (unused : allUnused c M n ask proof ≡ true) where
-      -- another output
-      asked-output : allOutputs c M n ask y proof ≡ false → refuses 10 [] ≡ checkProof c y proof M n ask
-      unfolding checkProof
-      asked-output v = rw (eq-eqb (length proof) (proofBytes c M n ask) size, unused, v)
+    asked-passed : allUnused c M n ask proof ≡ true → done [] ≡ tested c proof M n ask (done [])
+    unfolding tested
+    asked-passed u = rw (eq-eqb (length proof) (proofBytes c M n ask) size, u)
 
-      -- the outputs
-      module _ (outputs : allOutputs c M n ask y proof ≡ true) where
-        -- another h*
-        asked-digest : sameBytes (recomputed c M n ask proof) (headerHstar proof) ≡ false → refuses 13 [] ≡ checkProof c y proof M n ask
-        unfolding checkProof
-        asked-digest w = rw (eq-eqb (length proof) (proofBytes c M n ask) size, unused, outputs, w)
+-- the rest of check; b is the test of the outputs
+module _ (c : Circuit) (y proof : List ℕ) (M n : ℕ) (ask : ℕ → Asked) (b : Bool) (f : b ≡ allOutputs c M n ask y proof) where
+  -- it fails
+  pub judged-output : not b ≡ true → refuses 10 [] ≡ judged c y proof M n ask
+  unfolding judged
+  judged-output t = rw (fell _ b f t)
 
-        -- accepted
-        asked-accepted : sameBytes (recomputed c M n ask proof) (headerHstar proof) ≡ true → done [] ≡ checkProof c y proof M n ask
-        unfolding checkProof
-        asked-accepted w = rw (eq-eqb (length proof) (proofBytes c M n ask) size, unused, outputs, w)
+  -- it passes; the test of the recomputed h*
+  module _ (t : not b ≡ false) (hstar : List ℕ) (e : hstar ≡ recomputed c M n ask proof) (d : Bool) (g : d ≡ sameBytes hstar (headerHstar proof)) where
+    same-right : d ≡ sameBytes (recomputed c M n ask proof) (headerHstar proof)
+    same-right = g ∙ ap (λ (z : List ℕ). sameBytes z (headerHstar proof)) e
+
+    -- it fails
+    pub judged-digest : not d ≡ true → refuses 13 [] ≡ judged c y proof M n ask
+    unfolding judged
+    judged-digest u = rw (held _ b f t, fell _ d same-right u)
+
+    -- it passes
+    pub judged-accepted : not d ≡ false → done [] ≡ judged c y proof M n ask
+    unfolding judged
+    judged-accepted u = rw (held _ b f t, held _ d same-right u)
 
 -- h* of a good header: the challenge can be drawn from it
 pub header-drawable : (M tau n : ℕ) (y message proof : List ℕ) → Headed M tau n y message proof
@@ -142,77 +157,91 @@ module _ (s : List ℕ) (M tau n : ℕ) (y message proof table : List ℕ) (head
   -- the tests of the proof, as they are made with this table: first the length, which is to be x
   module _ (x : ℕ) (e : x ≡ proofBytes (circuitOf s) M n (asksIn n table)) where
     -- another length
-    pub check-length : (length proof ≡ x → ⊥) → refuses 12 [] ≡ checkProof (circuitOf s) y proof M n (challenged M tau n (headerHstar proof) (statementOf M tau n s y message))
+    pub check-length : (length proof ≡ x → ⊥) → refuses 12 [] ≡ tested (circuitOf s) proof M n (challenged M tau n (headerHstar proof) (statementOf M tau n s y message)) (done [])
     check-length t =
-        asked-length (circuitOf s) y proof M n (asksIn n table) (λ q. t (q ∙ sym e)) ∙ ap (checkProof (circuitOf s) y proof M n) table-ask
+        asked-length (circuitOf s) proof M n (asksIn n table) (λ q. t (q ∙ sym e))
+        ∙ ap (λ (a : ℕ → Asked). tested (circuitOf s) proof M n a (done [])) table-ask
 
     -- this length
     module _ (size : length proof ≡ x) where
       pub check-sized : Sized s M n table proof
       check-sized = record { few = headed-few M tau n y message proof head; entries = table-entries; asking = table-asking; size = size ∙ e }
 
-      -- the opened nodes, in o bytes after the header
-      module _ (o : ℕ) (eo : o ≡ coverBytes M (hides (asksIn n table))) where
-        -- they end inside the proof
-        pub check-opened : 38 + o ≤ length proof
-        check-opened = omega (arith, size, e, eo, stretches-after (circuitOf s) n M (asksIn n table) M)
-
-        opened-are : take (38 + o - 38) (drop 38 proof) ≡ nodesAt M (asksIn n table) proof
-        unfolding nodesAt
-        opened-are =
-            let d : 38 + o - 38 ≡ coverBytes M (hides (asksIn n table)) = omega (arith, eo) in
-            ap (λ (k : ℕ). take k (drop 38 proof)) d
-
-        opened-size : length (nodesAt M (asksIn n table) proof) ≡ coverBytes M (hides (asksIn n table))
-        opened-size = length-nodesAt (circuitOf s) n M (asksIn n table) proof (size ∙ e)
-
-        -- they have their bytes, by the marks
-        module _ (marks : List ℕ) (em : marks ≡ marksIn M n table) where
-          pub check-values : length (take (38 + o - 38) (drop 38 proof)) ≡ 16 * length (coverBy marks)
-          check-values = values-marked M n table proof table-entries opened-size marks (take (38 + o - 38) (drop 38 proof)) em opened-are
-
-          -- and all nodes are grown again from them
-          pub check-rebuilt : (h : ℕ) (nodes : List ℕ) → h ≡ height M
-              → nodes ≡ nodesOf (followOf 65535 marks (take (38 + o - 38) (drop 38 proof))) (replicate 16 0) h → Rebuilt M n table proof nodes
-          check-rebuilt h nodes eh en =
-              rebuilt-nodes M n table proof table-entries opened-size marks (take (38 + o - 38) (drop 38 proof)) em opened-are
-              (chosen-one .0) (chosen-one .1) (chosen-one .2) h nodes eh en
-
       -- the test of the unused bits
-      module _ (b1 : Bool) (f1 : b1 ≡ allUnused (circuitOf s) M n (asksIn n table) proof) where
+      module _ (b : Bool) (f : b ≡ allUnused (circuitOf s) M n (asksIn n table) proof) where
         -- it fails
-        pub check-unused : not b1 ≡ true → refuses 7 [] ≡ checkProof (circuitOf s) y proof M n (challenged M tau n (headerHstar proof) (statementOf M tau n s y message))
+        pub check-unused : not b ≡ true → refuses 7 [] ≡ tested (circuitOf s) proof M n (challenged M tau n (headerHstar proof) (statementOf M tau n s y message)) (done [])
         check-unused t =
-            asked-unused (circuitOf s) y proof M n (asksIn n table) (size ∙ e) (fell _ b1 f1 t)
-            ∙ ap (checkProof (circuitOf s) y proof M n) table-ask
+            asked-unused (circuitOf s) proof M n (asksIn n table) (size ∙ e) (fell _ b f t)
+            ∙ ap (λ (a : ℕ → Asked). tested (circuitOf s) proof M n a (done [])) table-ask
 
         -- it passes
-        module _ (t1 : not b1 ≡ false) where
-          pub check-zero : allUnused (circuitOf s) M n (asksIn n table) proof ≡ true
-          check-zero = held _ b1 f1 t1
+        module _ (t : not b ≡ false) where
+          pub check-passed : done [] ≡ tested (circuitOf s) proof M n (challenged M tau n (headerHstar proof) (statementOf M tau n s y message)) (done [])
+          check-passed =
+              asked-passed (circuitOf s) proof M n (asksIn n table) (size ∙ e) (held _ b f t)
+              ∙ ap (λ (a : ℕ → Asked). tested (circuitOf s) proof M n a (done [])) table-ask
 
-          -- the test of the outputs
-          module _ (b2 : Bool) (f2 : b2 ≡ allOutputs (circuitOf s) M n (asksIn n table) y proof) where
-            -- it fails
-            pub check-output : not b2 ≡ true → refuses 10 [] ≡ checkProof (circuitOf s) y proof M n (challenged M tau n (headerHstar proof) (statementOf M tau n s y message))
-            check-output t =
-                asked-output (circuitOf s) y proof M n (asksIn n table) (size ∙ e) check-zero (fell _ b2 f2 t)
-                ∙ ap (checkProof (circuitOf s) y proof M n) table-ask
+          -- what is then known
+          pub check-ready : (z : Sizes) (h o : ℕ) (marks : List ℕ) → Known s z → Tree n h → o ≡ coverBytes M (hides (asksIn n table)) → marks ≡ marksIn M n table
+              → Ready s (record { sizes = z; counts = record { instances = M; chosen = tau; parties = n; height = h }; opened = o }) y message proof table marks
+          check-ready z h o marks kn tr eo em =
+              record {
+                tested =
+                    record {
+                      known = kn;
+                      tree = tr;
+                      sized = check-sized;
+                      unused = held _ b f t;
+                      cover = eo;
+                      marked = em;
+                      chosen = chosen-one;
+                    };
+                headed = head;
+                asks = table-ask;
+              }
 
-            -- it passes; the test of the recomputed h*
-            module _ (t2 : not b2 ≡ false) (hstar : List ℕ) (f : hstar ≡ recomputed (circuitOf s) M n (asksIn n table) proof) (b3 : Bool)
-                (f3 : b3 ≡ sameBytes hstar (headerHstar proof)) where
-              same-right : b3 ≡ sameBytes (recomputed (circuitOf s) M n (asksIn n table) proof) (headerHstar proof)
-              same-right = f3 ∙ ap (λ (z : List ℕ). sameBytes z (headerHstar proof)) f
+-- a proof that passes these tests
+module _ (s : List ℕ) (f : Shape) (proof table marks : List ℕ) (t : Tested s f proof table marks) where
+  -- its opened nodes end inside it
+  pub tested-opened : 38 + f .opened ≤ length proof
+  tested-opened =
+      omega (arith, t .sized .size, t .cover, stretches-after (circuitOf s) (f .counts .parties) (f .counts .instances) (asksIn (f .counts .parties) table) (f .counts .instances))
 
-              -- it fails
-              pub check-digest : not b3 ≡ true → refuses 13 [] ≡ checkProof (circuitOf s) y proof M n (challenged M tau n (headerHstar proof) (statementOf M tau n s y message))
-              check-digest t =
-                  asked-digest (circuitOf s) y proof M n (asksIn n table) (size ∙ e) check-zero (held _ b2 f2 t2) (fell _ b3 same-right t)
-                  ∙ ap (checkProof (circuitOf s) y proof M n) table-ask
+  pub opened-are : take (38 + f .opened - 38) (drop 38 proof) ≡ nodesAt (f .counts .instances) (asksIn (f .counts .parties) table) proof
+  unfolding nodesAt
+  opened-are =
+      let d : 38 + f .opened - 38 ≡ coverBytes (f .counts .instances) (hides (asksIn (f .counts .parties) table)) = omega (arith, t .cover) in
+      ap (λ (k : ℕ). take k (drop 38 proof)) d
 
-              -- it passes
-              pub check-accepted : not b3 ≡ false → done [] ≡ checkProof (circuitOf s) y proof M n (challenged M tau n (headerHstar proof) (statementOf M tau n s y message))
-              check-accepted t =
-                  asked-accepted (circuitOf s) y proof M n (asksIn n table) (size ∙ e) check-zero (held _ b2 f2 t2) (held _ b3 same-right t)
-                  ∙ ap (checkProof (circuitOf s) y proof M n) table-ask
+  opened-size : length (nodesAt (f .counts .instances) (asksIn (f .counts .parties) table) proof) ≡ coverBytes (f .counts .instances) (hides (asksIn (f .counts .parties) table))
+  opened-size = length-nodesAt (circuitOf s) (f .counts .parties) (f .counts .instances) (asksIn (f .counts .parties) table) proof (t .sized .size)
+
+  -- they have their bytes, by the marks
+  pub tested-values : length (take (38 + f .opened - 38) (drop 38 proof)) ≡ 16 * length (coverBy marks)
+  tested-values =
+      values-marked (f .counts .instances) (f .counts .parties) table proof (t .sized .entries) opened-size marks (take (38 + f .opened - 38) (drop 38 proof)) (t .marked) opened-are
+
+  -- a mark for each node
+  pub tested-marks : length marks ≡ 2 ^ suc (height (f .counts .instances))
+  unfolding marksOf
+  tested-marks = ap length (t .marked) ∙ length-tabulate (2 ^ suc (height (f .counts .instances))) _
+
+  -- and all nodes are grown again from them
+  pub tested-rebuilt : (h : ℕ) (nodes : List ℕ) → h ≡ height (f .counts .instances)
+      → nodes ≡ nodesOf (followOf 65535 marks (take (38 + f .opened - 38) (drop 38 proof))) (replicate 16 0) h
+      → Rebuilt (f .counts .instances) (f .counts .parties) table proof nodes
+  tested-rebuilt h nodes eh en =
+      rebuilt-nodes (f .counts .instances) (f .counts .parties) table proof (t .sized .entries) opened-size marks (take (38 + f .opened - 38) (drop 38 proof)) (t .marked) opened-are
+      (t .chosen .0) (t .chosen .1) (t .chosen .2) h nodes eh en
+
+-- what stands in front of a longer table, and of longer marks
+pub took-front : (r : Entry) (s : List ℕ) (z : Sizes) (y message proof table marks more rest : List ℕ)
+    → Took r s z y message proof (λ (f : Shape). table) (λ (f : Shape). marks)
+    → Took r s z y message proof (inTable (table ++ more)) (inMarks (marks ++ rest))
+took-front (Refused k) s z y message proof table marks more rest t = tt
+took-front (Taken f) s z y message proof table marks more rest t =
+    let a : inTable (table ++ more) f ≡ table = take-at table more (f .counts .instances) (t .1 .tested .sized .entries) in
+    let b : inMarks (marks ++ rest) f ≡ marks =
+    take-at marks rest (2 ^ suc (height (f .counts .instances))) (tested-marks s f proof table marks (t .1 .tested)) in
+    (t .0, rw (a, b) (t .1))

@@ -30,6 +30,7 @@ use Rattle.proof.specs.Check.{every}
 use Rattle.proof.proofs.Sizes.{ask-opened, ask-hiding, start-more}
 use Rattle.proof.proofs.Inside.{stretch-inside, length-stretchAt}
 use Rattle.proof.proofs.Passing.{every-at}
+use Rattle.checking.specs.Steps.{commitmentsAt, onlineAt}
 use Rattle.checking.proofs.Hashed.{rows-bytes, commitments-bytes, online-bytes, stretch-bytes}
 
 -- the stretch of an instance, of which p is asked
@@ -106,19 +107,10 @@ unfolding stretchCommitments isChosen
 master-unseen c n j m m′ part opened h = ap (masterCommitments c n j) (h refl)
 master-unseen c n j m m′ part (hiding p) h = refl
 
--- what is made of each instance of a proof
+-- the test of the unused bits of each instance of a proof
 module _ (c : Circuit) (M n : ℕ) (ask : ℕ → Asked) (proof : List ℕ) where
   abbrev pub unusedAt : ℕ → Bool
   unusedAt i = stretchUnused c n (stretchAt c M n ask proof i) (ask i)
-
-  abbrev pub outputAt : List ℕ → ℕ → Bool
-  outputAt y i = stretchOutput c n i y (stretchAt c M n ask proof i) (ask i)
-
-  abbrev pub commitmentsAt : ℕ → List ℕ
-  commitmentsAt i = stretchCommitments c n i (masterAt M ask proof i) (stretchAt c M n ask proof i) (ask i)
-
-  abbrev pub onlineAt : ℕ → List ℕ
-  onlineAt i = stretchOnline c n i (stretchAt c M n ask proof i) (ask i)
 
 -- instance j, of which a is asked: its stretch is the b bytes from k on
 module _ (c : Circuit) (n M : ℕ) (ask : ℕ → Asked) (proof : List ℕ) (size : length proof ≡ proofBytes c M n ask) (j k b : ℕ) (a : Asked)
@@ -157,12 +149,16 @@ module _ (c : Circuit) (n M : ℕ) (ask : ℕ → Asked) (proof : List ℕ) (siz
   pub turn-digest : (f : List ℕ → Asked → List ℕ) (r : List ℕ) → r ≡ f (take (k + b - k) (drop k proof)) a → r ≡ f (stretchAt c M n ask proof j) (ask j)
   turn-digest f r e = e ∙ ap₂ f turn-part is
 
+  -- its h_j, from its master, which is not looked at where it is chosen
+  pub turn-made : (master r : List ℕ) → (hides ask j ≡ false → master ≡ masterAt M ask proof j)
+      → r ≡ stretchCommitments c n j master (take (k + b - k) (drop k proof)) a → r ≡ commitmentsAt c M n ask proof j
+  turn-made master r seen e =
+      turn-digest (stretchCommitments c n j master) r e ∙ master-unseen c n j master (masterAt M ask proof j) (stretchAt c M n ask proof j) (ask j) seen
+
   -- its h_j, from the master in its row
   pub turn-commitments : (nodes master r : List ℕ) → ((i : ℕ) → i < M → hides ask i ≡ false → masterIn nodes i ≡ masterAt M ask proof i)
       → master ≡ masterIn nodes j → r ≡ stretchCommitments c n j master (take (k + b - k) (drop k proof)) a → r ≡ commitmentsAt c M n ask proof j
-  turn-commitments nodes master r rebuilt q e =
-      turn-digest (stretchCommitments c n j master) r e
-      ∙ master-unseen c n j master (masterAt M ask proof j) (stretchAt c M n ask proof j) (ask j) (λ t. q ∙ rebuilt j low t)
+  turn-commitments nodes master r rebuilt q e = turn-made master r (λ t. q ∙ rebuilt j low t) e
 
 -- a sponge that has taken in anything has room for the next byte
 pub sponge-room : (N : List ℕ) (s : Sponge) → s ≡ taken N → s .fill < 136

@@ -1,99 +1,97 @@
 -- `checking::check_lent` meets its contract.
 -- Assumes nothing.
-use mathlib.Core.Path.{refl}
-use native.Mathlib.Omega.{arith}
 use borrow.Author.Needs.{needs}
-use Rattle.circuit.proofs.Answered.{held}
-use Rattle.checking.proofs.Headers.{header-long}
-use Rattle.checking.proofs.Outcomes.{legal-length, legal-unused, legal-header, legal-headed, legal-tree, legal-done}
+use mathlib.Core.Path.{_≡_, sym, ap, _∙_, subst}
+use mathlib.Core.List.{List}
+use Prim.Native.Nat.{ℕ}
+use native.Mathlib.Omega.{arith}
+use lib.ListN.{length, take}
+use lib.Seq.{length-take-le}
+use Rattle.checking.specs.Steps.{Tested, inTable}
+use Rattle.checking.proofs.Entries.{lent-refused, lent-taken, lent-room, lent-judged}
 use Rattle.checking.proofs.check_lent.Statement.{statement}
 use Rattle.checking.proofs.check_lent.Tie as tie
 
-holds-requires : tie.Need-holds-requires
-holds-requires c κs = tt
+cast-c : tie.Need-cast-c
+cast-c c =
+    let r = lent-taken _ _ _ _ _ (c .before .before .before .before .before .before .before .test-lent .ensures .0) _ _ _ (c .before .before .before .before .before .before .before .test-lent .ensures .1) _ (c .before .before .before .entry2 .given .1) in
+    omega (arith, r .1 .tested .sized .few)
 
-both-requires : tie.Need-both-requires
-both-requires c κs = tt
+row-count-requires : tie.Need-row-count-requires
+row-count-requires c κs = lent-taken _ _ _ _ _ (c .before .before .before .before .before .before .before .test-lent .ensures .0) _ _ _ (c .before .before .before .before .before .before .before .test-lent .ensures .1) _ (c .before .before .before .entry2 .given .1) .1 .tested .sized .few
+
+array-share-prefix-table : tie.Need-array-share-prefix-table
+array-share-prefix-table c =
+    let r = lent-taken _ _ _ _ _ (c .before .before .before .before .before .before .before .before .test-lent .ensures .0) _ _ _ (c .before .before .before .before .before .before .before .before .test-lent .ensures .1) _ (c .before .before .before .before .entry2 .given .1) in
+    omega (arith, c .before .before .before .before .before .before .before .before .test-lent .kept .1 .1 .1 .1 .1 .0, r .1 .tested .sized .few)
+
+slice-aggregate-verify : tie.Need-slice-aggregate-verify
+slice-aggregate-verify c =
+    let r = lent-taken _ _ _ _ _ (c .before .before .before .before .before .before .before .before .before .test-lent .ensures .0) _ _ _ (c .before .before .before .before .before .before .before .before .before .test-lent .ensures .1) _ (c .before .before .before .before .before .entry2 .given .1) in
+    sym (length-take-le (c .before .before .before .before .before .entry2 .given .0 .0 .counts .instances) (c .before .before .before .before .before .before .before .before .before .test-lent .last .1 .1 .1 .1 .1 .0) (omega (arith, c .before .before .before .before .before .before .before .before .before .test-lent .kept .1 .1 .1 .1 .1 .0, r .1 .tested .sized .few)))
+
+slice-aggregate-verify-2 : tie.Need-slice-aggregate-verify-2
+slice-aggregate-verify-2 c =
+    sym (length-take-le (c .before .before .row-count .result) (c .before .before .before .before .before .before .before .before .before .before .test-lent .last .1 .1 .1 .1 .1 .1 .0) (omega (arith, c .before .before .before .before .before .before .before .before .before .before .test-lent .kept .1 .1 .1 .1 .1 .1 .0, c .before .before .row-count .ensures .1)))
+
+array-share-prefix-marks : tie.Need-array-share-prefix-marks
+array-share-prefix-marks c = omega (arith, c .before .before .before .before .before .before .before .before .before .test-lent .kept .1 .1 .1 .1 .1 .1 .0, c .before .row-count .ensures .1)
+
+verify-requires : tie.Need-verify-requires
+verify-requires c κs =
+    let x = c .before .before .before .before .before .before .before .before .before .before .before .before .before .before .before .before .before .before .before .args in
+    let e = c .before .before .before .before .before .before .before .before .before .before .before .test-lent .ensures in
+    let q = c .before .before .before .before .before .before .before .entry2 .given .1 in
+    let table = c .before .before .before .before .before .before .before .before .before .before .before .test-lent .last .1 .1 .1 .1 .1 .0 in
+    let marks = c .before .before .before .before .before .before .before .before .before .before .before .test-lent .last .1 .1 .1 .1 .1 .1 .0 in
+    let f = c .before .before .before .before .before .before .before .entry2 .given .0 .0 in
+    let r = lent-taken _ _ _ _ _ (e .0) _ _ _ (e .1) _ q in (
+      subst (λ (m : List ℕ). Tested (x .s .now) f (x .proof .now) (inTable table f) m) (ap (λ (i : ℕ). take i marks) (sym (c .before .before .before .row-count .ensures .0))) (r .1 .tested),
+      lent-room _ _ _ _ _ (e .0) _ _ _ (e .1) _ q _ (c .before .before .before .before .before .before .before .before .before .before .before .before .before .before .before .before .before .before .before .pre .1 .1),
+    )
 
 returns : tie.Need-returns
 returns c =
-    let x = c .before .before .before .before .before .before .before .before .args in
-    let p = c .before .before .before .before .before .before .before .before .pre .1 .0 in
-    legal-length _ _ _ _ _ p (x .y .now) (x .message .now) (x .proof .now) _ _ (c .before .before .holds .ensures) (c .before .both .ensures) (c .if1 .taken)
-
-unused-zero-requires : tie.Need-unused-zero-requires
-unused-zero-requires c κs = tt
+    let x = c .before .before .before .before .before .before .before .before .before .before .before .before .before .args in
+    lent-refused (x .s .now) (x .y .now) (x .message .now) (x .proof .now) _ (c .before .before .before .before .before .test-lent .ensures .0) _ (c .before .entry .given .1)
 
 returns-2 : tie.Need-returns-2
-returns-2 c =
-    let x = c .before .before .before .before .before .before .before .before .before .before .args in
-    let p = c .before .before .before .before .before .before .before .before .before .before .pre .1 .0 in
-    legal-unused _ _ _ _ _ p (x .y .now) (x .message .now) (x .proof .now) _ _ (c .before .before .before .before .holds .ensures) (c .before .before .before .both .ensures) (c .before .before .if1 .left) _ (c .before .unused-zero .ensures) (c .if2 .taken)
+returns-2 c = lent-judged _ _ _ _ _ (c .before .before .before .before .before .before .before .before .before .before .before .before .before .before .test-lent .ensures .0) _ _ _ (c .before .before .before .before .before .before .before .before .before .before .before .before .before .before .test-lent .ensures .1) _ (c .before .before .before .before .before .before .before .before .before .before .entry2 .given .1) _ (c .before .before .verify .ensures)
 
-good-header-requires : tie.Need-good-header-requires
-good-header-requires c κs = tt
+slice-aggregate-test-lent : tie.Need-slice-aggregate-test-lent
+slice-aggregate-test-lent c = search needs
 
-returns-3 : tie.Need-returns-3
-returns-3 c =
-    let x = c .before .before .before .before .before .before .before .before .before .before .before .before .args in
-    let p = c .before .before .before .before .before .before .before .before .before .before .before .before .pre .1 .0 in
-    legal-header _ _ _ _ _ p (x .y .now) (x .message .now) (x .proof .now) _ _ (c .before .before .before .before .before .before .holds .ensures) (c .before .before .before .before .before .both .ensures) (c .before .before .before .before .if1 .left) _ (c .before .before .before .unused-zero .ensures) (c .before .before .if2 .left) _ (c .before .good-header .ensures) (c .if3 .taken)
+slice-aggregate-test-lent-2 : tie.Need-slice-aggregate-test-lent-2
+slice-aggregate-test-lent-2 c = search needs
 
-read-u16-requires : tie.Need-read-u16-requires
-read-u16-requires c κs = omega (arith, header-long (c .before .before .before .before .before .before .before .before .before .before .before .before .args .proof .now) (held _ _ (c .before .good-header .ensures) (c .if3 .left)))
+test-lent-requires : tie.Need-test-lent-requires
+test-lent-requires c κs = search needs
 
-cast-m : tie.Need-cast-m
-cast-m c = omega arith
+enum-known-entry : tie.Need-enum-known-entry
+enum-known-entry c = search needs
 
-read-u16-requires-2 : tie.Need-read-u16-requires-2
-read-u16-requires-2 c κs = omega (arith, header-long (c .before .before .before .before .before .before .before .before .before .before .before .before .before .args .proof .now) (held _ _ (c .before .before .good-header .ensures) (c .before .if3 .left)))
-
-cast-tau : tie.Need-cast-tau
-cast-tau c = omega arith
-
-shared-slice-read-n : tie.Need-shared-slice-read-n
-shared-slice-read-n c = omega (arith, header-long (c .before .before .before .before .before .before .before .before .before .before .before .before .before .before .before .args .proof .now) (held _ _ (c .before .before .before .before .good-header .ensures) (c .before .before .before .if3 .left)))
-
-cast-n : tie.Need-cast-n
-cast-n c = omega (arith, c .shared-slice-known5 .given 4)
-
-height-requires : tie.Need-height-requires
-height-requires c κs = tt
-
-check-from-requires : tie.Need-check-from-requires
-check-from-requires c κs =
-    let x = c .before .before .before .before .before .before .before .before .before .before .before .before .before .before .before .before .before .args in
-    let r = c .before .before .before .before .before .before .before .before .before .before .before .before .before .before .before .before .before .pre .0 in
-    let p = c .before .before .before .before .before .before .before .before .before .before .before .before .before .before .before .before .before .pre .1 .0 in
-    (record { known = p; tree = legal-tree _ _ _ _ _ p (x .y .now) (x .message .now) (x .proof .now) _ _ (c .before .before .before .before .before .before .before .before .before .before .before .holds .ensures) (c .before .before .before .before .before .before .before .before .before .before .both .ensures) (c .before .before .before .before .before .before .before .before .before .if1 .left) _ (c .before .before .before .before .before .before .before .before .unused-zero .ensures) (c .before .before .before .before .before .before .before .if2 .left) _ (c .before .before .before .before .before .before .good-header .ensures) (c .before .before .before .before .before .if3 .left) _ _ _ (c .before .before .before .before .read-u16 .ensures) (c .before .before .before .read-u162 .ensures) refl _ (c .before .height .ensures); room = c .before .before .before .before .before .before .before .before .before .before .before .before .before .before .before .before .before .pre .1 .1 }, legal-headed _ _ _ _ _ p (x .y .now) (x .message .now) (x .proof .now) _ _ (c .before .before .before .before .before .before .before .before .before .before .before .holds .ensures) (c .before .before .before .before .before .before .before .before .before .before .both .ensures) (c .before .before .before .before .before .before .before .before .before .if1 .left) _ (c .before .before .before .before .before .before .before .before .unused-zero .ensures) (c .before .before .before .before .before .before .before .if2 .left) _ (c .before .before .before .before .before .before .good-header .ensures) (c .before .before .before .before .before .if3 .left) _ _ _ (c .before .before .before .before .read-u16 .ensures) (c .before .before .before .read-u162 .ensures) refl r)
+enum-known-entry-2 : tie.Need-enum-known-entry-2
+enum-known-entry-2 c = search needs
 
 same-length : tie.Need-same-length
 same-length c = search needs
-
-returns-4 : tie.Need-returns-4
-returns-4 c =
-    let x = c .before .before .before .before .before .before .before .before .before .before .before .before .before .before .before .before .before .before .before .before .args in
-    let p = c .before .before .before .before .before .before .before .before .before .before .before .before .before .before .before .before .before .before .before .before .pre .1 .0 in
-    legal-done _ _ _ _ _ p (x .y .now) (x .message .now) (x .proof .now) _ _ (c .before .before .before .before .before .before .before .before .before .before .before .before .before .before .holds .ensures) (c .before .before .before .before .before .before .before .before .before .before .before .before .before .both .ensures) (c .before .before .before .before .before .before .before .before .before .before .before .before .if1 .left) _ (c .before .before .before .before .before .before .before .before .before .before .before .unused-zero .ensures) (c .before .before .before .before .before .before .before .before .before .before .if2 .left) _ (c .before .before .before .before .before .before .before .before .before .good-header .ensures) (c .before .before .before .before .before .before .before .before .if3 .left) _ _ _ (c .before .before .before .before .before .before .before .read-u16 .ensures) (c .before .before .before .before .before .before .read-u162 .ensures) refl _ (c .before .before .check-from .ensures)
 
 pub check-lent-spec : {M : Type 1} → statement M
 check-lent-spec =
     tie.close
     (tie.spec
-    holds-requires
-    both-requires
+    slice-aggregate-test-lent
+    slice-aggregate-test-lent-2
+    test-lent-requires
+    enum-known-entry
+    enum-known-entry-2
+    cast-c
+    row-count-requires
+    array-share-prefix-table
+    slice-aggregate-verify
+    array-share-prefix-marks
+    slice-aggregate-verify-2
+    verify-requires
     returns
-    unused-zero-requires
-    returns-2
-    good-header-requires
-    returns-3
-    read-u16-requires
-    cast-m
-    read-u16-requires-2
-    cast-tau
-    shared-slice-read-n
-    cast-n
-    height-requires
-    check-from-requires
     same-length
-    returns-4)
+    returns-2)

@@ -16,7 +16,8 @@ use Rattle.proof.specs.File.{hides, stretchStart}
 use Rattle.proof.specs.Check.{every}
 use Rattle.proof.proofs.Leaves.{opened-few, length-masterIn}
 use Rattle.proof.proofs.Sizes.{start-none}
-use Rattle.checking.proofs.Verified.{outputAt, commitmentsAt, onlineAt, every-none, every-turn, every-end, turn-inside, turn-place, turn-size, turn-unused, turn-test, turn-digest, turn-commitments, sponge-room, digest-length, commitments-none, commitments-turn, online-none, online-turn, hstar-made}
+use Rattle.checking.specs.Steps.{outputAt, commitmentsAt, onlineAt}
+use Rattle.checking.proofs.Verified.{every-none, every-turn, every-end, turn-inside, turn-place, turn-size, turn-unused, turn-test, turn-digest, turn-commitments, sponge-room, digest-length, commitments-none, commitments-turn, online-none, online-turn, hstar-made}
 use Rattle.checking.proofs.verifying.recompute.Statement.{statement}
 use Rattle.checking.proofs.verifying.recompute.Tie as tie
 

@@ -1,9 +1,9 @@
--- `checking::good_header` meets its contract.
+-- `checking::entering::good_header` meets its contract.
 -- Assumes nothing.
 use native.Mathlib.Omega.{arith}
 use Rattle.checking.proofs.Headers.{short-header, read-header}
-use Rattle.checking.proofs.good_header.Statement.{statement}
-use Rattle.checking.proofs.good_header.Tie as tie
+use Rattle.checking.proofs.entering.good_header.Statement.{statement}
+use Rattle.checking.proofs.entering.good_header.Tie as tie
 
 returns : tie.Need-returns
 returns c = short-header _ (c .if1 .taken)
