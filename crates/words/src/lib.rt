@@ -49,7 +49,7 @@ pub struct Delivered {
 }
 
 // An AND gate: masked values in the lowest bits of ma and mb, shares sa and sb, product shares z, output masks o. At the places
-// of hidden the broadcast is as shown.
+// of hidden the broadcast is as shown: what needs no masked value is done first, since the gates wait for each other's.
 pub fn and_gate(
     ma: u8,
     mb: u8,
@@ -64,8 +64,9 @@ pub fn and_gate(
     ensures { λ r. ⌜ r .masked ≡ bitXor (bitAnd ma mb) (bitVal (parity 64 (r .word))) ⌝ }
     ensures { λ r. ⌜ AndColumns (odd ma) (odd mb) sa sb z o hidden shown (r .word) (odd (r .masked)) ⌝ }
 {
-    let sent = (every(ma) & sb) ^ (every(mb) & sa) ^ z ^ o;
-    let word = chosen(hidden, shown, sent);
+    let kept = hidden ^ 0xFFFFFFFFFFFFFFFF;
+    let own = chosen(hidden, shown, z ^ o);
+    let word = (every(ma) & (sb & kept)) ^ ((every(mb) & (sa & kept)) ^ own);
     Delivered {
         word: word,
         masked: (ma & mb) ^ parity(word),
