@@ -126,7 +126,7 @@ module _ (l : Layout) (t : ℕ) (mem : List ℕ) (live : ℕ → Bool) (past res
     wire-tape : (q : ℕ) → q < tapeWords l → tape l (putWire l c x v mem) q ≡ tape l mem q
     wire-tape q hq = tape-masked l k (room-k .room) c v hc q hq ∙ tape-share l mem (holds .room .room) c x hc q
 
-    wire-step : Holds l t (putWire l c x v mem) (put live c true) past rest o z (put s c y) (put m c b)
+    pub wire-step : Holds l t (putWire l c x v mem) (put live c true) past rest o z (put s c y) (put m c b)
     wire-step = record {
       room = masked-room l k room-k c v;
       count = holds .count;
@@ -160,7 +160,7 @@ module _ (l : Layout) (t : ℕ) (mem : List ℕ) (live : ℕ → Bool) (past res
         (λ q. ap (λ (j : ℕ). tape l sent (planes.broadcastWord l j)) q ∙ sent-here)
         (λ q. sent-tape (planes.broadcastWord l v) (omega arith) ∙ holds .broadcasts v (omega arith))
 
-    sent-step : Holds l (suc t) sent live (put past t x) rest (next o) (next z) s m
+    pub sent-step : Holds l (suc t) sent live (put past t x) rest (next o) (next z) s m
     sent-step = record {
       room = tape-room l mem (holds .room) (planes.broadcastWord l t) x;
       count = ht;

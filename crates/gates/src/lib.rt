@@ -18,7 +18,7 @@ use words::chosen;
 use words::parity;
 
 // XOR of wires a and b into c.
-fn xor_gate(memory: &mut [u8], l: Layout, a: usize, b: usize, c: usize)
+pub fn xor_gate(memory: &mut [u8], l: Layout, a: usize, b: usize, c: usize)
     requires { ⌜ Fit l a b c 0 (now memory) ⌝ }
     ensures { λ _. ⌜ now (memory .exit) ≡ xorStep l a b c (now (memory .entry)) ⌝ }
 {
@@ -29,7 +29,7 @@ fn xor_gate(memory: &mut [u8], l: Layout, a: usize, b: usize, c: usize)
 }
 
 // INV of wire a into c.
-fn inv_gate(memory: &mut [u8], l: Layout, a: usize, c: usize)
+pub fn inv_gate(memory: &mut [u8], l: Layout, a: usize, c: usize)
     requires { ⌜ Fit l a a c 0 (now memory) ⌝ }
     ensures { λ _. ⌜ now (memory .exit) ≡ invStep l a c (now (memory .entry)) ⌝ }
 {

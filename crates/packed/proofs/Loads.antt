@@ -200,21 +200,21 @@ module _ (l : Layout) (n len : ℕ) (tapes cs m : List ℕ) (room : planesEnd l 
   abbrev second : List ℕ
   second = wordsCleared l (broadcastWord l (l .ands)) (l .outputs + 7) first
 
-  second-length : length second ≡ length m
+  pub second-length : length second ≡ length m
   second-length = cleared-length l (broadcastWord l (l .ands)) first (omega (arith, kept)) (l .outputs + 7) ∙ kept
 
-  second-word : (q : ℕ) → q < l .inputs + 2 * l .ands → tape l second q ≡ fromBits n (λ i. bitAt (rowOf tapes len i) q)
+  pub second-word : (q : ℕ) → q < l .inputs + 2 * l .ands → tape l second q ≡ fromBits n (λ i. bitAt (rowOf tapes len i) q)
   second-word q h =
       cleared-other l (broadcastWord l (l .ands)) first (omega (arith, kept)) (l .outputs + 7) q (omega arith) (omega arith)
       ∙ tape-word l m room n tapes len wide fits (omega arith) q (omega arith)
 
-  second-zero : (q : ℕ) → l .inputs + 2 * l .ands ≤ q → q < tapeWords l → tape l second q ≡ 0
+  pub second-zero : (q : ℕ) → l .inputs + 2 * l .ands ≤ q → q < tapeWords l → tape l second q ≡ 0
   second-zero q h d =
       let t : ℕ = q - (l .inputs + 2 * l .ands) in
       let e : q ≡ broadcastWord l (l .ands) + t = omega arith in
       rw e (cleared-word l (broadcastWord l (l .ands)) first (omega (arith, kept)) (l .outputs + 7) t (omega arith) (omega arith))
 
-  second-low : Low l second
+  pub second-low : Low l second
   second-low q h =
       ⊎-elim
       (λ a. rw (second-word q a) (lt-of-lt-of-le (fromBits-lt n (λ i. bitAt (rowOf tapes len i) q)) (pow-mono wide)))
@@ -271,7 +271,7 @@ module _ (l : Layout) (n len : ℕ) (m : List ℕ) (room : planesEnd l ≤ lengt
   abbrev before : List ℕ → List ℕ
   before tapes = wordsCleared l (broadcastWord l (l .ands)) (l .outputs + 7) (loadedTapes l n tapes len m)
 
-  before-held : (tapes : List ℕ) → drop (correctionsAt l) (before tapes) ≡ drop (correctionsAt l) m
+  pub before-held : (tapes : List ℕ) → drop (correctionsAt l) (before tapes) ≡ drop (correctionsAt l) m
   before-held tapes =
       cleared-held l (broadcastWord l (l .ands)) (loadedTapes l n tapes len m) (omega (arith, loaded-length l m n tapes len)) (l .outputs + 7) (omega arith)
       ∙ loaded-held l m n tapes len wide (omega arith)

@@ -9,7 +9,7 @@ use native.Mathlib.Nat.{le-refl, suc-mul}
 use native.Mathlib.Omega.{arith}
 use borrow.Author.Tests.{lt-ltb}
 use lib.Dec.{ltb}
-use lib.ListN.{length, getD, take, replicate, List·getD-eq-default}
+use lib.ListN.{length, getD, take, replicate, length-map, List·getD-eq-default}
 use lib.Seq.{take-all, take-add}
 use Rattle.bits.specs.Bits.{tabulate, oct, bitAt, pack}
 use Rattle.bits.specs.Bytes.{rowOf}
@@ -18,12 +18,15 @@ use Rattle.bits.proofs.Numbers.{lt-or-le}
 use Rattle.bits.proofs.Packing.{bitAt-pack, ext-bitAt, length-pack, pack-lt}
 use Rattle.bits.proofs.Rows.{bitAt-row, flatten-more, row-fits, row-inside, row-length, row-lt, rows-none}
 use Rattle.bits.proofs.Tabulate.{length-tabulate, getD-tabulate, getD-tabulate-end, tabulate-cong, tabulate-getD}
-use Rattle.plain.specs.Showing.{firstBits}
+use Rattle.circuit.specs.declared.Sizes.{Sizes}
+use Rattle.plain.specs.Run.{Column, Transcript}
+use Rattle.plain.specs.Showing.{rowBits, rowsOf, firstBits}
 use Rattle.planes.specs.Steps.{storedRows}
 use Rattle.planes.specs.declared.Layout.{Layout}
 use Rattle.planes.proofs.Stored.{row-bit}
 use Rattle.walk.proofs.Turns.{firsts, bits-none, bits-turn}
-use Rattle.packed.specs.Steps.{sentBit, rowsSent}
+use Rattle.walk.specs.Steps.{layoutOf}
+use Rattle.packed.specs.Steps.{broadcastBytes, sentBit, rowsSent}
 
 -- a buffer of n rows is its rows
 rows-first : (n len : ℕ) (out : List ℕ) → length out ≡ n * len → (i : ℕ) → i ≤ n → take (i * len) out ≡ flatten (tabulate i (rowOf out len))
@@ -107,3 +110,36 @@ module _ (k : ℕ) (bs : List Bool) where
   first-all h =
       tabulate-cong (length bs) (λ t. ltb t k && getD bs t false) (λ t. getD bs t false) (λ t a. rw (lt-ltb t k (omega arith)))
       ∙ tabulate-getD bs false
+
+-- the rows of a transcript r of A + O broadcasts
+module _ (z : Sizes) (n : ℕ) (r : Transcript) (count : length (r .broadcasts) ≡ z .ands + z .outputs) where
+  pub row-size : (i : ℕ) → length (rowBits r i) ≡ z .ands + z .outputs
+  unfolding rowBits
+  row-size i = length-map (r .broadcasts) (λ (x : Column). x i) ∙ count
+
+-- a memory that holds the bits of its rows, and zeros beyond them
+module _ (z : Sizes) (n : ℕ) (after : List ℕ) (r : Transcript) (count : length (r .broadcasts) ≡ z .ands + z .outputs)
+    (sent-bit : (i t : ℕ) → i < n → t < z .ands + z .outputs + 7 → sentBit (layoutOf z) after i t ≡ getD (rowBits r i) t false) where
+  -- all rows
+  pub rows-from : rowsSent (layoutOf z) n (broadcastBytes z) after ≡ rowsOf n r
+  unfolding rowsSent rowsOf
+  rows-from =
+      ap flatten
+      (tabulate-cong n _ (λ i. pack (rowBits r i))
+      (λ i hi.
+      pack-padded (rowBits r i) (sentBit (layoutOf z) after i) (broadcastBytes z) (ap oct (sym (row-size z n r count i)))
+      (λ t h. sent-bit i t hi (omega arith))))
+
+  -- the first k bits of one party's row
+  pub row-from : (i k : ℕ) → i < n
+      → pack (tabulate (8 * broadcastBytes z) (λ t. ltb t k && sentBit (layoutOf z) after i t)) ≡ pack (firstBits k (rowBits r i))
+  row-from i k hi =
+      pack-padded (firstBits k (rowBits r i)) (λ t. ltb t k && sentBit (layoutOf z) after i t) (broadcastBytes z)
+      (ap oct (sym (first-size k (rowBits r i) ∙ row-size z n r count i)))
+      (λ t h. ap (λ (b : Bool). ltb t k && b) (sent-bit i t hi (omega arith)) ∙ sym (first-bit k (rowBits r i) t))
+
+  -- the whole row
+  pub whole-from : (i : ℕ) → i < n
+      → pack (tabulate (8 * broadcastBytes z) (λ t. ltb t (z .ands + z .outputs) && sentBit (layoutOf z) after i t)) ≡ pack (rowBits r i)
+  whole-from i hi =
+      row-from i (z .ands + z .outputs) hi ∙ ap pack (first-all (z .ands + z .outputs) (rowBits r i) (omega (arith, row-size z n r count i)))

@@ -40,52 +40,52 @@ use Rattle.walk.proofs.Running.{blank, hides-none, hides-shown, Loaded, Ran, ru
 use Rattle.packed.specs.Steps.{wordsLoaded, inputsLoaded, maskedBit, tapeBytes, broadcastBytes, valuesLoaded, showingLoaded, tapesHeld, correctionsHeld, Held, showingOf, ranMemory, replayedMemory, sentBit, rowsSent}
 use Rattle.packed.proofs.Loads.{Low, words-length, words-mask, words-product, words-zero, words-low, inputs-length, inputs-tape, inputs-share, inputs-masked, party-share, party-masked, party-other, party-column, words-held}
 use Rattle.packed.proofs.Kept.{run-length}
-use Rattle.packed.proofs.Rows.{pack-padded, first-size, first-bit, first-all}
+use Rattle.packed.proofs.Rows.{row-size, rows-from, row-from, whole-from}
 
 -- no bit is set
-no-bits : (n : ℕ) → fromBits n blank ≡ 0
+pub no-bits : (n : ℕ) → fromBits n blank ≡ 0
 unfolding fromBits
 no-bits zero = refl
 no-bits (suc n) = omega (arith, no-bits n)
 
 -- a legal file with its I, O, G and A, the tapes of n parties, and a memory for the planes
-record Given (s : List ℕ) (z : Sizes) (n : ℕ) (tapes m : List ℕ) : Type 0 where
-  legal : Legal s (z .inputs) (z .outputs) (z .gates)
-  ands : z .ands ≡ ands (gatesInOrder s)
-  some : 1 ≤ n
-  few : n ≤ 64
-  room : Room (layoutOf z) m
-  tapes-fit : length tapes ≡ n * tapeBytes z
+pub record Given (s : List ℕ) (z : Sizes) (n : ℕ) (tapes m : List ℕ) : Type 0 where
+  pub legal : Legal s (z .inputs) (z .outputs) (z .gates)
+  pub ands : z .ands ≡ ands (gatesInOrder s)
+  pub some : 1 ≤ n
+  pub few : n ≤ 64
+  pub room : Room (layoutOf z) m
+  pub tapes-fit : length tapes ≡ n * tapeBytes z
 
 module _ (s : List ℕ) (z : Sizes) (n : ℕ) (tapes cs m : List ℕ) (given : Given s z n tapes m) where
   abbrev l : Layout
   l = layoutOf z
 
-  inputs-are : circuitOf s .inputs ≡ z .inputs
+  pub inputs-are : circuitOf s .inputs ≡ z .inputs
   unfolding fields.circuitOf
   inputs-are = sym (given .legal .laid .inputs)
 
-  ands-are : andsOf (circuitOf s) ≡ z .ands
+  pub ands-are : andsOf (circuitOf s) ≡ z .ands
   unfolding fields.circuitOf
   ands-are = sym (given .ands)
 
-  bytes-are : rowBytes (circuitOf s) ≡ tapeBytes z
+  pub bytes-are : rowBytes (circuitOf s) ≡ tapeBytes z
   bytes-are = ap₂ (λ (i a : ℕ). oct (i + 2 * a)) inputs-are ands-are
 
   -- the columns of the tapes
-  input-column : (w : ℕ) → w < z .inputs → fromBits n (λ i. bitAt (rowOf tapes (tapeBytes z) i) w) ≡ fromBits n (inputMasks (circuitOf s) tapes w)
+  pub input-column : (w : ℕ) → w < z .inputs → fromBits n (λ i. bitAt (rowOf tapes (tapeBytes z) i) w) ≡ fromBits n (inputMasks (circuitOf s) tapes w)
   unfolding inputMasks
   input-column w h =
       fromBits-cong n (λ i. bitAt (rowOf tapes (tapeBytes z) i) w) (inputMasks (circuitOf s) tapes w)
       (λ i hi. ap₂ (λ (b : Bool) (k : ℕ). b && bitAt (rowOf tapes k i) w) (sym (lt-ltb w (circuitOf s .inputs) (omega (arith, inputs-are)))) (sym bytes-are))
 
-  mask-column : (t : ℕ) → fromBits n (λ i. bitAt (rowOf tapes (tapeBytes z) i) (maskWord l t)) ≡ fromBits n (outputMasks (circuitOf s) tapes t)
+  pub mask-column : (t : ℕ) → fromBits n (λ i. bitAt (rowOf tapes (tapeBytes z) i) (maskWord l t)) ≡ fromBits n (outputMasks (circuitOf s) tapes t)
   unfolding outputMasks
   mask-column t =
       fromBits-cong n (λ i. bitAt (rowOf tapes (tapeBytes z) i) (maskWord l t)) (outputMasks (circuitOf s) tapes t)
       (λ i hi. ap₂ (λ (q k : ℕ). bitAt (rowOf tapes k i) (q + t)) (sym inputs-are) (sym bytes-are))
 
-  last-party : (i : ℕ) → eqb i (n - 1) ≡ eqb (suc i) n
+  pub last-party : (i : ℕ) → eqb i (n - 1) ≡ eqb (suc i) n
   last-party i =
       let some = given .some in
       ⊎-elim
@@ -231,7 +231,7 @@ module _ (s : List ℕ) (z : Sizes) (n : ℕ) (tapes cs m : List ℕ) (given : G
           ∙ value-zero q (omega arith) d
 
   -- the masked inputs have the masked values
-  masked-agree : (witness : List ℕ) (w : ℕ) → w < z .inputs → bitAt (maskedInputs (circuitOf s) n witness tapes) w ≡ maskedInput (circuitOf s) n witness tapes w
+  pub masked-agree : (witness : List ℕ) (w : ℕ) → w < z .inputs → bitAt (maskedInputs (circuitOf s) n witness tapes) w ≡ maskedInput (circuitOf s) n witness tapes w
   unfolding maskedInputs
   masked-agree witness w h =
       let f : ℕ → Bool = maskedInput (circuitOf s) n witness tapes in
@@ -241,7 +241,7 @@ module _ (s : List ℕ) (z : Sizes) (n : ℕ) (tapes cs m : List ℕ) (given : G
   abbrev none : List ℕ
   none = replicate (oct (z .outputs)) 0
 
-  lent : (k y : List ℕ) → length k ≡ length m → length y ≡ oct (z .outputs) → Lent s z k y
+  pub lent : (k y : List ℕ) → length k ≡ length m → length y ≡ oct (z .outputs) → Lent s z k y
   lent k y e h = record { legal = given .legal; ands = given .ands; memory = room-kept (layoutOf z) m k e (given .room); fits = h }
 
   lent-none : (k : List ℕ) → length k ≡ length m → Lent s z k none
@@ -272,10 +272,6 @@ module _ (s : List ℕ) (z : Sizes) (n hidden : ℕ) (mem : List ℕ) (r : Trans
   abbrev after : List ℕ
   after = outputsRun s z hidden mem
 
-  row-size : (i : ℕ) → length (rowBits r i) ≡ z .ands + z .outputs
-  unfolding rowBits
-  row-size i = length-map (r .broadcasts) (λ (x : Column). x i) ∙ ran .count
-
   -- bit t of party i's row, zero beyond the row
   sent-bit : (i t : ℕ) → i < n → t < z .ands + z .outputs + 7 → sentBit (layoutOf z) after i t ≡ getD (rowBits r i) t false
   unfolding sentBit
@@ -284,32 +280,22 @@ module _ (s : List ℕ) (z : Sizes) (n hidden : ℕ) (mem : List ℕ) (r : Trans
       (λ a. ran .rows i t hi a)
       (λ a.
       ap (λ (x : ℕ). testBit x i) (ran .after t a (omega arith) ∙ clear (broadcastWord (layoutOf z) t) (omega arith) (omega arith))
-      ∙ testBit-zero i ∙ sym (List·getD-eq-default (rowBits r i) false {n = t} (omega (arith, row-size i))))
+      ∙ testBit-zero i ∙ sym (List·getD-eq-default (rowBits r i) false {n = t} (omega (arith, row-size z n r (ran .count) i))))
       (lt-or-le t (z .ands + z .outputs))
 
   -- all rows
   rows-after : rowsSent (layoutOf z) n (broadcastBytes z) after ≡ rowsOf n r
-  unfolding rowsSent rowsOf
-  rows-after =
-      ap flatten
-      (tabulate-cong n _ (λ i. pack (rowBits r i))
-      (λ i hi.
-      pack-padded (rowBits r i) (sentBit (layoutOf z) after i) (broadcastBytes z) (ap oct (sym (row-size i)))
-      (λ t h. sent-bit i t hi (omega arith))))
+  rows-after = rows-from z n after r (ran .count) sent-bit
 
   -- the first k bits of one party's row
   row-after : (i k : ℕ) → i < n
       → pack (tabulate (8 * broadcastBytes z) (λ t. ltb t k && sentBit (layoutOf z) after i t)) ≡ pack (firstBits k (rowBits r i))
-  row-after i k hi =
-      pack-padded (firstBits k (rowBits r i)) (λ t. ltb t k && sentBit (layoutOf z) after i t) (broadcastBytes z)
-      (ap oct (sym (first-size k (rowBits r i) ∙ row-size i)))
-      (λ t h. ap (λ (b : Bool). ltb t k && b) (sent-bit i t hi (omega arith)) ∙ sym (first-bit k (rowBits r i) t))
+  row-after = row-from z n after r (ran .count) sent-bit
 
   -- the whole row
   row-whole : (i : ℕ) → i < n
       → pack (tabulate (8 * broadcastBytes z) (λ t. ltb t (z .ands + z .outputs) && sentBit (layoutOf z) after i t)) ≡ pack (rowBits r i)
-  row-whole i hi =
-      row-after i (z .ands + z .outputs) hi ∙ ap pack (first-all (z .ands + z .outputs) (rowBits r i) (omega (arith, row-size i)))
+  row-whole = whole-from z n after r (ran .count) sent-bit
 
 -- the AND gates are some of the gates
 ands-le : (gs : List Gate) → ands gs ≤ length gs
@@ -363,7 +349,7 @@ module _ (s : List ℕ) (z : Sizes) (n : ℕ) (m : List ℕ) (held : Held s z n 
   abbrev cs : List ℕ
   cs = correctionsHeld z m
 
-  given : Given s z n (tapesHeld z n m) m
+  pub given : Given s z n (tapesHeld z n m) m
   given = record {
     legal = held .legal;
     ands = held .ands;

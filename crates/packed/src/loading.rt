@@ -20,7 +20,7 @@ use planes::tapes::put_party;
 use walk::layout;
 
 // Sets count tape words to zero, from word q on.
-fn clear_words(l: Layout, q: usize, count: usize, memory: &mut [u8])
+pub fn clear_words(l: Layout, q: usize, count: usize, memory: &mut [u8])
     requires { ⌜ Room l (now memory) × (q + count ≤ tapeWords l) ⌝ }
     ensures { λ _. ⌜ now (memory .exit) ≡ wordsCleared l q count (now (memory .entry)) ⌝ }
 {
@@ -59,7 +59,7 @@ fn load_inputs(l: Layout, count: usize, values: &[u8], memory: &mut [u8])
 }
 
 // Masks the first count bits of a witness with the parities of the tape words.
-fn mask_inputs(l: Layout, count: usize, witness: &[u8], memory: &[u8], masked: &mut [u8])
+pub fn mask_inputs(l: Layout, count: usize, witness: &[u8], memory: &[u8], masked: &mut [u8])
     requires { ⌜ Room l (now memory) × ((count ≤ l .inputs) × ((count ≤ 8 * length (now witness)) × (length (now masked) ≡ oct count))) ⌝ }
     ensures { λ _. ⌜ now (masked .exit) ≡ pack (tabulate count (maskedBit l (now (witness .entry)) (now (memory .entry)))) ⌝ }
 {
@@ -74,7 +74,7 @@ fn mask_inputs(l: Layout, count: usize, witness: &[u8], memory: &[u8], masked: &
 }
 
 // The bytes of a tape row.
-pub(crate) fn tape_bytes(z: Sizes) -> usize
+pub fn tape_bytes(z: Sizes) -> usize
     requires { ⌜ z .inputs + 2 * z .ands ≤ 4194304 ⌝ }
     ensures { λ r. ⌜ r ≡ tapeBytes z ⌝ }
 {

@@ -41,7 +41,7 @@ mask-corrections n (inv a c ∷ gs) o z s =
     mask-corrections n gs o z _ ∙ ap (maskCorrections gs (masks n o) (sums n z)) (put-map (xors n) s c (s a))
 
 -- party n - 1's row has zeros from bit I + A on
-last-zero : (c : Circuit) (k : ℕ) (tapes : List ℕ) → unusedRows c (suc k) tapes (suc k) ≡ true → (i : ℕ) → c .inputs + andsOf c ≤ i → bitAt (tapeRow c tapes k) i ≡ false
+pub last-zero : (c : Circuit) (k : ℕ) (tapes : List ℕ) → unusedRows c (suc k) tapes (suc k) ≡ true → (i : ℕ) → c .inputs + andsOf c ≤ i → bitAt (tapeRow c tapes k) i ≡ false
 unfolding unusedRows usedBits
 last-zero c k tapes e i h =
     let q = and-true-right (unusedRows c (suc k) tapes k) _ e in

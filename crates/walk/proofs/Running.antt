@@ -75,7 +75,7 @@ written-by (inv a c ∷ gs) live w h =
 -- a legal file with its memory
 module _ (s : List ℕ) (z : Sizes) (mem y : List ℕ) (lent : Lent s z mem y) where
   -- its wires are inputs or written by its gates
-  all-written : (w : ℕ) → w < layoutOf z .wires → written (λ k. ltb k (inputsOf s)) (gatesInOrder s) w ≡ true
+  pub all-written : (w : ℕ) → w < layoutOf z .wires → written (λ k. ltb k (inputsOf s)) (gatesInOrder s) w ≡ true
   all-written w h =
       let l = lent .legal .laid in
       ⊎-elim
@@ -86,7 +86,7 @@ module _ (s : List ℕ) (z : Sizes) (mem y : List ℕ) (lent : Lent s z mem y) w
       written-by (gatesInOrder s) (λ k. ltb k (inputsOf s)) w (omega (arith, n)))
       (lt-or-le w (inputsOf s))
 
-  output-wire : (j : ℕ) → j < z .outputs → outputWire s j < layoutOf z .wires
+  pub output-wire : (j : ℕ) → j < z .outputs → outputWire s j < layoutOf z .wires
   output-wire j h = omega (arith, output-low s (z .outputs) j (outputs-good s z mem y lent) h, fit s z mem y lent)
 
   -- the run on words
@@ -132,7 +132,7 @@ module _ (n p : ℕ) where
       ap₂ (λ (v : ℕ) (c : Bool). value v c (inWords n (outputs n ws (next h) s m))) x b
       ∙ ap (value (fromBits n (k 0 (s w))) (m w ⊕ xors n (k 0 (s w)))) (outputs-alike ws (next row) (next h) (next k) s m (λ t. d (suc t)) (λ t. e (suc t)))
 
-  run-alike : (outs : List ℕ) (gs : List Gate) (row : ℕ → Bool) (o y z : ℕ → Column) (h k : Channel) (s : ℕ → Column) (m : ℕ → Bool)
+  pub run-alike : (outs : List ℕ) (gs : List Gate) (row : ℕ → Bool) (o y z : ℕ → Column) (h k : Channel) (s : ℕ → Column) (m : ℕ → Bool)
       → Hides n p row h → Hides n p row k → ((t i : ℕ) → t < ands gs → i < n → i ≢ p → y t i ≡ z t i)
       → inWords n (run n outs gs o y h s m) ≡ inWords n (run n outs gs o z k s m)
   unfolding run ands broadcast
@@ -185,12 +185,12 @@ pub record Ran (s : List ℕ) (z : Sizes) (n hidden : ℕ) (mem : List ℕ) (r :
   pub output : valuesRun s z hidden mem ≡ r .output
 
 -- an element of a list seen through a function
-getD-map : {A B : Type 0} (f : A → B) (d : A) (e : B) (l : List A) (v : ℕ) → v < length l → getD (map f l) v e ≡ f (getD l v d)
+pub getD-map : {A B : Type 0} (f : A → B) (d : A) (e : B) (l : List A) (v : ℕ) → v < length l → getD (map f l) v e ≡ f (getD l v d)
 getD-map f d e [] v h = absurd (omega arith)
 getD-map f d e (x ∷ l) zero h = refl
 getD-map f d e (x ∷ l) (suc v) h = getD-map f d e l v (omega arith)
 
-length-map : {A B : Type 0} (f : A → B) (l : List A) → length (map f l) ≡ length l
+pub length-map : {A B : Type 0} (f : A → B) (l : List A) → length (map f l) ≡ length l
 length-map f [] = refl
 length-map f (x ∷ l) = ap suc (length-map f l)
 

@@ -128,7 +128,7 @@ module _ (l : Layout) (hidden : ℕ) (f : List ℕ) where
         }
 
   -- one broadcast before the rest
-  gives-and : (t : ℕ) (mem : List ℕ) (past rest : ℕ → ℕ) (x : ℕ) (r : WordTranscript) → Gives l hidden f (suc t) mem (put past t x) rest r
+  pub gives-and : (t : ℕ) (mem : List ℕ) (past rest : ℕ → ℕ) (x : ℕ) (r : WordTranscript) → Gives l hidden f (suc t) mem (put past t x) rest r
       → Gives l hidden f t mem past rest (record { broadcasts = x ∷ r .broadcasts; output = r .output })
   gives-and t mem past rest x r g = record {
     columns = omega (arith, g .columns);

@@ -26,7 +26,7 @@ pub fn layout(z: Sizes) -> Layout
 }
 
 // 1 for an AND gate, 0 for another.
-fn and_one(g: Gate) -> usize
+pub fn and_one(g: Gate) -> usize
     ensures { λ r. ⌜ r ≡ andOne g ⌝ }
 {
     match g {
@@ -58,7 +58,7 @@ fn walk(s: &[u8], z: Sizes, head: usize, hidden: u64, memory: &mut [u8])
 }
 
 // Broadcasts the output masks, after the broadcasts of the AND gates, and fills y with the outputs.
-fn broadcast_outputs(s: &[u8], z: Sizes, hidden: u64, memory: &mut [u8], y: &mut [u8])
+pub fn broadcast_outputs(s: &[u8], z: Sizes, hidden: u64, memory: &mut [u8], y: &mut [u8])
     requires { ⌜ Ended (now s) z (now memory) (now y) ⌝ }
     ensures { λ _. ⌜ now (memory .exit) ≡ outputsSent (layoutOf z) hidden (now (s .entry)) (z .outputs) (now (memory .entry)) ⌝ }
     ensures { λ _. ⌜ now (y .exit) ≡ pack (tabulate (z .outputs) (outputBit (layoutOf z) hidden (now (s .entry)) (now (memory .entry)))) ⌝ }
