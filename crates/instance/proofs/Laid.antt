@@ -16,20 +16,16 @@ use Rattle.circuit.specs.declared.Sizes.{Sizes}
 use Rattle.planes.specs.Steps.{Room, correctionsAt, rowsAt, seedsAt, leavesAt, broadcastWord, tapeWords}
 use Rattle.planes.specs.declared.Layout.{Layout}
 use Rattle.walk.specs.Steps.{layoutOf}
-use Rattle.plain.specs.Run.{Transcript}
-use Rattle.plain.specs.Showing.{rowBits}
-use Rattle.packed.specs.Steps.{tapesHeld, correctionsHeld, broadcastBytes, sentBit, ranMemory}
-use Rattle.packed.proofs.Runs.{whole-row-ran}
+use Rattle.packed.specs.Steps.{correctionsHeld, broadcastBytes, sentBit}
 use Rattle.mpc.specs.Steps.{Known}
 use Rattle.mpc.proofs.Opened.{circuit-inputs, circuit-outputs, circuit-ands}
 use Rattle.party.specs.Derive.{commitmentOf}
 use Rattle.tree.specs.Tree.{siblingsBelow}
-use Rattle.instance.specs.Instance.{hiding, masterSeeds, masterTapes, masterCorrections, masterRun, masterMasked, sentCorrections, stretchOf}
+use Rattle.instance.specs.Instance.{hiding, masterMasked, sentCorrections, stretchOf}
 use Rattle.instance.specs.Stretch.{correctionBytes, stretchBytes}
-use Rattle.instance.specs.Steps.{Tree, Lent, seedsHeld, heldBytes}
+use Rattle.instance.specs.Steps.{Tree, seedsHeld, heldBytes, rowSent, Ran}
 use Rattle.instance.proofs.Trees.{tree-sizes}
-use Rattle.instance.proofs.Rooms.{lent-held}
-use Rattle.instance.proofs.Sent.{seeds-part, corrections-part, run-made}
+use Rattle.instance.proofs.Sent.{seeds-part, corrections-part}
 use Rattle.instance.proofs.Checks.{sent-few}
 
 -- x is written at a place
@@ -71,17 +67,14 @@ three-parts first second third p0 z1 x y p2 p3 l1 e2 q2 e3 q3 =
     ∙ front-rest z1 p0 first third l1 (omega (arith, e2, e3)))
 
 -- the two parts of the run after a front of b bytes
-two-parts : (third b fourth k : ℕ) (front p0 p1 v w : List ℕ) → third ≡ b → p1 ≡ front ++ drop b p0 → length p1 ≡ length p0 → third ≤ length p0
-    → fourth ≡ third + length v → length (take third p1 ++ (v ++ drop (fourth - third) (drop third p1))) ≤ fourth + k
-    → take fourth (take third p1 ++ (v ++ drop (fourth - third) (drop third p1)))
-    ++ (w ++ drop k (drop fourth (take third p1 ++ (v ++ drop (fourth - third) (drop third p1)))))
-    ≡ front ++ v ++ w
-two-parts third b fourth k front p0 p1 v w eb e l inside f h =
-    let rest : List ℕ = drop (fourth - third) (drop third p1) in
-    let p2 : List ℕ = take third p1 ++ (v ++ rest) in
+two-parts : (third b fourth k : ℕ) (front p0 p1 p2 v w : List ℕ) → third ≡ b → p1 ≡ front ++ drop b p0 → length p1 ≡ length p0 → third ≤ length p0
+    → fourth ≡ third + length v → p2 ≡ take third p1 ++ v ++ drop (third + length v) p1 → length p2 ≤ fourth + k
+    → take fourth p2 ++ (w ++ drop k (drop fourth p2)) ≡ front ++ v ++ w
+two-parts third b fourth k front p0 p1 p2 v w eb e l inside f q h =
+    let rest : List ℕ = drop (third + length v) p1 in
     let size : length front ≡ third = omega (arith, ap length e, length-append front (drop b p0), length-drop b p0, l, eb, inside) in
     let a : take third p1 ≡ front = ap (take third) e ∙ take-at front (drop b p0) third size in
-    let c : take third p1 ++ (v ++ rest) ≡ front ++ v ++ rest = ap (λ (t : List ℕ). t ++ (v ++ rest)) a ∙ sym (append-assoc front v rest) in
+    let c : p2 ≡ front ++ v ++ rest = q ∙ ap (λ (t : List ℕ). t ++ v ++ rest) a in
     let n : length (front ++ v) ≡ fourth = length-append front v ∙ omega (arith, size, f) in
     ap₂ (λ (u t : List ℕ). u ++ (w ++ t)) (ap (take fourth) c ∙ take-at (front ++ v) rest fourth n)
     (drop-of-length-le (drop fourth p2) {i = k} (omega (arith, length-drop fourth p2, h)))
@@ -144,46 +137,34 @@ stretch-size s z n h p k tree =
     (circuit-inputs s (z .inputs) (z .outputs) (z .gates) (z .ands) k)
     ∙ ap₂ (size (z .ands) (z .inputs)) (circuit-outputs s (z .inputs) (z .outputs) (z .gates) (z .ands) k) (sym (tree .height))
 
--- the stretch is as stated: of a memory m that holds what a master gives
-module _ (s : List ℕ) (z : Sizes) (n h j p : ℕ) (few : p < n) (master m : List ℕ) (lent : Lent s z n h m) (w : List ℕ)
-    (es : seedsHeld z n m ≡ masterSeeds n j master) (et : tapesHeld z n m ≡ masterTapes (circuitOf s) n j master)
-    (ec : correctionsHeld z m ≡ masterCorrections (circuitOf s) n j master) where
-  -- the row of party p, which is t bytes
-  row-made : (l : Layout) (v x : List ℕ) (t : ℕ) → l ≡ layoutOf z → v ≡ ranMemory s z n w m → t ≡ broadcastBytes z
-      → x ≡ pack (tabulate (8 * t) (λ q. ltb q (z .ands + z .outputs) && sentBit l v p q)) → x ≡ pack (rowBits (masterRun (circuitOf s) n j w master) p)
-  row-made l v x t el ev e q =
-      q
-      ∙ ap₂ (λ (k : Layout) (y : List ℕ). pack (tabulate (8 * t) (λ q. ltb q (z .ands + z .outputs) && sentBit k y p q))) el ev
-      ∙ ap (λ (k : ℕ). pack (tabulate (8 * k) (λ q. ltb q (z .ands + z .outputs) && sentBit (layoutOf z) (ranMemory s z n w m) p q))) e
-      ∙ whole-row-ran s z n m (lent-held s z n h m lent) w p few
-      ∙ ap (λ (r : Transcript). pack (rowBits r p)) (run-made s z n h j master m lent w et ec)
+-- the stretch is as stated: of a memory m that holds the run
+pub stretch-made : (s : List ℕ) (z : Sizes) (n h j p : ℕ) (w master m x part : List ℕ) → p < n → Tree n h → Ran (circuitOf s) z n j w master m
+    → x ≡ masterMasked (circuitOf s) n j w master
+    → part ≡ siblingsBelow j h 1 p master ++ sentCorrections n p (correctionsHeld z m)
+    ++ commitmentOf j n p (seedsHeld z n m) (correctionsHeld z m) ++ x ++ rowSent z p m → part ≡ stretchOf (circuitOf s) n j w master (hiding p)
+unfolding stretchOf
+stretch-made s z n h j p w master m x part few tree ran ex q =
+    q
+    ∙ ap₂ _++_
+    (ap₂ _++_
+    (ap₂ _++_
+    (ap₂ _++_ (ap (λ (k : ℕ). siblingsBelow j k 1 p master) (tree .height)) (ap (sentCorrections n p) (ran .corrections)))
+    (ap₂ (commitmentOf j n p) (ran .seeds) (ran .corrections)))
+    ex)
+    (ran .row p few)
 
-  stretch-made : (l : Layout) (v x r part : List ℕ) (t : ℕ) → l ≡ layoutOf z → v ≡ ranMemory s z n w m → t ≡ broadcastBytes z
-      → x ≡ masterMasked (circuitOf s) n j w master
-      → r ≡ pack (tabulate (8 * t) (λ q. ltb q (z .ands + z .outputs) && sentBit l v p q))
-      → part ≡ siblingsBelow j h 1 p master ++ sentCorrections n p (correctionsHeld z m)
-      ++ commitmentOf j n p (seedsHeld z n m) (correctionsHeld z m) ++ x ++ r → part ≡ stretchOf (circuitOf s) n j w master (hiding p)
-  unfolding stretchOf
-  stretch-made l v x r part t el ev e ex er q =
-      q
-      ∙ ap₂ _++_
-      (ap₂ _++_
-      (ap₂ _++_
-      (ap₂ _++_ (ap (λ (k : ℕ). siblingsBelow j k 1 p master) (lent .tree .height)) (ap (sentCorrections n p) ec))
-      (ap₂ (commitmentOf j n p) es ec))
-      ex)
-      (row-made l v r t el ev e er)
-
-  -- and so it is written after the parts that need no run
-  pub stretch-written : (l : Layout) (v x r p0 p1 : List ℕ) (third fourth k t : ℕ) → l ≡ layoutOf z → v ≡ ranMemory s z n w m → t ≡ broadcastBytes z
-      → x ≡ masterMasked (circuitOf s) n j w master
-      → r ≡ pack (tabulate (8 * t) (λ q. ltb q (z .ands + z .outputs) && sentBit l v p q)) → third ≡ heldBytes z n h p
-      → p1 ≡ siblingsBelow j h 1 p master ++ sentCorrections n p (correctionsHeld z m)
-      ++ commitmentOf j n p (seedsHeld z n m) (correctionsHeld z m) ++ drop (heldBytes z n h p) p0 → length p1 ≡ length p0 → third ≤ length p0
-      → fourth ≡ third + length x → length (putMid third (fourth - third) p1 x) ≤ fourth + k
-      → putMid fourth k (putMid third (fourth - third) p1 x) r ≡ stretchOf (circuitOf s) n j w master (hiding p)
-  stretch-written l v x r p0 p1 third fourth k t el ev e ex er e3 e1 l1 inside e4 h4 =
-      stretch-made l v x r _ t el ev e ex er
-      (two-parts third (heldBytes z n h p) fourth k
-      (siblingsBelow j h 1 p master ++ sentCorrections n p (correctionsHeld z m) ++ commitmentOf j n p (seedsHeld z n m) (correctionsHeld z m)) p0 p1 x r e3 e1 l1
-      inside e4 h4)
+-- the masked inputs x and the row r are written after the parts that need no run
+pub ran-laid : (z : Sizes) (n h j p third fourth k t : ℕ) (l : Layout) (master m p0 p1 p2 x r : List ℕ) → third ≡ heldBytes z n h p
+    → p1 ≡ siblingsBelow j h 1 p master ++ sentCorrections n p (correctionsHeld z m)
+    ++ commitmentOf j n p (seedsHeld z n m) (correctionsHeld z m) ++ drop (heldBytes z n h p) p0 → length p1 ≡ length p0 → third ≤ length p0
+    → fourth ≡ third + length x → p2 ≡ take third p1 ++ x ++ drop (third + length x) p1 → length p2 ≤ fourth + k → l ≡ layoutOf z → t ≡ broadcastBytes z
+    → r ≡ pack (tabulate (8 * t) (λ q. ltb q (z .ands + z .outputs) && sentBit l m p q))
+    → putMid fourth k p2 r
+    ≡ siblingsBelow j h 1 p master ++ sentCorrections n p (correctionsHeld z m)
+    ++ commitmentOf j n p (seedsHeld z n m) (correctionsHeld z m) ++ x ++ rowSent z p m
+unfolding rowSent
+ran-laid z n h j p third fourth k t l master m p0 p1 p2 x r e3 e1 l1 inside e4 e2 h4 el et er =
+    let front : List ℕ = siblingsBelow j h 1 p master ++ sentCorrections n p (correctionsHeld z m) ++ commitmentOf j n p (seedsHeld z n m) (correctionsHeld z m) in
+    two-parts third (heldBytes z n h p) fourth k front p0 p1 p2 x r e3 e1 l1 inside e4 e2 h4
+    ∙ ap (λ (y : List ℕ). front ++ x ++ y)
+    (er ∙ ap₂ (λ (y : Layout) (i : ℕ). pack (tabulate (8 * i) (λ q. ltb q (z .ands + z .outputs) && sentBit y m p q))) el et)

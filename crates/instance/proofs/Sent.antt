@@ -1,17 +1,16 @@
 -- What an instance's digests and stretch are made of: seeds, tapes and corrections in the work memory, and the run on them.
 -- Assumes nothing.
 use mathlib.Core.Path.{_≡_, sym, ap, ap₂, _∙_}
-use mathlib.Core.Bool.{Bool, false, cond}
+use mathlib.Core.Bool.{true, cond, _&&_}
 use mathlib.Core.List.{List, _++_, flatten}
-use Prim.Native.Nat.{ℕ, _+_, _-_, _*_, _≤_}
+use Prim.Native.Nat.{ℕ, _+_, _-_, _*_, _≤_, _<_}
 use native.Mathlib.Omega.{arith}
 use borrow.Author.Tests.{ne-eqb}
-use lib.Dec.{eqb}
-use lib.ListN.{length, getD, take, drop, replicate, length-replicate}
+use lib.Dec.{eqb, ltb}
+use lib.ListN.{length, take, drop, replicate, length-replicate}
 use lib.Seq.{sets, length-take-le, take-at, length-front}
-use Rattle.bits.specs.Bits.{tabulate, oct, pack, bitAt}
+use Rattle.bits.specs.Bits.{tabulate, oct, pack}
 use Rattle.bits.proofs.Copies.{prefix-length}
-use Rattle.bits.proofs.Packing.{bitAt-pack}
 use Rattle.bits.proofs.Tabulate.{tabulate-cong}
 use Rattle.circuit.specs.File.{circuitOf}
 use Rattle.circuit.specs.declared.Sizes.{Sizes}
@@ -22,13 +21,16 @@ use Rattle.planes.specs.Steps.{correctionsAt, rowsAt, seedsAt, leavesAt}
 use Rattle.planes.specs.declared.Layout.{Layout}
 use Rattle.walk.specs.Steps.{layoutOf}
 use Rattle.plain.specs.Showing as shown
-use Rattle.plain.specs.Showing.{correctionBits, runOn, honestRun, rowsOf}
-use Rattle.packed.specs.Steps.{tapesHeld, correctionsHeld, broadcastBytes, rowsSent, ranMemory}
-use Rattle.packed.proofs.Runs.{rows-ran}
+use Rattle.plain.specs.Run.{Transcript}
+use Rattle.plain.specs.Tapes.{unusedRows}
+use Rattle.plain.specs.Showing.{correctionBits, honestRun, rowBits, rowsOf}
+use Rattle.packed.specs.Steps.{tapesHeld, correctionsHeld, broadcastBytes, sentBit, rowsSent}
+use Rattle.correcting.specs.Steps.{ranMemory}
+use Rattle.correcting.proofs.Ran.{rows-ran, row-ran, after-ran}
 use Rattle.mpc.specs.Steps.{Known}
 use Rattle.party.specs.Derive.{commitmentOf}
 use Rattle.instance.specs.Instance.{tapesOf, commitmentsDigest, onlineDigest, commitmentsOf, masterSeeds, masterTapes, masterCorrections, masterCommitments, masterRun, masterMasked, masterOnline}
-use Rattle.instance.specs.Steps.{Lent, seedsHeld}
+use Rattle.instance.specs.Steps.{Lent, seedsHeld, rowSent, Ran}
 use Rattle.instance.proofs.Trees.{tree-parties}
 use Rattle.instance.proofs.Tapes.{tapes-unused}
 use Rattle.instance.proofs.Rooms.{part-kept, lent-masks, lent-held}
@@ -107,30 +109,40 @@ pub commitments-made : (s : List ℕ) (z : Sizes) (n j : ℕ) (master m r : List
 unfolding masterCommitments
 commitments-made s z n j master m r e d q = q ∙ ap (commitmentsDigest j) (ap₂ (commitmentsOf n j) e d)
 
--- the run in a memory that holds what a master gives
+-- the run in a memory that holds the tapes that a master gives
 module _ (s : List ℕ) (z : Sizes) (n h j : ℕ) (master m : List ℕ) (lent : Lent s z n h m) (w : List ℕ)
-    (et : tapesHeld z n m ≡ masterTapes (circuitOf s) n j master) (ec : correctionsHeld z m ≡ masterCorrections (circuitOf s) n j master) where
-  -- it is the run of the paper
-  pub run-made : runOn (circuitOf s) n w (tapesHeld z n m) (bitAt (correctionsHeld z m)) ≡ masterRun (circuitOf s) n j w master
-  unfolding masterRun masterCorrections honestRun
-  run-made =
-      let bs : List Bool = correctionBits (circuitOf s) n (masterTapes (circuitOf s) n j master) in
-      let f : bitAt (pack bs) ≡ (λ t. getD bs t false) = λ i t. bitAt-pack bs t i in
-      ap₂ (λ (x y : List ℕ). runOn (circuitOf s) n w x (bitAt y)) et ec
-      ∙ ap (runOn (circuitOf s) n w (masterTapes (circuitOf s) n j master)) f
+    (et : tapesHeld z n m ≡ masterTapes (circuitOf s) n j master) where
+  -- their unused bits are zero
+  pub clean : unusedRows (circuitOf s) n (tapesHeld z n m) n ≡ true
+  unfolding masterTapes
+  clean = ap (λ (t : List ℕ). unusedRows (circuitOf s) n t n) et ∙ tapes-unused (circuitOf s) n j (masterSeeds n j master) n (omega arith)
 
   -- its masked inputs
   pub masked-made : (x : List ℕ) → x ≡ shown.maskedInputs (circuitOf s) n w (tapesHeld z n m) → x ≡ masterMasked (circuitOf s) n j w master
   unfolding masterMasked
   masked-made x q = q ∙ ap (shown.maskedInputs (circuitOf s) n w) et
 
-  -- h'_j
-  pub online-made : (x v r : List ℕ) → x ≡ masterMasked (circuitOf s) n j w master → v ≡ ranMemory s z n w m
-      → r ≡ onlineDigest j x (rowsSent (layoutOf z) n (broadcastBytes z) v) → r ≡ masterOnline (circuitOf s) n j w master
-  unfolding masterOnline
-  online-made x v r ex ev q =
-      q ∙ ap₂ (onlineDigest j) ex
-      (ap (rowsSent (layoutOf z) n (broadcastBytes z)) ev ∙ rows-ran s z n m (lent-held s z n h m lent) w ∙ ap (rowsOf n) run-made)
+  -- the memory that it leaves
+  pub ran-made : (v : List ℕ) → seedsHeld z n m ≡ masterSeeds n j master → v ≡ ranMemory s z n w m
+      → correctionsHeld z v ≡ pack (correctionBits (circuitOf s) n (tapesHeld z n m)) → Ran (circuitOf s) z n j w master v
+  unfolding masterRun masterCorrections rowSent
+  ran-made v es ev ec =
+      let held = lent-held s z n h m lent in
+      let run : List ℕ → Transcript = honestRun (circuitOf s) n w in
+      record {
+        seeds = part-kept (rowsAt (layoutOf z)) (seedsAt (layoutOf z) n) (32 * n) m v (omega arith) (ap (drop (rowsAt (layoutOf z))) ev ∙ after-ran s z n m held clean w) ∙ es;
+        corrections = ec ∙ ap (λ (t : List ℕ). pack (correctionBits (circuitOf s) n t)) et;
+        rows = ap (rowsSent (layoutOf z) n (broadcastBytes z)) ev ∙ rows-ran s z n m held clean w ∙ ap (λ (t : List ℕ). rowsOf n (run t)) et;
+        row = λ p few.
+            ap (λ (x : List ℕ). pack (tabulate (8 * broadcastBytes z) (λ t. ltb t (z .ands + z .outputs) && sentBit (layoutOf z) x p t))) ev
+            ∙ row-ran s z n m held clean w p few ∙ ap (λ (t : List ℕ). pack (rowBits (run t) p)) et;
+      }
+
+-- h'_j
+pub online-made : (s : List ℕ) (z : Sizes) (n j : ℕ) (w master x v r : List ℕ) → x ≡ masterMasked (circuitOf s) n j w master
+    → Ran (circuitOf s) z n j w master v → r ≡ onlineDigest j x (rowsSent (layoutOf z) n (broadcastBytes z) v) → r ≡ masterOnline (circuitOf s) n j w master
+unfolding masterOnline
+online-made s z n j w master x v r ex ran q = q ∙ ap₂ (onlineDigest j) ex (ran .rows)
 
 -- the sizes of an instance's arrays
 pub few-masked : (s : List ℕ) (z : Sizes) (r : ℕ) → Known s z → r ≡ oct (z .inputs) → r ≤ 64

@@ -1,22 +1,24 @@
 -- What only the contracts of steps use: no definition of the paper stands here.
 -- Assumes nothing.
 use mathlib.Core.Path.{_≡_}
-use mathlib.Core.Bool.{true, cond}
+use mathlib.Core.Bool.{true, cond, _&&_}
 use mathlib.Core.List.{List, flatten}
-use Prim.Native.Nat.{ℕ, suc, _+_, _*_, _≤_}
-use lib.Dec.{eqb}
+use Prim.Native.Nat.{ℕ, suc, _+_, _*_, _≤_, _<_}
+use lib.Dec.{eqb, ltb}
 use lib.ListN.{length, take, drop, replicate}
-use Rattle.bits.specs.Bits.{tabulate, oct}
+use Rattle.bits.specs.Bits.{tabulate, oct, pack}
 use Rattle.parties.specs.Parties.{heightOf, isPartyCount}
 use Rattle.circuit.specs.Circuit.{Circuit}
 use Rattle.circuit.specs.declared.Sizes.{Sizes}
 use Rattle.plain.specs.Tapes.{rowBytes, usedBits}
+use Rattle.plain.specs.Showing.{rowBits, rowsOf}
 use Rattle.masks.specs.Steps.{wireCount}
 use Rattle.planes.specs.Steps.{seedsAt}
 use Rattle.walk.specs.Steps.{layoutOf}
+use Rattle.packed.specs.Steps.{broadcastBytes, correctionsHeld, sentBit, rowsSent}
 use Rattle.mpc.specs.Steps.{Known}
 use Rattle.party.specs.Derive as derive
-use Rattle.instance.specs.Instance.{seedOf}
+use Rattle.instance.specs.Instance.{seedOf, masterSeeds, masterCorrections, masterRun}
 
 -- n parties, with a tree of height h
 pub record Tree (n h : ℕ) : Type 0 where
@@ -41,3 +43,14 @@ tapesBut c n p j seeds =
 -- the bytes of a chosen instance's stretch that need no run, with party p hidden: siblings, corrections, com_p
 abbrev pub heldBytes : Sizes → ℕ → ℕ → ℕ → ℕ
 heldBytes z n h p = 16 * h + cond (eqb (suc p) n) 0 (oct (z .ands)) + 32
+
+-- party p's row of the broadcasts in the memory
+unfoldable pub rowSent : Sizes → ℕ → List ℕ → List ℕ
+rowSent z p m = pack (tabulate (8 * broadcastBytes z) (λ t. ltb t (z .ands + z .outputs) && sentBit (layoutOf z) m p t))
+
+-- the memory holds an instance's run on a witness, with what its master gives: seeds, corrections, and broadcasts
+pub record Ran (c : Circuit) (z : Sizes) (n j : ℕ) (witness master m : List ℕ) : Type 0 where
+  pub seeds : seedsHeld z n m ≡ masterSeeds n j master
+  pub corrections : correctionsHeld z m ≡ masterCorrections c n j master
+  pub rows : rowsSent (layoutOf z) n (broadcastBytes z) m ≡ rowsOf n (masterRun c n j witness master)
+  pub row : (p : ℕ) → p < n → rowSent z p m ≡ pack (rowBits (masterRun c n j witness master) p)

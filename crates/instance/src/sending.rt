@@ -3,16 +3,17 @@ ghost use mathlib.Core.Path.{_≡_};
 ghost use mathlib.Core.List.{_++_};
 ghost use Prim.Native.Nat.{_+_, _≤_, _<_};
 ghost use lib.ListN.{length, take, drop};
+ghost use Rattle.bits.specs.Bits.{oct};
 ghost use Rattle.circuit.specs.File.{maxGates, circuitOf};
 ghost use Rattle.mpc.specs.Steps.{WitnessFits};
 ghost use Rattle.planes.specs.Steps.{Room, heldEnd};
 ghost use Rattle.walk.specs.Steps.{layoutOf};
-ghost use Rattle.packed.specs.Steps.{tapesHeld, correctionsHeld};
+ghost use Rattle.packed.specs.Steps.{broadcastBytes, tapesHeld, correctionsHeld};
 ghost use Rattle.tree.specs.Tree.{siblingsBelow};
 ghost use Rattle.party.specs.Derive.{commitmentOf};
-ghost use Rattle.instance.specs.Instance.{commitmentsDigest, commitmentsOf, masterSeeds, masterTapes, masterCorrections, masterCommitments, masterOnline, hiding, sentCorrections, stretchOf};
+ghost use Rattle.instance.specs.Instance.{commitmentsDigest, commitmentsOf, masterSeeds, masterTapes, masterCorrections, masterCommitments, masterMasked, masterOnline, hiding, sentCorrections, stretchOf};
 ghost use Rattle.instance.specs.Stretch.{stretchBytes};
-ghost use Rattle.instance.specs.Steps.{Tree, Lent, seedsHeld, heldBytes};
+ghost use Rattle.instance.specs.Steps.{Tree, Lent, seedsHeld, heldBytes, rowSent, Ran};
 use crate::Digests;
 use crate::Instance;
 use crate::checking::sent_bytes;
@@ -21,9 +22,9 @@ use crate::committing::online;
 use crate::seeding::hold_parties;
 use bits::copy;
 use circuit::Sizes;
+use correcting::running::run_honest;
 use masks::chain::make_corrections;
 use packed::running::pack_row;
-use packed::running::run_held;
 use party::commitment;
 use planes::places::corrections_at;
 use planes::places::leaves_at;
@@ -69,6 +70,28 @@ pub(crate) fn commit_held(z: Sizes, inst: Instance, memory: &[u8]) -> [u8; 32]
     )
 }
 
+// Runs instance j on the witness, with what its master gives: leaves the seeds, the corrections and the broadcasts in the memory, and
+// fills the masked inputs.
+pub(crate) fn run_master(
+    s: &[u8],
+    z: Sizes,
+    inst: Instance,
+    witness: &[u8],
+    master: &[u8],
+    masked: &mut [u8],
+    memory: &mut [u8],
+)
+    requires { ⌜ Lent (now s) z (inst .parties) (inst .height) (now memory) × (WitnessFits z (now witness) × ((length (now master) ≡ 16) × (length (now masked) ≡ oct (z .inputs)))) ⌝ }
+    ensures { λ _. ⌜ now (masked .exit) ≡ masterMasked (circuitOf (now (s .entry))) (inst .parties) (inst .number) (now (witness .entry)) (now (master .entry)) ⌝ }
+    ensures { λ _. ⌜ Ran (circuitOf (now (s .entry))) z (inst .parties) (inst .number) (now (witness .entry)) (now (master .entry)) (now (memory .exit)) ⌝ }
+{
+    let k = inst.parties as usize;
+    let o = bits::oct(z.outputs);
+    let mut y = [0u8; 32];
+    hold_parties(s, z, inst, master, memory);
+    run_honest(s, z, k, witness, masked, &mut y[..o], memory);
+}
+
 // The digests of instance j, from its master and the witness. What then stands in the memory is not told.
 pub fn digests(
     s: &[u8],
@@ -84,12 +107,9 @@ pub fn digests(
     let j = inst.number;
     let k = inst.parties as usize;
     let m = bits::oct(z.inputs);
-    let o = bits::oct(z.outputs);
     let mut masked = [0u8; 64];
-    let mut y = [0u8; 32];
-    from_master(s, z, inst, master, memory);
+    run_master(s, z, inst, witness, master, &mut masked[..m], memory);
     let commitments = commit_held(z, inst, memory);
-    run_held(s, z, k, witness, &mut masked[..m], &mut y[..o], memory);
     let online = online(j, &masked[..m], z, k, memory);
     Digests {
         commitments,
@@ -139,8 +159,32 @@ pub(crate) fn send_held(
     put(&com, second, part)
 }
 
-// The stretch of a chosen instance: siblings, corrections unless p = n − 1, com_p, masked inputs, broadcast row p. What then stands in
-// the memory is not told.
+// Writes a stretch from the memory after the run: siblings, corrections unless p = n − 1, com_p, masked inputs, broadcast row p.
+pub(crate) fn send_ran(
+    z: Sizes,
+    inst: Instance,
+    p: u32,
+    master: &[u8],
+    masked: &[u8],
+    memory: &[u8],
+    part: &mut [u8],
+)
+    requires { ⌜ Room (layoutOf z) (now memory) × ((heldEnd (layoutOf z) (inst .parties) ≤ length (now memory)) × ((z .ands ≤ maxGates) × (Tree (inst .parties) (inst .height) × ((p < inst .parties) × ((length (now master) ≡ 16) × ((length (now masked) ≡ oct (z .inputs)) × (length (now part) ≡ heldBytes z (inst .parties) (inst .height) p + oct (z .inputs) + broadcastBytes z))))))) ⌝ }
+    ensures { λ _. ⌜ now (part .exit) ≡ siblingsBelow (inst .number) (inst .height) 1 p (now (master .entry)) ++ sentCorrections (inst .parties) p (correctionsHeld z (now (memory .entry))) ++ commitmentOf (inst .number) (inst .parties) p (seedsHeld z (inst .parties) (now (memory .entry))) (correctionsHeld z (now (memory .entry))) ++ now (masked .entry) ++ rowSent z p (now (memory .entry)) ⌝ }
+{
+    let l = layout(z);
+    let third = send_held(z, inst, p, master, memory, part);
+    let fourth = put(masked, third, part);
+    pack_row(
+        memory,
+        l,
+        p as usize,
+        z.ands + z.outputs,
+        &mut part[fourth..],
+    );
+}
+
+// The stretch of a chosen instance, from its master and the witness. What then stands in the memory is not told.
 pub fn send(
     s: &[u8],
     z: Sizes,
@@ -154,27 +198,8 @@ pub fn send(
     requires { ⌜ Lent (now s) z (inst .parties) (inst .height) (now memory) × (WitnessFits z (now witness) × ((length (now master) ≡ 16) × ((p < inst .parties) × (length (now part) ≡ stretchBytes (circuitOf (now s)) (inst .parties) (hiding p))))) ⌝ }
     ensures { λ _. ⌜ now (part .exit) ≡ stretchOf (circuitOf (now (s .entry))) (inst .parties) (inst .number) (now (witness .entry)) (now (master .entry)) (hiding p) ⌝ }
 {
-    let k = inst.parties as usize;
-    let l = layout(z);
-    let o = bits::oct(z.outputs);
-    let mut y = [0u8; 32];
-    from_master(s, z, inst, master, memory);
-    let third = send_held(z, inst, p, master, memory, part);
-    let fourth = third + bits::oct(z.inputs);
-    run_held(
-        s,
-        z,
-        k,
-        witness,
-        &mut part[third..fourth],
-        &mut y[..o],
-        memory,
-    );
-    pack_row(
-        memory,
-        l,
-        p as usize,
-        z.ands + z.outputs,
-        &mut part[fourth..],
-    );
+    let m = bits::oct(z.inputs);
+    let mut masked = [0u8; 64];
+    run_master(s, z, inst, witness, master, &mut masked[..m], memory);
+    send_ran(z, inst, p, master, &masked[..m], memory, part);
 }
