@@ -44,12 +44,11 @@ def evaluate(file, row):
     return [value[get(16 + 4 * j)] for j in range(outs)]
 
 
-def at_least(width, a, b):
-    """Output 0: is number a at least number b? a and b are the first wires of the two. The bits of b follow as outputs,
-    so that what is claimed says which b: a row with a and b of its own choice would show nothing.
+def compare(gates, width, a, b):
+    """Adds gates for output 0: is number a at least number b? a and b are the first wires of the two. Gives the outputs: the
+    bits of b follow, so that what is claimed says which b: a row with a and b of its own choice would show nothing.
     The borrow of a - b goes from bit to bit: where the bits differ it becomes that of b, else it stays. So
     borrow' = (NOT a AND b) OR (borrow AND NOT (a XOR b)) = borrow XOR ((a XOR b) AND (b XOR borrow)): one AND for each bit."""
-    gates = []
 
     def gate(kind, x, y=None):
         gates.append((kind, x, y))
@@ -64,8 +63,15 @@ def at_least(width, a, b):
         else:
             borrow = gate(XOR, borrow, gate(AND, differ, gate(XOR, y, borrow)))
     answer = gate(INV, borrow)
-    told = [("in", b + j) for j in range(width)]
-    return circuit(2 * width, [answer, *told], gates, lambda i: i + 1)
+    return [answer, *(("in", b + j) for j in range(width))]
+
+
+def at_least(inputs, width, *pairs):
+    """The circuit of one comparison after the other, each of a pair of numbers of a row, by their first wires."""
+    gates, outputs = [], []
+    for a, b in pairs:
+        outputs += compare(gates, width, a, b)
+    return circuit(inputs, outputs, gates, lambda i: i + 1)
 
 
 def worst():
@@ -75,9 +81,13 @@ def worst():
     return circuit(512, [("gate", 4095)], gates, lambda i: 2731 * i % 4096 + 1)
 
 
+def numbers_row(width, *values):
+    """The row of numbers, the first in the low bits."""
+    return sum(value << width * k for k, value in enumerate(values)).to_bytes(len(values) * width // 8, "little")
+
+
 def pair(width, low, high):
-    """The row of two numbers, the first in the low bits."""
-    return (low | high << width).to_bytes(width // 4, "little")
+    return numbers_row(width, low, high)
 
 
 def numbers(width):
@@ -97,18 +107,35 @@ def check_pairs(file, width, a_first):
             assert evaluate(file, row) == [int(a >= b), *bits(width, b)]
 
 
+def check_goods(enough, indate, both):
+    """Evaluates the circuits over stock, order, date and today; the joined one is the two side by side."""
+    for stock, order in [(1000, 250), (249, 250), (250, 250), (0, 65535), (65535, 0)]:
+        for date, today in [(20_045, 20_000), (19_999, 20_000), (20_000, 20_000)]:
+            row = numbers_row(16, stock, order, date, today)
+            covered = [int(stock >= order), *bits(16, order)]
+            fresh = [int(date >= today), *bits(16, today)]
+            assert evaluate(enough, row) == covered and evaluate(indate, row) == fresh
+            assert evaluate(both, row) == covered + fresh
+
+
 def main(folder):
     ones = bytes([255] * 64)
+    goods, spoiled = numbers_row(16, 1000, 250, 20_045, 20_000), numbers_row(16, 249, 250, 19_999, 20_000)
     table = {
         # name: the circuit, a row that it accepts, a row that it does not
-        "covers16": (at_least(16, 0, 16), pair(16, 1000, 250), pair(16, 250, 1000)),
-        "covers32": (at_least(32, 0, 32), pair(32, 3_000_000_000, 2_999_999_999), pair(32, 2_999_999_999, 3_000_000_000)),
-        "fresh": (at_least(16, 16, 0), pair(16, 20_000, 20_045), pair(16, 20_045, 20_000)),
+        "covers16": (at_least(32, 16, (0, 16)), pair(16, 1000, 250), pair(16, 250, 1000)),
+        "covers32": (at_least(64, 32, (0, 32)), pair(32, 3_000_000_000, 2_999_999_999), pair(32, 2_999_999_999, 3_000_000_000)),
+        "fresh": (at_least(32, 16, (16, 0)), pair(16, 20_000, 20_045), pair(16, 20_045, 20_000)),
+        # Over one row: stock, order, the row's date, today.
+        "enough": (at_least(64, 16, (0, 16)), goods, spoiled),
+        "indate": (at_least(64, 16, (32, 48)), goods, spoiled),
+        "both": (at_least(64, 16, (0, 16), (32, 48)), goods, spoiled),
         "worst": (worst(), ones, ones[:-1] + b"\x7f"),
     }
     check_pairs(table["covers16"][0], 16, True)
     check_pairs(table["covers32"][0], 32, True)
     check_pairs(table["fresh"][0], 16, False)
+    check_goods(*(table[name][0] for name in ("enough", "indate", "both")))
     for name, (file, row, failing) in table.items():
         assert evaluate(file, row)[0] == 1 and evaluate(file, failing)[0] == 0
         (folder / f"{name}.circuit").write_bytes(file)

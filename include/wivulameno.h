@@ -110,7 +110,9 @@ enum wv_answer {
     WV_REFUSED_GATE_KIND = 23,
     /* a text has more gates, inputs or outputs than allowed, or no input or no
        output */
-    WV_REFUSED_TEXT_LIMITS = 24
+    WV_REFUSED_TEXT_LIMITS = 24,
+    /* two circuits have different numbers of inputs; see wv_join */
+    WV_REFUSED_INPUT_COUNTS = 25
 };
 
 /*
@@ -268,6 +270,28 @@ uint32_t wv_upgrade(const uint8_t *old, size_t old_len,
  * For every other file it returns 0.
  */
 uint32_t wv_upgrade_slot(const uint8_t *old, size_t old_len);
+
+/*
+ * Joins two statements on one row: of two circuits with the same I makes one,
+ * which gives the first's outputs and then the second's. Writes its file to the
+ * start of out, and its length to written; the bytes of out beyond that length
+ * stay as they were. The file is 16 bytes shorter than the two together. A
+ * circuit may be joined with itself: both may be one buffer.
+ *
+ * With G1 for the first's gates, slots 1 to G1 are the first's, and the second's
+ * slot k is slot G1 + k. The second's links other than 0, its head among them,
+ * and its wires from I on go up by G1. The first's last link, or its head if it
+ * has no gates, leads where the second's head does. For every witness the outputs
+ * are those of both, and the AND gates are as many as both have.
+ *
+ * Refuses the first circuit as above, then the second one as above, then:
+ *   25  their numbers of inputs differ
+ *    2  together they have more than 256 outputs or more than 100000 gates
+ *    6  out is shorter than the circuit file
+ */
+uint32_t wv_join(const uint8_t *first, size_t first_len,
+                 const uint8_t *second, size_t second_len,
+                 uint8_t *out, size_t out_len, uint64_t *written);
 
 /*
  * A run of a circuit by n parties; n is 2, 4, 8 or 16, and A is the number of

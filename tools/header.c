@@ -329,6 +329,46 @@ static void texts(void)
     bristol_in("100000 3\n", 40, WV_REFUSED_TEXT);
 }
 
+/* K joined with itself, from one buffer into len bytes, or with a part of it. */
+static void join_in(size_t second_len, size_t len, uint32_t answer)
+{
+    static const uint8_t twice[56] = {
+        2, 0, 0, 0, 2, 0, 0, 0, 2, 0, 0, 0, 1, 0, 0, 0,
+        2, 0, 0, 0, 3, 0, 0, 0,
+        2, 0, 0, 0, 0, 0, 0, 0, 1, 0, 0, 0, 2, 0, 0, 0,
+        2, 0, 0, 0, 0, 0, 0, 0, 1, 0, 0, 0, 0, 0, 0, 0
+    };
+    uint8_t out[60];
+    uint64_t written = 77;
+    size_t expected_len = answer == WV_ACCEPTED ? sizeof twice : 0;
+    size_t place;
+
+    memset(out, 0xee, sizeof out);
+    equal("join", wv_join(k, sizeof k, k, second_len, out, len, &written),
+          answer);
+    equal("its length", (size_t)written,
+          answer == WV_ACCEPTED ? sizeof twice : 77);
+    equal("its circuit", (size_t)memcmp(out, twice, expected_len), 0);
+    for (place = expected_len; place < sizeof out; place++)
+        equal("behind its circuit", out[place], 0xee);
+}
+
+static void joined(void)
+{
+    static const uint8_t one_input[20] = {1, 0, 0, 0, 1};
+    uint8_t out[60];
+    uint64_t written;
+
+    join_in(sizeof k, 60, WV_ACCEPTED);
+    join_in(sizeof k, 56, WV_ACCEPTED);
+    join_in(sizeof k, 55, WV_REFUSED_LENGTH);
+    join_in(sizeof k - 1, 60, WV_REFUSED_CIRCUIT_LENGTH);
+    equal("join with one input",
+          wv_join(k, sizeof k, one_input, sizeof one_input, out, sizeof out,
+                  &written),
+          WV_REFUSED_INPUT_COUNTS);
+}
+
 int main(void)
 {
     char version[40];
@@ -355,5 +395,6 @@ int main(void)
     challenge_input();
     chains();
     texts();
+    joined();
     return failures == 0 ? 0 : 1;
 }

@@ -195,7 +195,7 @@ output-low s (suc n) j e l =
     (λ q. output-low s n j (and-true-left (goodOutputs s n) (ltb (outputWire s n) (inputsOf s + gatesOf s)) e) q)
     (eq-or-lt-of-le (le-of-suc-le-suc l))
 
-map-tabulate : {A : Type 0} {B : Type 0} (f : A → B) (n : ℕ) (g : ℕ → A) → map f (tabulate n g) ≡ tabulate n (λ i. f (g i))
+pub map-tabulate : {A : Type 0} {B : Type 0} (f : A → B) (n : ℕ) (g : ℕ → A) → map f (tabulate n g) ≡ tabulate n (λ i. f (g i))
 map-tabulate f zero g = refl
 map-tabulate f (suc n) g = ap (λ (l : List _). f (g 0) ∷ l) (map-tabulate f n (λ i. g (suc i)))
 

@@ -50,6 +50,8 @@ pub enum Refusal {
     GateKind,
     // 24: sizes beyond our limits.
     TextLimits,
+    // 25: the input counts differ.
+    InputCounts,
 }
 
 // The number that the documents give a refusal.
@@ -80,5 +82,6 @@ pub fn number(r: Refusal) -> u32
         Refusal::Text => 22,
         Refusal::GateKind => 23,
         Refusal::TextLimits => 24,
+        Refusal::InputCounts => 25,
     }
 }

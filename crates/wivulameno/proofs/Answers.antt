@@ -17,6 +17,8 @@ use Rattle.upgrade.specs.Answers as upgrading
 use Rattle.upgrade.specs.Upgrade.{upgradeOp}
 use Rattle.upgrade.specs.declared.Answer.the-variants as upgradeAnswer
 use Rattle.upgrade.proofs.Small.{told, slot-same}
+use Rattle.join.specs.Answers as joining
+use Rattle.join.specs.declared.Answer.the-variants as joinAnswer
 use Rattle.mpc.specs.Answers as mpc
 use Rattle.mpc.specs.declared.Answer.the-variants as mpcAnswer
 use Rattle.seeds.specs.Operations as seeds
@@ -104,6 +106,17 @@ convert-status lent (convertAnswer.Refused k) (convertAnswer.Written y) e = not-
 convert-status lent (convertAnswer.Refused k) (convertAnswer.Refused l) e =
     ap convertAnswer.Refused (numberOf-injective k l (ap (λ (p : ℕ × List ℕ). p .0) e))
 
+join-status : (lent : List ℕ) → Injective (λ a. reported lent (joining.paper a))
+unfolding status values
+join-status lent (joinAnswer.Written x) (joinAnswer.Written y) e =
+    let f : _≡_ {A = List ℕ} (x ∷ []) (y ∷ []) = ap (λ (p : ℕ × List ℕ). p .1) e in
+    let a : x ≡ y = cc in
+    ap joinAnswer.Written a
+join-status lent (joinAnswer.Written x) (joinAnswer.Refused k) e = not-zero k (ap (λ (p : ℕ × List ℕ). p .0) e)
+join-status lent (joinAnswer.Refused k) (joinAnswer.Written y) e = not-zero k (sym (ap (λ (p : ℕ × List ℕ). p .0) e))
+join-status lent (joinAnswer.Refused k) (joinAnswer.Refused l) e =
+    ap joinAnswer.Refused (numberOf-injective k l (ap (λ (p : ℕ × List ℕ). p .0) e))
+
 prove-status : (lent : List ℕ) → Injective (λ a. reported lent (proving.paper a))
 unfolding status values
 prove-status lent (proveAnswer.Written x) (proveAnswer.Written y) e =
@@ -132,7 +145,7 @@ shelf-status vs (shelfAnswer.Refused k) (shelfAnswer.Refused l) e = ap shelfAnsw
 -- the C functions say different things of different answers
 pub different-statuses : DifferentStatuses
 different-statuses =
-    record { read = read-status; evaluate = evaluate-status; convert = convert-status; upgrade = upgrade-status; upgrade-slot = upgrade-slot; run = run-status; derive = derive-status; prove = prove-status; check = check-status; shelf = shelf-status }
+    record { read = read-status; evaluate = evaluate-status; convert = convert-status; upgrade = upgrade-status; upgrade-slot = upgrade-slot; join = join-status; run = run-status; derive = derive-status; prove = prove-status; check = check-status; shelf = shelf-status }
 
 -- and so do the paper's terms
 pub different-answers : DifferentAnswers
@@ -143,6 +156,7 @@ different-answers =
       evaluate = before evaluatePaper status evaluate-status;
       convert = before bristol.paper (reported []) (convert-status []);
       upgrade = before upgrading.paper (readReported []) (upgrade-status []);
+      join = before joining.paper (reported []) (join-status []);
       run = before mpc.paper status run-status;
       derive = before seeds.paper status derive-status;
       prove = before proving.paper (reported []) (prove-status []);

@@ -22,6 +22,9 @@ use Rattle.upgrade.specs.Answers.{outcome as upgradeOutcome}
 use Rattle.upgrade.specs.declared.Answer.{Answer as UpgradeAnswer}
 use Rattle.upgrade.specs.declared.Answer.the-variants as upgradeAnswer
 use Rattle.upgrade.proofs.Small.{slot-small as upgrade-slot-small}
+use Rattle.join.specs.Answers.{outcome as joinOutcome}
+use Rattle.join.specs.declared.Answer.{Answer as JoinAnswer}
+use Rattle.join.specs.declared.Answer.the-variants as joinAnswer
 use Rattle.shelf.specs.Operations.{outcome as shelfOutcome}
 use Rattle.shelf.specs.declared.Answer.{Answer as ShelfAnswer}
 use Rattle.shelf.specs.declared.Answer.the-variants as shelfAnswer
@@ -210,6 +213,15 @@ convert-done o r k b lent e f = written-done (λ (x : ConvertAnswer). convertOut
 pub convert-refused : (o : Outcome) (r : ConvertAnswer) (k : Refusal) (n : ℕ) (b lent : List ℕ) → r ≡ convertAnswer.Refused k → convertOutcome r b ≡ o
     → n ≡ numberOf k → (n ≡ status (o .answer)) × ((lent ≡ values (o .answer) lent) × ((b ∷ []) ≡ o .left))
 convert-refused o r k n b lent e f h = written-refused (λ (x : ConvertAnswer). convertOutcome x b) o r (convertAnswer.Refused k) k n (b ∷ []) lent refl e f h
+
+-- a circuit file from two
+pub join-done : (o : Outcome) (r : JoinAnswer) (k : ℕ) (b lent : List ℕ) → r ≡ joinAnswer.Written k → joinOutcome r b ≡ o
+    → (_≡_ {A = ℕ} 0 (status (o .answer))) × (((k ∷ []) ≡ values (o .answer) lent) × ((b ∷ []) ≡ o .left))
+join-done o r k b lent e f = written-done (λ (x : JoinAnswer). joinOutcome x b) o r (joinAnswer.Written k) k (b ∷ []) lent refl e f
+
+pub join-refused : (o : Outcome) (r : JoinAnswer) (k : Refusal) (n : ℕ) (b lent : List ℕ) → r ≡ joinAnswer.Refused k → joinOutcome r b ≡ o
+    → n ≡ numberOf k → (n ≡ status (o .answer)) × ((lent ≡ values (o .answer) lent) × ((b ∷ []) ≡ o .left))
+join-refused o r k n b lent e f h = written-refused (λ (x : JoinAnswer). joinOutcome x b) o r (joinAnswer.Refused k) k n (b ∷ []) lent refl e f h
 
 -- a circuit file from one of the old form
 pub upgrade-done : (o : Outcome) (r : UpgradeAnswer) (k : ℕ) (b lent : List ℕ) → r ≡ upgradeAnswer.Written k → upgradeOutcome r b ≡ o

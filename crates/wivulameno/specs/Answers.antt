@@ -10,6 +10,7 @@ use Rattle.circuit.specs.Answers.{readPaper, evaluatePaper}
 use Rattle.bristol.specs.Answers as bristol
 use Rattle.upgrade.specs.Answers as upgrading
 use Rattle.upgrade.specs.Upgrade.{upgradeOp}
+use Rattle.join.specs.Answers as joining
 use Rattle.mpc.specs.Answers as mpc
 use Rattle.seeds.specs.Operations as seeds
 use Rattle.proving.specs.Answers as proving
@@ -21,14 +22,16 @@ use Rattle.wivulameno.specs.Interface.{status, values, slot}
 abbrev pub Injective : {A B : Type 0} → (A → B) → Type 0
 Injective {A} f = (a b : A) → f a ≡ f b → a ≡ b
 
--- the definitions that put each answer enum into the paper's terms: of the refusals; of read; of evaluate; of convert; of upgrade; of prepare,
--- run, show and replay; of expand, open, masters, cover and challenge; of prove; of check; of stock and draw, with the values of a success
+-- the definitions that put each answer enum into the paper's terms: of the refusals; of read; of evaluate; of convert; of upgrade; of join; of
+-- prepare, run, show and replay; of expand, open, masters, cover and challenge; of prove; of check; of stock and draw, with the values of a
+-- success
 pub record DifferentAnswers : Type 0 where
   pub refusals : Injective numberOf
   pub read : Injective readPaper
   pub evaluate : Injective evaluatePaper
   pub convert : Injective bristol.paper
   pub upgrade : Injective upgrading.paper
+  pub join : Injective joining.paper
   pub run : Injective mpc.paper
   pub derive : Injective seeds.paper
   pub prove : Injective proving.paper
@@ -51,6 +54,7 @@ pub record DifferentStatuses : Type 0 where
   pub upgrade : (lent : List ℕ) → Injective (λ a. readReported lent (upgrading.paper a))
   -- the slot of wv_upgrade_slot, which lends no output, is that of wv_upgrade
   pub upgrade-slot : (s out : List ℕ) → slot (upgradeOp s [] .answer) ≡ slot (upgradeOp s out .answer)
+  pub join : (lent : List ℕ) → Injective (λ a. reported lent (joining.paper a))
   pub run : Injective (λ a. status (mpc.paper a))
   pub derive : Injective (λ a. status (seeds.paper a))
   pub prove : (lent : List ℕ) → Injective (λ a. reported lent (proving.paper a))

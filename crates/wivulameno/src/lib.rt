@@ -7,6 +7,7 @@ ghost use lib.ListN.{length};
 ghost use Rattle.circuit.specs.Operations.{readOp, evaluateOp};
 ghost use Rattle.bristol.specs.Operations.{convertOp};
 ghost use Rattle.upgrade.specs.Upgrade.{upgradeOp};
+ghost use Rattle.join.specs.Join.{joinOp};
 ghost use Rattle.mpc.specs.Operations.{prepareOp, runOp, showOp, replayOp};
 ghost use Rattle.proof.specs.Prove.{proveOp};
 ghost use Rattle.proof.specs.Check.{checkOp};
@@ -114,6 +115,26 @@ pub extern "C" fn wv_upgrade_slot(old: &[u8]) -> u32
     match a {
         upgrade::Answer::Written(_) => 0,
         upgrade::Answer::Refused(_, at) => at as u32,
+    }
+}
+
+// Joins two circuits with the same inputs: the joined file's length, or the refusal. The two may be the same file.
+#[no_mangle]
+pub extern "C" fn wv_join(
+    first: &[u8],
+    second: &[u8],
+    out: &mut [u8],
+    written: &mut [u64; 1],
+) -> u32
+    ensures { λ r. ⌜ (r ≡ status (joinOp (now (first .entry)) (now (second .entry)) (now (out .entry)) .answer)) × ((now (written .exit) ≡ values (joinOp (now (first .entry)) (now (second .entry)) (now (out .entry)) .answer) (now (written .entry))) × (now (out .exit) ∷ [] ≡ joinOp (now (first .entry)) (now (second .entry)) (now (out .entry)) .left)) ⌝ }
+{
+    let a = join::join(first, second, out);
+    match a {
+        join::Answer::Written(k) => {
+            *written = [k as u64];
+            0
+        }
+        join::Answer::Refused(k) => refusal::number(k),
     }
 }
 

@@ -1,5 +1,6 @@
 //! Speed of the library, the second implementation and OpenSSL.
 
+mod building;
 mod hash_calls;
 mod hashing;
 mod mpc;
@@ -18,6 +19,8 @@ fn main() {
 
     let [gates, groups] = [texts::of_gates(), texts::of_groups()];
     texts::table(&[("4096 gates", &gates), ("groups", &groups)]).print();
+
+    building::table(&building::Circuits::new()).print();
 
     let instance = mpc::Instance::worst();
     mpc::gates_table(&instance).print();

@@ -87,27 +87,40 @@ pub(crate) fn legal(file: &[u8]) -> Result<Circuit, Refusal> {
     reading(file).map_err(|fault| fault.number)
 }
 
+/// The fields of a file that is legal.
+pub(crate) fn legal_fields(file: &[u8]) -> Result<Fields, Refusal> {
+    let fields = fields(file)?;
+    match fields.circuit() {
+        Ok(_) => Ok(fields),
+        Err(fault) => Err(fault.number),
+    }
+}
+
 /// The circuit of a file. Each test is made over the whole file before the next.
 fn reading(file: &[u8]) -> Result<Circuit, Fault> {
+    fields(file)?.circuit()
+}
+
+/// The fields of a file whose length is what its header asks for: refusals 1 and 2.
+fn fields(file: &[u8]) -> Result<Fields, Refusal> {
     if file.len() < 16 {
-        return Err(1.into());
+        return Err(1);
     }
     let [inputs, outputs, gates, head] = [0, 4, 8, 12].map(|place| u32_at(file, place));
     let few = inputs <= MOST_INPUTS && outputs <= MOST_OUTPUTS && gates <= MOST_GATES;
     if !few || inputs == 0 || outputs == 0 {
-        return Err(2.into());
+        return Err(2);
     }
     if file.len() != 16 + 4 * outputs + 16 * gates {
-        return Err(1.into());
+        return Err(1);
     }
     let (outputs, records) = file[16..].split_at(4 * outputs);
-    let fields = Fields {
+    Ok(Fields {
         inputs,
         outputs: outputs.chunks(4).map(|wire| u32_at(wire, 0)).collect(),
         head,
         records: records.chunks(16).map(Record::of).collect(),
-    };
-    fields.circuit()
+    })
 }
 
 impl Fields {

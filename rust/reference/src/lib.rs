@@ -9,6 +9,7 @@ pub mod circuit;
 #[cfg(test)]
 mod examples;
 pub mod fips202;
+pub mod join;
 pub mod masters;
 pub mod mpc;
 pub mod old;

@@ -209,6 +209,13 @@ impl Setting {
         }
     }
 
+    /// Any witness and any tapes for a legal circuit.
+    pub fn of_circuit(random: &mut Random, circuit: &[u8], n: u32) -> Setting {
+        let file = File::of(circuit);
+        let slots = file.chain();
+        Setting::of(random, file, slots, n)
+    }
+
     /// Any circuit of these sizes: I, O and G.
     pub fn of_sizes(random: &mut Random, sizes: [usize; 3], n: u32) -> Setting {
         let slots = any_slots(random, sizes[2]);

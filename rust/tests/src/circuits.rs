@@ -100,6 +100,38 @@ impl File {
         fields
     }
 
+    /// The file with these bytes, which must be legal.
+    pub fn of(bytes: &[u8]) -> File {
+        let fields = bytes
+            .chunks(4)
+            .map(|field| field.try_into().expect("a field"));
+        let fields: Vec<u32> = fields.map(u32::from_le_bytes).collect();
+        let (outputs, gates) = fields[4..].split_at(fields[1] as usize);
+        let gate = |gate: &[u32]| Gate {
+            kind: gate[0],
+            a: gate[1],
+            b: gate[2],
+            next: gate[3],
+        };
+        File {
+            counts: [fields[0], fields[1], fields[2]],
+            head: fields[3],
+            outputs: outputs.to_vec(),
+            gates: gates.chunks(4).map(gate).collect(),
+        }
+    }
+
+    /// The slots that the chain visits, in their order.
+    pub fn chain(&self) -> Vec<usize> {
+        let mut slots = vec![];
+        let mut link = self.head as usize;
+        while link != 0 {
+            slots.push(link);
+            link = self.gates[link - 1].next as usize;
+        }
+        slots
+    }
+
     /// Sets head and links so that the chain visits `slots`.
     pub fn link(&mut self, slots: &[usize]) {
         let mut next = 0;
@@ -439,6 +471,13 @@ mod tests {
         assert_eq!(file.bytes(), K);
         let old = [2, 0, 1, 0, 1, 0, 1, 0, 2, 0, 2, 0, 0, 0, 1, 0, 0, 0];
         assert_eq!(file.old_bytes(), old);
+    }
+
+    #[test]
+    fn a_file_of_its_bytes() {
+        let file = File::of(&FIVE);
+        assert_eq!(file.bytes(), FIVE);
+        assert_eq!(file.chain(), [3, 1, 4, 2, 5]);
     }
 
     #[test]

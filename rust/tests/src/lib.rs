@@ -2,6 +2,7 @@
 //! files, pages and calls to try.
 
 pub mod bristol;
+pub mod builders;
 pub mod calls;
 pub mod challenges;
 pub mod circuits;
@@ -12,6 +13,7 @@ pub mod old;
 pub mod outcomes;
 pub mod paged;
 pub mod pages;
+pub mod partners;
 pub mod proofs;
 pub mod random;
 pub mod specs;

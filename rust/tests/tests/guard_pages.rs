@@ -188,6 +188,50 @@ fn upgrade(random: &mut Random, old: &[u8]) -> Result<(), u32> {
     answer
 }
 
+/// Two circuits of which one may be damaged.
+#[test]
+fn joined_circuits() {
+    let mut random = Random::new(0x6a9);
+    let mut outcomes = Outcomes::default();
+    for _ in 0..BUDGET {
+        let inputs = any_sizes(&mut random)[0];
+        let [first, second] = [(); 2].map(|()| {
+            let mut sizes = any_sizes(&mut random);
+            if !random.once_in(12) {
+                sizes[0] = inputs;
+            }
+            let slots = any_slots(&mut random, sizes[2]);
+            let file = legal(&mut random, sizes, &slots);
+            match random.below(4) {
+                0 => damaged(&mut random, &file, &slots),
+                _ => file.bytes(),
+            }
+        });
+        outcomes.add_answer(&join(&mut random, &first, &second));
+    }
+    outcomes.expect(&[0, 1, 2, 3, 5, 6, 19, 20, 21, 25], 5);
+}
+
+fn join(random: &mut Random, first: &[u8], second: &[u8]) -> Result<(), u32> {
+    let len = near(random, (first.len() + second.len()).saturating_sub(16));
+    let out = random.bytes(len);
+    let before = random.word();
+    let outputs = [out.clone(), before.to_ne_bytes().to_vec()];
+    let (answer, filled) = lend(random, &[first, second], &outputs, |inputs, out| {
+        let [out, written] = out.try_into().unwrap_or_else(|_| panic!("two outputs"));
+        let written: *mut u64 = written.as_mut_ptr().cast();
+        assert!(written.is_aligned());
+        // SAFETY: these are 8 bytes, and aligned.
+        circuit::join_into(inputs[0], inputs[1], out, unsafe { &mut *written })
+    });
+    let mut expected = out;
+    let second = reference::join::join(first, second, &mut expected);
+    assert_eq!(answer, second.map(|_| ()));
+    let written = second.map_or(before, |len| len as u64);
+    assert!(filled == [expected, written.to_ne_bytes().to_vec()]);
+    answer
+}
+
 #[test]
 fn shelves() {
     let mut random = Random::new(0x6a3);
@@ -409,6 +453,14 @@ fn empty_buffers_are_not_touched() {
             circuit::upgrade(inputs[0], out[0]).map(|_| ())
         });
         assert_eq!(answer, Err(1));
+        let (answer, _) = lend(&mut random, &[&[], &[]], &[vec![]], |inputs, mut out| {
+            circuit::join(inputs[0], inputs[1], out[0]).map(|_| ())
+        });
+        assert_eq!(answer, Err(1));
+        let (answer, _) = lend(&mut random, &[&K, &K], &[vec![]], |inputs, mut out| {
+            circuit::join(inputs[0], inputs[1], out[0]).map(|_| ())
+        });
+        assert_eq!(answer, Err(6));
         let (answer, _) = lend(&mut random, &[&[]], &[vec![]], |inputs, mut out| {
             shelf::stock(out[0], inputs[0])
         });

@@ -165,6 +165,21 @@ fn circuits() {
     });
 }
 
+/// The largest circuit without its last output, joined with one output.
+#[test]
+fn joined_circuits() {
+    let mut random = Random::new(0x57e);
+    let largest = Setting::of_sizes(&mut random, [512, 255, 100_000], 16);
+    let one = Setting::of_sizes(&mut random, [512, 1, 0], 16);
+    let mut file = vec![0; 1_601_040];
+    for (first, second) in [(&largest, &one), (&one, &largest)] {
+        takes("join", || {
+            let answer = circuit::join(&first.circuit, &second.circuit, &mut file);
+            assert_eq!(answer, Ok(1_601_040));
+        });
+    }
+}
+
 /// The largest text, as long as its groups make it.
 #[test]
 fn texts() {

@@ -1,8 +1,13 @@
 //! Circuit files. `include/wivulameno.h` has their layout, and that of the texts
-//! and of the old files that can be converted to one.
+//! and of the old files that can be converted to one, and says how circuits are built
+//! of others.
 //!
 //! Every function that is lent a circuit, but [`fault_slot`], refuses it with 1, 2, 3,
 //! 19, 20, 21 or 5.
+
+mod building;
+
+pub use building::{join, join_into, join_to_vec};
 
 use crate::limits::{MAX_CIRCUIT, MAX_GATES, MAX_INPUTS, MAX_OUTPUTS};
 use crate::proof::oct;

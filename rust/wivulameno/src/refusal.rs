@@ -56,11 +56,13 @@ pub enum Refusal {
     /// A text has more gates, inputs or outputs than allowed, or no input or no
     /// output.
     TextLimits = 24,
+    /// The two circuits have different numbers of inputs.
+    InputCounts = 25,
 }
 
 impl Refusal {
     /// All of them, by their numbers. There is no 4.
-    pub const ALL: [Refusal; 23] = [
+    pub const ALL: [Refusal; 24] = [
         Refusal::CircuitLength,
         Refusal::CircuitSizes,
         Refusal::Gate,
@@ -84,6 +86,7 @@ impl Refusal {
         Refusal::Text,
         Refusal::GateKind,
         Refusal::TextLimits,
+        Refusal::InputCounts,
     ];
 
     /// The number in the C interface.
@@ -148,6 +151,7 @@ impl Refusal {
             Refusal::TextLimits => {
                 "the text has more gates, inputs or outputs than allowed, or no input or no output"
             }
+            Refusal::InputCounts => "the two circuits have different numbers of inputs",
         }
     }
 }
@@ -167,13 +171,13 @@ mod tests {
 
     #[test]
     fn numbers_go_both_ways() {
-        let numbers = (1..=3).chain(5..=24);
+        let numbers = (1..=3).chain(5..=25);
         let found = Refusal::ALL.map(Refusal::number);
         assert_eq!(found.to_vec(), numbers.collect::<Vec<_>>());
         for refusal in Refusal::ALL {
             assert_eq!(Refusal::from_number(refusal.number()), Some(refusal));
         }
-        for number in [0, 4, 25, u32::MAX] {
+        for number in [0, 4, 26, u32::MAX] {
             assert_eq!(Refusal::from_number(number), None);
         }
     }
@@ -190,7 +194,7 @@ mod tests {
     #[test]
     fn each_has_a_sentence_of_its_own() {
         let sentences: HashSet<_> = Refusal::ALL.map(Refusal::sentence).into();
-        assert_eq!(sentences.len(), 23);
+        assert_eq!(sentences.len(), 24);
         assert!(sentences.iter().all(|text| !text.ends_with('.')));
     }
 

@@ -65,6 +65,10 @@ fn the_examples_work() {
     folder.write("and.txt", b"1 3\n2 1 1\n1 1\n\n2 1 0 1 2 AND\n");
     let old_k = [2, 0, 1, 0, 1, 0, 1, 0, 2, 0, 2, 0, 0, 0, 1, 0, 0, 0];
     folder.write("old.circuit", &old_k);
+    let enough = include_bytes!("../../../examples/enough.circuit");
+    let indate = include_bytes!("../../../examples/indate.circuit");
+    folder.write("enough.circuit", enough);
+    folder.write("indate.circuit", indate);
     for command in wv::commands::ALL {
         let line = command.example.replace("/var/lib/depot/", "");
         let ended = folder.sh(&line);

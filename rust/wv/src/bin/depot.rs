@@ -1,5 +1,6 @@
-//! The main job on an example, from the new shelf to the refused old page:
-//! `depot FOLDER` makes its files in that folder, which is emptied first.
+//! The main job on an example, from the new shelf to the refused old page, and two
+//! statements in one proof: `depot FOLDER` makes its files in that folder, which is
+//! emptied first.
 
 use std::error::Error;
 use std::fs;
@@ -17,6 +18,14 @@ const STOCK: u64 = 1000;
 const ORDER: u64 = 250;
 const SLOTS: u16 = 8;
 const ROOTS: usize = 4;
+
+/// Two circuits over one row, which has a stock, an order, the row's date and today.
+const ENOUGH: &[u8] = include_bytes!("../../../../examples/enough.circuit");
+const INDATE: &[u8] = include_bytes!("../../../../examples/indate.circuit");
+const GOODS: &[u8] = include_bytes!("../../../../examples/both.row");
+
+/// 1 and the order, 250, in 17 bits; then 1 and today, 20,000, in 17 bits.
+const BOTH: [u8; 5] = [0xf5, 0x01, 0x82, 0x38, 0x01];
 
 fn main() -> ExitCode {
     let Some(folder) = std::env::args_os().nth(1) else {
@@ -42,8 +51,11 @@ fn play(folder: &Path) -> Done {
     let mut shelf = stocked(&files)?;
     let before = fs::read(&files[0])?;
     let root = drawn(&mut shelf)?;
+    proof::prove_and_check(folder, "order.proof", &statement, &root)?;
+    let both = joined(folder)?;
+    let root = drawn(&mut shelf)?;
     drop(shelf);
-    proof::prove_and_check(folder, &statement, &root)?;
+    proof::prove_and_check(folder, "both.proof", &both, &root)?;
     incident(&files, &before)
 }
 
@@ -56,30 +68,48 @@ struct Example {
 
 fn example(folder: &Path) -> Done<Example> {
     println!("The statement: the stock on hand covers an order of {ORDER}.");
-    let circuit = at_least(WIDTH, true);
     let path = folder.join("covers16.circuit");
-    fs::write(&path, &circuit)?;
-    let sizes = circuit::sizes(&circuit)?;
-    println!(
-        "  {}: {} bytes, I {}, O {}, G {}, of them {} AND",
-        path.display(),
-        circuit.len(),
-        sizes.inputs,
-        sizes.outputs,
-        sizes.gates,
-        sizes.ands
-    );
     let witness = row(WIDTH, STOCK, ORDER);
-    let mut y = vec![0; sizes.y_len()];
-    circuit::evaluate(&circuit, &witness, &mut y)?;
-    assert_eq!(y, covered(WIDTH, ORDER));
+    let example = Example::of(&path, at_least(WIDTH, true), witness)?;
+    assert_eq!(example.y, covered(WIDTH, ORDER));
     println!("  the row has {STOCK} on hand, which stays in the depot");
     println!("  the output tells that the order is covered, and the order\n");
-    Ok(Example {
-        circuit,
-        witness,
-        y,
-    })
+    Ok(example)
+}
+
+/// Both statements of one row: enough stock, and not past its date.
+fn joined(folder: &Path) -> Done<Example> {
+    println!("Two statements on one row, joined: enough stock, and not past its date.");
+    let circuit = circuit::join_to_vec(ENOUGH, INDATE)?;
+    let both = Example::of(&folder.join("both.circuit"), circuit, GOODS.to_vec())?;
+    assert_eq!(both.y, BOTH);
+    println!("  the output tells that both are so, the order, and today");
+    println!("  stock and date stay in the depot\n");
+    Ok(both)
+}
+
+impl Example {
+    /// Writes the circuit, and takes the output of the row for what is claimed.
+    fn of(path: &Path, circuit: Vec<u8>, witness: Vec<u8>) -> Done<Example> {
+        fs::write(path, &circuit)?;
+        let sizes = circuit::sizes(&circuit)?;
+        println!(
+            "  {}: {} bytes, I {}, O {}, G {}, of them {} AND",
+            path.display(),
+            circuit.len(),
+            sizes.inputs,
+            sizes.outputs,
+            sizes.gates,
+            sizes.ands
+        );
+        let mut y = vec![0; sizes.y_len()];
+        circuit::evaluate(&circuit, &witness, &mut y)?;
+        Ok(Example {
+            circuit,
+            witness,
+            y,
+        })
+    }
 }
 
 fn stocked([page, log]: &[PathBuf; 2]) -> Done<Shelf> {
@@ -111,9 +141,9 @@ fn drawn(shelf: &mut Shelf) -> Done<[u8; 16]> {
     Ok(root)
 }
 
-/// The cache keeps the page from before the draw, and puts it back.
+/// The cache keeps the page from before the draws, and puts it back.
 fn incident([page, log]: &[PathBuf; 2], before: &[u8]) -> Done {
-    println!("The incident: the page from before the draw is put back.");
+    println!("The incident: the page from before the draws is put back.");
     fs::write(page, before)?;
     let mut shelf = Shelf::open(page, log)?;
     tell(&mut shelf)?;
@@ -141,7 +171,7 @@ mod proof {
 
     const MESSAGE: &[u8] = b"order 4711 of 15 November";
 
-    pub fn prove_and_check(folder: &Path, example: &Example, root: &[u8; 16]) -> Done {
+    pub fn prove_and_check(folder: &Path, name: &str, example: &Example, root: &[u8; 16]) -> Done {
         let statement = Statement {
             circuit: &example.circuit,
             y: &example.y,
@@ -162,7 +192,7 @@ mod proof {
         )?;
         println!("  made in {}", milliseconds(start));
         proof.truncate(len);
-        let path = folder.join("order.proof");
+        let path = folder.join(name);
         fs::write(&path, &proof)?;
         println!("  {}: {len} bytes", path.display());
         println!("  soundness {} bits\n", bits_shown(USUAL));

@@ -6,6 +6,7 @@ mod check;
 mod circuit;
 mod convert;
 mod files;
+mod join;
 mod prove;
 mod shelf;
 mod upgrade;
@@ -42,6 +43,7 @@ pub const ALL: &[Command] = &[
     circuit::EVALUATE,
     convert::CONVERT,
     upgrade::UPGRADE,
+    join::JOIN,
     shelf::NEW,
     shelf::STOCK,
     shelf::STATUS,

@@ -1,0 +1,10 @@
+pub mod Moved
+pub mod Outcomes
+pub mod Writes
+pub mod Joined
+pub mod Evaluates
+pub mod Inside
+pub mod Small
+pub mod Wires
+pub mod Chained
+pub mod Places

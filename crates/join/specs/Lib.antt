@@ -1,0 +1,4 @@
+pub mod Answers
+pub mod Join
+pub mod Steps
+pub mod Theorem

@@ -1,0 +1,75 @@
+//! Circuits that are built of others.
+
+use crate::price;
+use crate::rows::{call, megabytes_per_second, Call, Row, Table};
+use std::hint::black_box;
+
+const ROUNDS: usize = 40;
+
+/// The gates of the circuit of a price that is joined with itself.
+const GATES: usize = 45_000;
+
+/// Room for every circuit.
+const ROOM: usize = wivulameno::limits::MAX_CIRCUIT;
+
+/// What the builders work on.
+pub struct Circuits {
+    price: Vec<u8>,
+}
+
+impl Circuits {
+    pub fn new() -> Circuits {
+        Circuits {
+            price: price::circuit(GATES),
+        }
+    }
+}
+
+/// A builder that writes a file into a buffer with room for it.
+fn built<'a>(build: impl Fn(&mut [u8]) -> usize + 'a) -> Call<'a> {
+    call(ROOM, move |out| {
+        black_box(build(out));
+    })
+}
+
+pub fn table(circuits: &Circuits) -> Table<'_> {
+    Table {
+        title: "MB/s of circuit file built; B is a byte, MB a million".into(),
+        rounds: ROUNDS,
+        told: megabytes_per_second,
+        rows: vec![join(&circuits.price)],
+    }
+}
+
+fn join(price: &[u8]) -> Row<'_> {
+    let ours = move |out: &mut [u8]| {
+        wivulameno::circuit::join(black_box(price), price, out).expect("no refusal")
+    };
+    let second = move |out: &mut [u8]| {
+        reference::join::join(black_box(price), price, out).expect("no refusal")
+    };
+    let len = ours(&mut vec![0; ROOM]);
+    Row {
+        name: format!("join two of {GATES} gates, {len} B"),
+        amount: len,
+        batch: 1,
+        calls: [Some(built(ours)), Some(built(second)), None],
+    }
+}
+
+#[cfg(test)]
+mod tests {
+    use super::*;
+
+    /// The sizes that the rows say.
+    #[test]
+    fn what_is_joined() {
+        let circuits = Circuits::new();
+        let mut out = vec![0; ROOM];
+        let len = reference::join::join(&circuits.price, &circuits.price, &mut out);
+        let len = len.expect("no refusal");
+        assert_eq!(len, 2 * circuits.price.len() - 16);
+        let sizes = reference::circuit::read(&out[..len]).expect("a circuit");
+        assert_eq!([sizes.outputs, sizes.gates], [64, 2 * GATES]);
+    }
+}
