@@ -59,7 +59,10 @@ extern "C" {
 #define WV_VERSION_PATCH 0
 #define WV_VERSION "0.1.0"
 
-/* What a function returns. A number means the same in all; there is no 4. */
+/*
+ * What a function returns. A number means the same in all; there is no 4, and
+ * none from 26 to 28.
+ */
 enum wv_answer {
     /* done; from wv_check: the proof is accepted */
     WV_ACCEPTED = 0,
@@ -112,7 +115,9 @@ enum wv_answer {
        output */
     WV_REFUSED_TEXT_LIMITS = 24,
     /* two circuits have different numbers of inputs; see wv_join */
-    WV_REFUSED_INPUT_COUNTS = 25
+    WV_REFUSED_INPUT_COUNTS = 25,
+    /* the sizes are not those of a small circuit; see wv_small */
+    WV_REFUSED_SMALL_SIZES = 29
 };
 
 /*
@@ -123,6 +128,9 @@ enum wv_answer {
 #define WV_MAX_OUTPUTS 256       /* 1 to 256 outputs */
 #define WV_MAX_GATES 100000      /* and 0 to 100000 gates */
 #define WV_MAX_CIRCUIT 1601040   /* the longest circuit */
+#define WV_MAX_SMALL_INPUTS 2    /* wv_small lists circuits of 1 or 2 inputs */
+#define WV_MAX_SMALL_GATES 2     /* and of 0 to 2 gates, */
+#define WV_MAX_SMALL_CIRCUIT 52  /* of which this is the longest */
 #define WV_MAX_WORK 6436864      /* a work buffer for every circuit */
 #define WV_MAX_STACK 98304       /* no call takes more of the stack */
 #define WV_MAX_PARTIES 16        /* there are 2, 4, 8 or 16 parties */
@@ -292,6 +300,27 @@ uint32_t wv_upgrade_slot(const uint8_t *old, size_t old_len);
 uint32_t wv_join(const uint8_t *first, size_t first_len,
                  const uint8_t *second, size_t second_len,
                  uint8_t *out, size_t out_len, uint64_t *written);
+
+/*
+ * Every small circuit in turn, for a test bench. The legal circuit files with
+ * these I, O and G, where I is 1 or 2, O is 1 and G is 0, 1 or 2, come in
+ * ascending order, compared byte by byte from the first, each exactly once, from
+ * place 0 on. Writes the file at the place to the start of out, and its length to
+ * written; the bytes of out beyond that length stay as they were.
+ * WV_MAX_SMALL_CIRCUIT bytes are room for each. At every place after the last one
+ * returns 0, writes 0 to written, and leaves out as it was: the last has passed.
+ *
+ *        G = 0  G = 1  G = 2
+ *   I = 1    1      6    180
+ *   I = 2    2     30   1680
+ *
+ * Refuses in this order:
+ *   29  I, O or G is another one
+ *    6  there is a file at the place, and out is shorter
+ */
+uint32_t wv_small(uint32_t inputs, uint32_t outputs, uint32_t gates,
+                  uint64_t place,
+                  uint8_t *out, size_t out_len, uint64_t *written);
 
 /*
  * A run of a circuit by n parties; n is 2, 4, 8 or 16, and A is the number of

@@ -369,6 +369,46 @@ static void joined(void)
           WV_REFUSED_INPUT_COUNTS);
 }
 
+/* What is at a place of the six with one input and one gate, in len bytes. */
+static void small_in(uint64_t place, size_t len, uint32_t answer,
+                     size_t expected_len)
+{
+    uint8_t out[WV_MAX_SMALL_CIRCUIT];
+    uint64_t written = 77;
+    size_t byte;
+
+    memset(out, 0xee, sizeof out);
+    equal("small", wv_small(1, 1, 1, place, out, len, &written), answer);
+    equal("its length", (size_t)written,
+          answer == WV_ACCEPTED ? expected_len : 77);
+    if (expected_len != 0)
+        equal("its kind", out[20], (size_t)place % 3 + 1);
+    for (byte = expected_len; byte < sizeof out; byte++)
+        equal("behind its circuit", out[byte], 0xee);
+}
+
+static void small_circuits(void)
+{
+    uint8_t out[WV_MAX_SMALL_CIRCUIT];
+    uint64_t written, place;
+
+    for (place = 0; place < 6; place++)
+        small_in(place, 36, WV_ACCEPTED, 36);
+    small_in(5, 35, WV_REFUSED_LENGTH, 0);
+    small_in(6, 36, WV_ACCEPTED, 0);
+    small_in(6, 0, WV_ACCEPTED, 0);
+    small_in(UINT64_MAX, 0, WV_ACCEPTED, 0);
+    equal("the longest", 16 + 4 + 16 * WV_MAX_SMALL_GATES, WV_MAX_SMALL_CIRCUIT);
+    equal("three inputs",
+          wv_small(WV_MAX_SMALL_INPUTS + 1, 1, 1, 0, out, sizeof out, &written),
+          WV_REFUSED_SMALL_SIZES);
+    equal("two outputs", wv_small(1, 2, 1, 0, out, sizeof out, &written),
+          WV_REFUSED_SMALL_SIZES);
+    equal("three gates",
+          wv_small(1, 1, WV_MAX_SMALL_GATES + 1, 0, out, sizeof out, &written),
+          WV_REFUSED_SMALL_SIZES);
+}
+
 int main(void)
 {
     char version[40];
@@ -396,5 +436,6 @@ int main(void)
     chains();
     texts();
     joined();
+    small_circuits();
     return failures == 0 ? 0 : 1;
 }

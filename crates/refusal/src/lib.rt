@@ -18,7 +18,7 @@ pub enum Refusal {
     UnusedBits,
     // 8: n; M, τ, n (a number beyond its limits).
     Parameter,
-    // 9: p at or above n or a cut above G.
+    // 9: p at or above n or a cut above G; an empty hidden set, or a leaf at or above M.
     Index,
     // 10: the output differs from y; the witness does not give y.
     Output,
@@ -52,6 +52,8 @@ pub enum Refusal {
     TextLimits,
     // 25: the input counts differ.
     InputCounts,
+    // 29: a size beyond these (small circuits: I of 1 or 2, O = 1 and G up to 2).
+    SmallSizes,
 }
 
 // The number that the documents give a refusal.
@@ -83,5 +85,6 @@ pub fn number(r: Refusal) -> u32
         Refusal::GateKind => 23,
         Refusal::TextLimits => 24,
         Refusal::InputCounts => 25,
+        Refusal::SmallSizes => 29,
     }
 }

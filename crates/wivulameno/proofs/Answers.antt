@@ -30,6 +30,7 @@ use Rattle.checking.specs.declared.Answer.the-variants as checkAnswer
 use Rattle.shelf.specs.Operations.{paper as shelfPaper}
 use Rattle.shelf.specs.declared.Answer.the-variants as shelfAnswer
 use Rattle.wivulameno.specs.Interface.{status, values, slot}
+use Rattle.wivulameno.proofs.SmallStatuses.{small-paper}
 use Rattle.wivulameno.specs.Answers.{Injective, DifferentAnswers, reported, readReported, DifferentStatuses}
 
 -- what is different after another step was different before it
@@ -157,6 +158,7 @@ different-answers =
       convert = before bristol.paper (reported []) (convert-status []);
       upgrade = before upgrading.paper (readReported []) (upgrade-status []);
       join = before joining.paper (reported []) (join-status []);
+      small = small-paper;
       run = before mpc.paper status run-status;
       derive = before seeds.paper status derive-status;
       prove = before proving.paper (reported []) (prove-status []);

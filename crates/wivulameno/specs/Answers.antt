@@ -11,6 +11,7 @@ use Rattle.bristol.specs.Answers as bristol
 use Rattle.upgrade.specs.Answers as upgrading
 use Rattle.upgrade.specs.Upgrade.{upgradeOp}
 use Rattle.join.specs.Answers as joining
+use Rattle.small.specs.Answers as small
 use Rattle.mpc.specs.Answers as mpc
 use Rattle.seeds.specs.Operations as seeds
 use Rattle.proving.specs.Answers as proving
@@ -22,9 +23,9 @@ use Rattle.wivulameno.specs.Interface.{status, values, slot}
 abbrev pub Injective : {A B : Type 0} → (A → B) → Type 0
 Injective {A} f = (a b : A) → f a ≡ f b → a ≡ b
 
--- the definitions that put each answer enum into the paper's terms: of the refusals; of read; of evaluate; of convert; of upgrade; of join; of
--- prepare, run, show and replay; of expand, open, masters, cover and challenge; of prove; of check; of stock and draw, with the values of a
--- success
+-- the definitions that put each answer enum into the paper's terms: of the refusals; of read; of evaluate; of convert; of upgrade; of join;
+-- of small; of prepare, run, show and replay; of expand, open, masters, cover and challenge; of prove; of check; of stock and draw, with the
+-- values of a success
 pub record DifferentAnswers : Type 0 where
   pub refusals : Injective numberOf
   pub read : Injective readPaper
@@ -32,6 +33,7 @@ pub record DifferentAnswers : Type 0 where
   pub convert : Injective bristol.paper
   pub upgrade : Injective upgrading.paper
   pub join : Injective joining.paper
+  pub small : Injective small.paper
   pub run : Injective mpc.paper
   pub derive : Injective seeds.paper
   pub prove : Injective proving.paper

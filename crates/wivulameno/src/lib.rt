@@ -8,12 +8,13 @@ ghost use Rattle.circuit.specs.Operations.{readOp, evaluateOp};
 ghost use Rattle.bristol.specs.Operations.{convertOp};
 ghost use Rattle.upgrade.specs.Upgrade.{upgradeOp};
 ghost use Rattle.join.specs.Join.{joinOp};
+ghost use Rattle.small.specs.Small.{smallOp};
 ghost use Rattle.mpc.specs.Operations.{prepareOp, runOp, showOp, replayOp};
 ghost use Rattle.proof.specs.Prove.{proveOp};
 ghost use Rattle.proof.specs.Check.{checkOp};
 ghost use Rattle.shelf.specs.Operations.{stockOp, drawOp};
 ghost use Rattle.seeds.specs.Operations.{expandOp, openOp, mastersOp, coverOp, challengeOp};
-ghost use Rattle.wivulameno.specs.Interface.{status, values, slot};
+ghost use Rattle.wivulameno.specs.Interface.{status, values, slot, lengthTold};
 ghost use Rattle.keccak.specs.Sponge.{«sha3-256», «shake128», «shake256»};
 
 // SHA3-256 of the data, into 32 lent bytes.
@@ -135,6 +136,32 @@ pub extern "C" fn wv_join(
             0
         }
         join::Answer::Refused(k) => refusal::number(k),
+    }
+}
+
+// The small circuit at a place: its file's length, 0 where the last has passed, or the refusal.
+#[no_mangle]
+pub extern "C" fn wv_small(
+    inputs: u32,
+    outputs: u32,
+    gates: u32,
+    place: u64,
+    out: &mut [u8],
+    written: &mut [u64; 1],
+) -> u32
+    ensures { λ r. ⌜ (r ≡ status (smallOp inputs outputs gates place (now (out .entry)) .answer)) × ((now (written .exit) ≡ lengthTold (smallOp inputs outputs gates place (now (out .entry)) .answer) (now (written .entry))) × (now (out .exit) ∷ [] ≡ smallOp inputs outputs gates place (now (out .entry)) .left)) ⌝ }
+{
+    let a = small::small(inputs, outputs, gates, place, out);
+    match a {
+        small::Answer::Written(k) => {
+            *written = [k as u64];
+            0
+        }
+        small::Answer::Passed => {
+            *written = [0];
+            0
+        }
+        small::Answer::Refused(k) => refusal::number(k),
     }
 }
 

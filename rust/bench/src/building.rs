@@ -1,10 +1,12 @@
-//! Circuits that are built of others.
+//! Circuits that are built of others, and small ones by their place.
 
 use crate::price;
 use crate::rows::{call, megabytes_per_second, Call, Row, Table};
+use reference::small::Small;
 use std::hint::black_box;
 
 const ROUNDS: usize = 40;
+const SMALL_ROUNDS: usize = 400;
 
 /// The gates of the circuit of a price that is joined with itself.
 const GATES: usize = 45_000;
@@ -52,6 +54,35 @@ fn join(price: &[u8]) -> Row<'_> {
     Row {
         name: format!("join two of {GATES} gates, {len} B"),
         amount: len,
+        batch: 1,
+        calls: [Some(built(ours)), Some(built(second)), None],
+    }
+}
+
+/// The first and the last of the small circuits with the most inputs and gates. The second
+/// implementation has made its list before: a call of it is a look into the list.
+pub fn small_table(list: &Small) -> Table<'_> {
+    let last = list.files().len() as u64 - 1;
+    Table {
+        title: "microseconds for one small circuit, I 2, G 2".into(),
+        rounds: SMALL_ROUNDS,
+        told: |seconds, _| seconds * 1e6,
+        rows: [0, last].map(|place| small(list, place)).into(),
+    }
+}
+
+fn small(list: &Small, place: u64) -> Row<'_> {
+    let ours = move |out: &mut [u8]| {
+        let len = wivulameno::circuit::small(2, 1, 2, black_box(place), out);
+        len.expect("no refusal").expect("a circuit")
+    };
+    let second = move |out: &mut [u8]| {
+        let len = list.at(black_box(place), out);
+        len.expect("no refusal").expect("a circuit")
+    };
+    Row {
+        name: format!("at place {place}"),
+        amount: 1,
         batch: 1,
         calls: [Some(built(ours)), Some(built(second)), None],
     }

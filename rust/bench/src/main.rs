@@ -11,6 +11,7 @@ mod rows;
 mod texts;
 
 use openssl::OpenSsl;
+use reference::small::Small;
 
 fn main() {
     let openssl = OpenSsl::load();
@@ -21,6 +22,8 @@ fn main() {
     texts::table(&[("4096 gates", &gates), ("groups", &groups)]).print();
 
     building::table(&building::Circuits::new()).print();
+    let list = Small::of(2, 1, 2).expect("sizes of small circuits");
+    building::small_table(&list).print();
 
     let instance = mpc::Instance::worst();
     mpc::gates_table(&instance).print();

@@ -16,6 +16,7 @@ pub mod old;
 pub mod proof;
 pub mod seeds;
 pub mod shelf;
+pub mod small;
 pub mod work;
 
 /// The number of a refusal in the papers.

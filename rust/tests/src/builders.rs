@@ -3,6 +3,7 @@
 
 use crate::guarded::Guarded;
 use crate::random::Random;
+use reference::small::Small;
 use wivulameno::Refusal;
 
 /// Builds by both into `out_len` bytes; gives the whole buffer after a success, and
@@ -60,6 +61,29 @@ pub fn compare_join(
         out_len,
         |out| reference::join::join(first, second, out),
         |lent, out, written| wivulameno::circuit::join_into(lent[0], lent[1], out, written),
+    )
+}
+
+/// The small circuit at a place by both; a length of 0 says that the last has passed.
+/// `list` is the reference's for these sizes: I, O and G.
+pub fn compare_small(
+    random: &mut Random,
+    list: &Result<Small, u32>,
+    [inputs, outputs, gates]: [u32; 3],
+    place: u64,
+    out_len: usize,
+) -> Result<(Vec<u8>, usize), u32> {
+    compare(
+        random,
+        &[],
+        out_len,
+        |out| {
+            let list = list.as_ref().map_err(|&number| number)?;
+            Ok(list.at(place, out)?.unwrap_or(0))
+        },
+        |_, out, written| {
+            wivulameno::circuit::small_into(inputs, outputs, gates, place, out, written)
+        },
     )
 }
 

@@ -1,6 +1,7 @@
 //! Legal and damaged calls of every C function, with pages around each lent
 //! buffer that may not be touched. A read or write past an end ends this test.
 
+use reference::small::Small;
 use std::env;
 use std::os::unix::process::ExitStatusExt;
 use std::process::Command;
@@ -228,6 +229,53 @@ fn join(random: &mut Random, first: &[u8], second: &[u8]) -> Result<(), u32> {
     let second = reference::join::join(first, second, &mut expected);
     assert_eq!(answer, second.map(|_| ()));
     let written = second.map_or(before, |len| len as u64);
+    assert!(filled == [expected, written.to_ne_bytes().to_vec()]);
+    answer
+}
+
+#[test]
+fn small_circuits() {
+    let mut random = Random::new(0x6aa);
+    let sizes = [
+        [1, 1, 0],
+        [1, 1, 1],
+        [2, 1, 1],
+        [2, 1, 2],
+        [3, 1, 1],
+        [2, 1, 3],
+    ];
+    let lists = sizes.map(|[inputs, outputs, gates]| Small::of(inputs, outputs, gates));
+    let mut outcomes = Outcomes::default();
+    for _ in 0..BUDGET {
+        let which = random.below(sizes.len());
+        let place = random.pick(&[0, 1, 5, 6, 29, 30, 1679, 1680, u64::MAX]);
+        let list = lists[which].as_ref().map_err(|&number| number);
+        outcomes.add_answer(&small(&mut random, list, sizes[which], place));
+    }
+    outcomes.expect(&[0, 6, 29], 50);
+}
+
+fn small(
+    random: &mut Random,
+    list: Result<&Small, u32>,
+    [inputs, outputs, gates]: [u32; 3],
+    place: u64,
+) -> Result<(), u32> {
+    let len = near(random, 20 + 16 * gates as usize);
+    let out = random.bytes(len);
+    let before = random.word();
+    let lent = [out.clone(), before.to_ne_bytes().to_vec()];
+    let (answer, filled) = lend(random, &[], &lent, |_, out| {
+        let [out, written] = out.try_into().unwrap_or_else(|_| panic!("two outputs"));
+        let written: *mut u64 = written.as_mut_ptr().cast();
+        assert!(written.is_aligned());
+        // SAFETY: these are 8 bytes, and aligned.
+        circuit::small_into(inputs, outputs, gates, place, out, unsafe { &mut *written })
+    });
+    let mut expected = out;
+    let second = list.and_then(|list| list.at(place, &mut expected));
+    assert_eq!(answer, second.map(|_| ()));
+    let written = second.map_or(before, |len| len.unwrap_or(0) as u64);
     assert!(filled == [expected, written.to_ne_bytes().to_vec()]);
     answer
 }
@@ -461,6 +509,13 @@ fn empty_buffers_are_not_touched() {
             circuit::join(inputs[0], inputs[1], out[0]).map(|_| ())
         });
         assert_eq!(answer, Err(6));
+        // The last small circuit, and the place behind it, where nothing is written.
+        for (place, expected) in [(1679, Err(6)), (1680, Ok(()))] {
+            let (answer, _) = lend(&mut random, &[], &[vec![]], |_, mut out| {
+                circuit::small(2, 1, 2, place, out[0]).map(|_| ())
+            });
+            assert_eq!(answer, expected);
+        }
         let (answer, _) = lend(&mut random, &[&[]], &[vec![]], |inputs, mut out| {
             shelf::stock(out[0], inputs[0])
         });

@@ -180,6 +180,17 @@ fn joined_circuits() {
     }
 }
 
+/// The first place, the last, and one behind it.
+#[test]
+fn small_circuits() {
+    for place in [0, 1679, 1680] {
+        takes("small", || {
+            let answer = circuit::small(2, 1, 2, place, &mut [0; 52]);
+            assert_eq!(answer, Ok((place < 1680).then_some(52)));
+        });
+    }
+}
+
 /// The largest text, as long as its groups make it.
 #[test]
 fn texts() {

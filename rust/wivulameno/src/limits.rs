@@ -15,6 +15,15 @@ pub const MAX_GATES: u32 = 100_000;
 /// The bytes of the longest circuit.
 pub const MAX_CIRCUIT: usize = 16 + 4 * MAX_OUTPUTS as usize + 16 * MAX_GATES as usize;
 
+/// A circuit of [`small`](crate::circuit::small) has 1 to so many inputs.
+pub const MAX_SMALL_INPUTS: u32 = 2;
+
+/// A circuit of [`small`](crate::circuit::small) has 0 to so many gates.
+pub const MAX_SMALL_GATES: u32 = 2;
+
+/// The bytes of the longest circuit of [`small`](crate::circuit::small).
+pub const MAX_SMALL_CIRCUIT: usize = 16 + 4 + 16 * MAX_SMALL_GATES as usize;
+
 /// The bytes of a work buffer for every circuit.
 pub const MAX_WORK: usize = Sizes {
     inputs: MAX_INPUTS,

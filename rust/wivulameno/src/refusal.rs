@@ -58,11 +58,13 @@ pub enum Refusal {
     TextLimits = 24,
     /// The two circuits have different numbers of inputs.
     InputCounts = 25,
+    /// The sizes are not those of a small circuit.
+    SmallSizes = 29,
 }
 
 impl Refusal {
-    /// All of them, by their numbers. There is no 4.
-    pub const ALL: [Refusal; 24] = [
+    /// All of them, by their numbers. There is no 4, and none from 26 to 28.
+    pub const ALL: [Refusal; 25] = [
         Refusal::CircuitLength,
         Refusal::CircuitSizes,
         Refusal::Gate,
@@ -87,6 +89,7 @@ impl Refusal {
         Refusal::GateKind,
         Refusal::TextLimits,
         Refusal::InputCounts,
+        Refusal::SmallSizes,
     ];
 
     /// The number in the C interface.
@@ -152,6 +155,9 @@ impl Refusal {
                 "the text has more gates, inputs or outputs than allowed, or no input or no output"
             }
             Refusal::InputCounts => "the two circuits have different numbers of inputs",
+            Refusal::SmallSizes => {
+                "the sizes are not those of a small circuit: 1 or 2 inputs, 1 output, at most 2 gates"
+            }
         }
     }
 }
@@ -171,13 +177,13 @@ mod tests {
 
     #[test]
     fn numbers_go_both_ways() {
-        let numbers = (1..=3).chain(5..=25);
+        let numbers = (1..=3).chain(5..=25).chain([29]);
         let found = Refusal::ALL.map(Refusal::number);
         assert_eq!(found.to_vec(), numbers.collect::<Vec<_>>());
         for refusal in Refusal::ALL {
             assert_eq!(Refusal::from_number(refusal.number()), Some(refusal));
         }
-        for number in [0, 4, 26, u32::MAX] {
+        for number in [0, 4, 26, 28, 30, u32::MAX] {
             assert_eq!(Refusal::from_number(number), None);
         }
     }
@@ -194,7 +200,7 @@ mod tests {
     #[test]
     fn each_has_a_sentence_of_its_own() {
         let sentences: HashSet<_> = Refusal::ALL.map(Refusal::sentence).into();
-        assert_eq!(sentences.len(), 24);
+        assert_eq!(sentences.len(), 25);
         assert!(sentences.iter().all(|text| !text.ends_with('.')));
     }
 

@@ -6,6 +6,7 @@ use crate::input::{Input, Inputs};
 use crate::names::shown;
 use std::ffi::{OsStr, OsString};
 use std::path::PathBuf;
+use std::str::FromStr;
 use std::time::Duration;
 
 /// The words behind a command's name.
@@ -102,7 +103,7 @@ impl Args {
     }
 
     /// A whole number, if the option is there.
-    pub fn number(&self, name: &str) -> Result<Option<u32>, Failure> {
+    pub fn number<T: FromStr>(&self, name: &str) -> Result<Option<T>, Failure> {
         self.parsed(name, "a whole number", |digits| {
             let all_digits = digits.bytes().all(|byte| byte.is_ascii_digit());
             digits.parse().ok().filter(|_| all_digits)

@@ -1,5 +1,6 @@
-//! Circuits that are built of others.
+//! Circuits that are built of others, or of nothing but their sizes.
 
+use crate::limits::MAX_SMALL_CIRCUIT;
 use crate::{answer, Refusal};
 
 extern "C" {
@@ -8,6 +9,15 @@ extern "C" {
         first_len: usize,
         second: *const u8,
         second_len: usize,
+        out: *mut u8,
+        out_len: usize,
+        written: *mut u64,
+    ) -> u32;
+    fn wv_small(
+        inputs: u32,
+        outputs: u32,
+        gates: u32,
+        place: u64,
         out: *mut u8,
         out_len: usize,
         written: *mut u64,
@@ -78,4 +88,75 @@ pub fn join_to_vec(first: &[u8], second: &[u8]) -> Result<Vec<u8>, Refusal> {
     let len = join(first, second, &mut circuit)?;
     circuit.truncate(len);
     Ok(circuit)
+}
+
+/// As [`small`], with the length that the C function writes into `written`: 0 where the
+/// last circuit has passed.
+pub fn small_into(
+    inputs: u32,
+    outputs: u32,
+    gates: u32,
+    place: u64,
+    out: &mut [u8],
+    written: &mut u64,
+) -> Result<(), Refusal> {
+    // SAFETY: the slice is valid for its length, and `out` and `written` do not overlap.
+    answer(unsafe {
+        wv_small(
+            inputs,
+            outputs,
+            gates,
+            place,
+            out.as_mut_ptr(),
+            out.len(),
+            written,
+        )
+    })
+}
+
+/// Every small circuit in turn, for a test bench. All legal circuit files of `inputs` 1
+/// or 2, `outputs` 1 and `gates` 0, 1 or 2 come in ascending order of their bytes, each
+/// exactly once, from place 0 on: writes the file at `place` to the start of `out` and
+/// gives its length. The bytes behind it stay. [`MAX_SMALL_CIRCUIT`] bytes are room for
+/// each. At every place behind the last it gives `None`, and `out` stays.
+///
+/// Refuses with 29 for other sizes, then with 6 for an `out` that is too short for a file.
+pub fn small(
+    inputs: u32,
+    outputs: u32,
+    gates: u32,
+    place: u64,
+    out: &mut [u8],
+) -> Result<Option<usize>, Refusal> {
+    let mut written = 0;
+    small_into(inputs, outputs, gates, place, out, &mut written)?;
+    Ok(Some(len_of(written)).filter(|&len| len > 0))
+}
+
+/// The small circuit at a place, or `None` behind the last. Refuses as [`small`] does, but
+/// never with 6.
+///
+/// ```
+/// use wivulameno::circuit::{read, small_to_vec};
+/// use wivulameno::Refusal;
+///
+/// // One input, one gate: there are six.
+/// let mut place = 0;
+/// while let Some(circuit) = small_to_vec(1, 1, 1, place)? {
+///     assert_eq!(read(&circuit)?[..3], [1, 1, 1]);
+///     place += 1;
+/// }
+/// assert_eq!(place, 6);
+/// assert_eq!(small_to_vec(3, 1, 1, 0), Err(Refusal::SmallSizes));
+/// # Ok::<(), Refusal>(())
+/// ```
+pub fn small_to_vec(
+    inputs: u32,
+    outputs: u32,
+    gates: u32,
+    place: u64,
+) -> Result<Option<Vec<u8>>, Refusal> {
+    let mut circuit = [0; MAX_SMALL_CIRCUIT];
+    let len = small(inputs, outputs, gates, place, &mut circuit)?;
+    Ok(len.map(|len| circuit[..len].to_vec()))
 }

@@ -9,6 +9,7 @@ mod files;
 mod join;
 mod prove;
 mod shelf;
+mod small;
 mod upgrade;
 
 use crate::args::Args;
@@ -44,6 +45,7 @@ pub const ALL: &[Command] = &[
     convert::CONVERT,
     upgrade::UPGRADE,
     join::JOIN,
+    small::SMALL,
     shelf::NEW,
     shelf::STOCK,
     shelf::STATUS,

@@ -37,7 +37,7 @@ reaches it, and never delete it or put an older copy in its place.
 fn new(args: &Args, _: &mut Report) -> Result<(), Failure> {
     let files = ShelfFiles::of(args, args.place(0))?;
     args.needed("slots")?;
-    let slots = args.number("slots")?.expect("it is there");
+    let slots: u32 = args.number("slots")?.expect("it is there");
     match u16::try_from(slots) {
         Ok(slots @ 1..=MAX_SLOTS) => files.begin(slots, args.flag("lost")),
         _ => {

@@ -1,0 +1,12 @@
+pub mod Members
+pub mod Order
+pub mod Bytes
+pub mod Gates
+pub mod Shapes
+pub mod Ranges
+pub mod Whole
+pub mod Every
+pub mod Places
+pub mod Files
+pub mod Bounds
+pub mod Writes

@@ -1,0 +1,5 @@
+pub mod Answers
+pub mod Order
+pub mod Small
+pub mod Steps
+pub mod Theorem
