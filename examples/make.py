@@ -74,6 +74,46 @@ def at_least(inputs, width, *pairs):
     return circuit(inputs, outputs, gates, lambda i: i + 1)
 
 
+def grade():
+    """The sum of three scores of 4 bits each, in 6 bits. A carry is that of the bits before, unless they differ from it:
+    carry' = carry XOR ((x XOR carry) AND (y XOR carry))."""
+    gates = []
+
+    def gate(kind, x, y):
+        gates.append((kind, x, y))
+        return ("gate", len(gates) - 1)
+
+    def add(sum, score):
+        carry, result = None, []
+        for j, x in enumerate(sum):
+            y = score[j] if j < len(score) else None
+            if carry is None:
+                result.append(gate(XOR, x, y))
+                carry = gate(AND, x, y)
+            elif y is None:
+                result.append(gate(XOR, x, carry))
+                carry = gate(AND, x, carry)
+            else:
+                differ = gate(XOR, x, carry)
+                result.append(gate(XOR, differ, y))
+                carry = gate(XOR, carry, gate(AND, differ, gate(XOR, y, carry)))
+        return result + [carry]
+
+    scores = [[("in", 4 * k + j) for j in range(4)] for k in range(3)]
+    return circuit(12, add(add(scores[0], scores[1]), scores[2]), gates, lambda i: i + 1)
+
+
+def scores_row(*scores):
+    return sum(score << 4 * k for k, score in enumerate(scores)).to_bytes(2, "little")
+
+
+def check_grade(file):
+    """Evaluates the circuit on every row."""
+    for row in range(2**12):
+        total = (row & 15) + (row >> 4 & 15) + (row >> 8)
+        assert evaluate(file, row.to_bytes(2, "little")) == bits(6, total)
+
+
 def worst():
     """512 inputs, one AND after the other through 4,096 slots in a mixed order."""
     gates = [(AND, ("in", 0), ("in", 1))]
@@ -118,6 +158,11 @@ def check_goods(enough, indate, both):
             assert evaluate(both, row) == covered + fresh
 
 
+def write(folder, name, file, row):
+    (folder / f"{name}.circuit").write_bytes(file)
+    (folder / f"{name}.row").write_bytes(row)
+
+
 def main(folder):
     ones = bytes([255] * 64)
     goods, spoiled = numbers_row(16, 1000, 250, 20_045, 20_000), numbers_row(16, 249, 250, 19_999, 20_000)
@@ -138,8 +183,11 @@ def main(folder):
     check_goods(*(table[name][0] for name in ("enough", "indate", "both")))
     for name, (file, row, failing) in table.items():
         assert evaluate(file, row)[0] == 1 and evaluate(file, failing)[0] == 0
-        (folder / f"{name}.circuit").write_bytes(file)
-        (folder / f"{name}.row").write_bytes(row)
+        write(folder, name, file, row)
+    graded = grade()
+    check_grade(graded)
+    # Look, taste and size: a grade of 33.
+    write(folder, "grade", graded, scores_row(9, 12, 12))
 
 
 main(Path(sys.argv[1]) if len(sys.argv) > 1 else Path(__file__).resolve().parent)

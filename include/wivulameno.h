@@ -117,7 +117,9 @@ enum wv_answer {
     /* two circuits have different numbers of inputs; see wv_join */
     WV_REFUSED_INPUT_COUNTS = 25,
     /* the sizes are not those of a small circuit; see wv_small */
-    WV_REFUSED_SMALL_SIZES = 29
+    WV_REFUSED_SMALL_SIZES = 29,
+    /* a list of outputs is empty or has more than 16; see wv_one_of */
+    WV_REFUSED_OUTPUT_LIST = 30
 };
 
 /*
@@ -131,6 +133,7 @@ enum wv_answer {
 #define WV_MAX_SMALL_INPUTS 2    /* wv_small lists circuits of 1 or 2 inputs */
 #define WV_MAX_SMALL_GATES 2     /* and of 0 to 2 gates, */
 #define WV_MAX_SMALL_CIRCUIT 52  /* of which this is the longest */
+#define WV_MAX_LISTED 16         /* wv_one_of is lent 1 to 16 outputs */
 #define WV_MAX_WORK 6436864      /* a work buffer for every circuit */
 #define WV_MAX_STACK 98304       /* no call takes more of the stack */
 #define WV_MAX_PARTIES 16        /* there are 2, 4, 8 or 16 parties */
@@ -300,6 +303,30 @@ uint32_t wv_upgrade_slot(const uint8_t *old, size_t old_len);
 uint32_t wv_join(const uint8_t *first, size_t first_len,
                  const uint8_t *second, size_t second_len,
                  uint8_t *out, size_t out_len, uint64_t *written);
+
+/*
+ * Asks whether a row matches one of several outputs, without telling which. Of a
+ * circuit and a list of its outputs makes a circuit with the same inputs and a
+ * single output, which is 1 exactly if the old output is in the list. Writes its
+ * file to the start of out, and its length to written; the bytes of out beyond
+ * that length stay as they were.
+ *
+ * The list is N outputs, 1 to 16, one after the other, each of O bits in O / 8
+ * bytes, rounded up. An output may be listed twice. At most O + N (O + 1) gates
+ * are added to the G of the circuit, so that 20 + 16 (G + O + N (O + 1)) bytes are
+ * room for the file; docs/one-of.md says which gates.
+ *
+ * Refuses a circuit as above, then:
+ *   30  the list has no bytes, or more than 16 outputs have
+ *    6  its length is no multiple of the bytes of an output
+ *    7  an unused bit of an output in it is not zero
+ *    2  G + O + N (O + 1) is above 100000; an output that is listed twice counts
+ *       twice
+ *    6  out is shorter than the circuit file
+ */
+uint32_t wv_one_of(const uint8_t *circuit, size_t circuit_len,
+                   const uint8_t *list, size_t list_len,
+                   uint8_t *out, size_t out_len, uint64_t *written);
 
 /*
  * Every small circuit in turn, for a test bench. The legal circuit files with

@@ -409,6 +409,46 @@ static void small_circuits(void)
           WV_REFUSED_SMALL_SIZES);
 }
 
+/* K with a list of len bytes in a buffer of out_len bytes. */
+static uint32_t one_of(const uint8_t *list, size_t len, size_t out_len)
+{
+    /* one output and two entries: 1 + 1 + 2 * 2 gates at most */
+    static uint8_t out[20 + 16 * 6];
+    uint64_t written = 77;
+    uint32_t answer = wv_one_of(k, sizeof k, list, len, out, out_len, &written);
+    uint8_t witness, y;
+
+    if (answer != WV_ACCEPTED) {
+        equal("its length", (size_t)written, 77);
+        return answer;
+    }
+    equal("its length", written >= 20 + 16 && written <= sizeof out, 1);
+    for (witness = 0; witness < 4; witness++) {
+        const uint8_t old = witness == 3;
+
+        y = 77;
+        equal("evaluate it", wv_evaluate(out, (size_t)written, &witness, 1,
+                                         &y, 1), WV_ACCEPTED);
+        equal("in the list", y, memchr(list, old, len) != NULL);
+    }
+    return answer;
+}
+
+static void lists(void)
+{
+    static const uint8_t list[17] = {0, 1, 1, 2};
+
+    equal("no", one_of(list, 1, 116), WV_ACCEPTED);
+    equal("yes", one_of(list + 1, 1, 116), WV_ACCEPTED);
+    equal("yes twice", one_of(list + 1, 2, 116), WV_ACCEPTED);
+    equal("yes or no", one_of(list, 2, 116), WV_ACCEPTED);
+    equal("without room", one_of(list, 1, 20), WV_REFUSED_LENGTH);
+    equal("an empty list", one_of(list, 0, 116), WV_REFUSED_OUTPUT_LIST);
+    equal("a long list", one_of(list, WV_MAX_LISTED + 1, 116),
+          WV_REFUSED_OUTPUT_LIST);
+    equal("an unused bit", one_of(list + 2, 2, 116), WV_REFUSED_UNUSED_BITS);
+}
+
 int main(void)
 {
     char version[40];
@@ -437,5 +477,6 @@ int main(void)
     texts();
     joined();
     small_circuits();
+    lists();
     return failures == 0 ? 0 : 1;
 }

@@ -1,4 +1,4 @@
--- Two refusals never share a number, and the numbers are 1 to 29.
+-- Two refusals never share a number, and the numbers are 1 to 30.
 -- Assumes nothing.
 use mathlib.Core.Path.{_≡_, refl, sym, ap, _∙_}
 use mathlib.Core.Bool.{false}
@@ -8,19 +8,19 @@ use lib.Dec.{T, eqb, leb, leb→le}
 use lib.ListN.{getD}
 use borrow.Author.Tests.{eqb-false}
 use Rattle.refusal.specs.declared.Refusal.{Refusal}
-use Rattle.refusal.specs.declared.Refusal.the-variants.{Length, Limits, Record, Wire, BufferLength, UnusedBits, Parameter, Index, Output, Header, ProofLength, Digest, Shelf, Count, Empty, Full, Exhausted, BeyondGates, EndsEarly, GoesOn, Text, GateKind, TextLimits, InputCounts, SmallSizes}
+use Rattle.refusal.specs.declared.Refusal.the-variants.{Length, Limits, Record, Wire, BufferLength, UnusedBits, Parameter, Index, Output, Header, ProofLength, Digest, Shelf, Count, Empty, Full, Exhausted, BeyondGates, EndsEarly, GoesOn, Text, GateKind, TextLimits, InputCounts, SmallSizes, ListLength}
 use Rattle.refusal.specs.Refusal.{numberOf, NoFour}
 
 -- the refusals in the order of their numbers, and one more to stand at the places that have none
 inOrder : List Refusal
-inOrder = Length ∷ Length ∷ Limits ∷ Record ∷ Length ∷ Wire ∷ BufferLength ∷ UnusedBits ∷ Parameter ∷ Index ∷ Output ∷ Header ∷ ProofLength ∷ Digest ∷ Shelf ∷ Count ∷ Empty ∷ Full ∷ Exhausted ∷ BeyondGates ∷ EndsEarly ∷ GoesOn ∷ Text ∷ GateKind ∷ TextLimits ∷ InputCounts ∷ Length ∷ Length ∷ Length ∷ SmallSizes ∷ []
+inOrder = Length ∷ Length ∷ Limits ∷ Record ∷ Length ∷ Wire ∷ BufferLength ∷ UnusedBits ∷ Parameter ∷ Index ∷ Output ∷ Header ∷ ProofLength ∷ Digest ∷ Shelf ∷ Count ∷ Empty ∷ Full ∷ Exhausted ∷ BeyondGates ∷ EndsEarly ∷ GoesOn ∷ Text ∷ GateKind ∷ TextLimits ∷ InputCounts ∷ Length ∷ Length ∷ Length ∷ SmallSizes ∷ ListLength ∷ []
 
 -- the refusal of a number
 ofNumber : ℕ → Refusal
 ofNumber k = getD inOrder k Length
 
--- a refusal is found again from its number, which is 1 to 29 and not 4
-right : (r : Refusal) → (ofNumber (numberOf r) ≡ r) × (T (leb 1 (numberOf r)) × (T (leb (numberOf r) 29) × (eqb (numberOf r) 4 ≡ false)))
+-- a refusal is found again from its number, which is 1 to 30 and not 4
+right : (r : Refusal) → (ofNumber (numberOf r) ≡ r) × (T (leb 1 (numberOf r)) × (T (leb (numberOf r) 30) × (eqb (numberOf r) 4 ≡ false)))
 unfolding ofNumber inOrder
 right Length = (refl, (tt, (tt, refl)))
 right Limits = (refl, (tt, (tt, refl)))
@@ -47,14 +47,15 @@ right GateKind = (refl, (tt, (tt, refl)))
 right TextLimits = (refl, (tt, (tt, refl)))
 right InputCounts = (refl, (tt, (tt, refl)))
 right SmallSizes = (refl, (tt, (tt, refl)))
+right ListLength = (refl, (tt, (tt, refl)))
 
 -- two refusals with one number are the same
 pub numberOf-injective : (a b : Refusal) → numberOf a ≡ numberOf b → a ≡ b
 numberOf-injective a b e = sym (right a .0) ∙ ap ofNumber e ∙ right b .0
 
--- the numbers are 1 to 29
-pub numberOf-range : (r : Refusal) → (1 ≤ numberOf r) × (numberOf r ≤ 29)
-numberOf-range r = (leb→le 1 (numberOf r) (right r .1 .0), leb→le (numberOf r) 29 (right r .1 .1 .0))
+-- the numbers are 1 to 30
+pub numberOf-range : (r : Refusal) → (1 ≤ numberOf r) × (numberOf r ≤ 30)
+numberOf-range r = (leb→le 1 (numberOf r) (right r .1 .0), leb→le (numberOf r) 30 (right r .1 .1 .0))
 
 -- none of them is 4
 pub no-four : NoFour

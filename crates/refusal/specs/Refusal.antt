@@ -4,7 +4,7 @@
 use mathlib.Core.Logic.{_≢_}
 use Prim.Native.Nat.{ℕ}
 use Rattle.refusal.specs.declared.Refusal.{Refusal}
-use Rattle.refusal.specs.declared.Refusal.the-variants.{Length, Limits, Record, Wire, BufferLength, UnusedBits, Parameter, Index, Output, Header, ProofLength, Digest, Shelf, Count, Empty, Full, Exhausted, BeyondGates, EndsEarly, GoesOn, Text, GateKind, TextLimits, InputCounts, SmallSizes}
+use Rattle.refusal.specs.declared.Refusal.the-variants.{Length, Limits, Record, Wire, BufferLength, UnusedBits, Parameter, Index, Output, Header, ProofLength, Digest, Shelf, Count, Empty, Full, Exhausted, BeyondGates, EndsEarly, GoesOn, Text, GateKind, TextLimits, InputCounts, SmallSizes, ListLength}
 
 -- the number of a refusal
 abbrev pub numberOf : Refusal → ℕ
@@ -33,6 +33,7 @@ numberOf GateKind = 23
 numberOf TextLimits = 24
 numberOf InputCounts = 25
 numberOf SmallSizes = 29
+numberOf ListLength = 30
 
 -- Theorem: 4 "is no longer given"
 abbrev pub NoFour : Type 0

@@ -54,6 +54,8 @@ pub enum Refusal {
     InputCounts,
     // 29: a size beyond these (small circuits: I of 1 or 2, O = 1 and G up to 2).
     SmallSizes,
+    // 30: an empty list or over 16·oct(O) bytes.
+    ListLength,
 }
 
 // The number that the documents give a refusal.
@@ -86,5 +88,6 @@ pub fn number(r: Refusal) -> u32
         Refusal::TextLimits => 24,
         Refusal::InputCounts => 25,
         Refusal::SmallSizes => 29,
+        Refusal::ListLength => 30,
     }
 }

@@ -19,6 +19,8 @@ use Rattle.upgrade.specs.declared.Answer.the-variants as upgradeAnswer
 use Rattle.upgrade.proofs.Small.{told, slot-same}
 use Rattle.join.specs.Answers as joining
 use Rattle.join.specs.declared.Answer.the-variants as joinAnswer
+use Rattle.one_of.specs.Answers as oneOf
+use Rattle.one_of.specs.declared.Answer.the-variants as oneOfAnswer
 use Rattle.mpc.specs.Answers as mpc
 use Rattle.mpc.specs.declared.Answer.the-variants as mpcAnswer
 use Rattle.seeds.specs.Operations as seeds
@@ -118,6 +120,17 @@ join-status lent (joinAnswer.Refused k) (joinAnswer.Written y) e = not-zero k (s
 join-status lent (joinAnswer.Refused k) (joinAnswer.Refused l) e =
     ap joinAnswer.Refused (numberOf-injective k l (ap (λ (p : ℕ × List ℕ). p .0) e))
 
+one-of-status : (lent : List ℕ) → Injective (λ a. reported lent (oneOf.paper a))
+unfolding status values
+one-of-status lent (oneOfAnswer.Written x) (oneOfAnswer.Written y) e =
+    let f : _≡_ {A = List ℕ} (x ∷ []) (y ∷ []) = ap (λ (p : ℕ × List ℕ). p .1) e in
+    let a : x ≡ y = cc in
+    ap oneOfAnswer.Written a
+one-of-status lent (oneOfAnswer.Written x) (oneOfAnswer.Refused k) e = not-zero k (ap (λ (p : ℕ × List ℕ). p .0) e)
+one-of-status lent (oneOfAnswer.Refused k) (oneOfAnswer.Written y) e = not-zero k (sym (ap (λ (p : ℕ × List ℕ). p .0) e))
+one-of-status lent (oneOfAnswer.Refused k) (oneOfAnswer.Refused l) e =
+    ap oneOfAnswer.Refused (numberOf-injective k l (ap (λ (p : ℕ × List ℕ). p .0) e))
+
 prove-status : (lent : List ℕ) → Injective (λ a. reported lent (proving.paper a))
 unfolding status values
 prove-status lent (proveAnswer.Written x) (proveAnswer.Written y) e =
@@ -146,7 +159,7 @@ shelf-status vs (shelfAnswer.Refused k) (shelfAnswer.Refused l) e = ap shelfAnsw
 -- the C functions say different things of different answers
 pub different-statuses : DifferentStatuses
 different-statuses =
-    record { read = read-status; evaluate = evaluate-status; convert = convert-status; upgrade = upgrade-status; upgrade-slot = upgrade-slot; join = join-status; run = run-status; derive = derive-status; prove = prove-status; check = check-status; shelf = shelf-status }
+    record { read = read-status; evaluate = evaluate-status; convert = convert-status; upgrade = upgrade-status; upgrade-slot = upgrade-slot; join = join-status; one-of = one-of-status; run = run-status; derive = derive-status; prove = prove-status; check = check-status; shelf = shelf-status }
 
 -- and so do the paper's terms
 pub different-answers : DifferentAnswers
@@ -159,6 +172,7 @@ different-answers =
       upgrade = before upgrading.paper (readReported []) (upgrade-status []);
       join = before joining.paper (reported []) (join-status []);
       small = small-paper;
+      one-of = before oneOf.paper (reported []) (one-of-status []);
       run = before mpc.paper status run-status;
       derive = before seeds.paper status derive-status;
       prove = before proving.paper (reported []) (prove-status []);

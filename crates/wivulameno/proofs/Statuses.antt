@@ -25,6 +25,9 @@ use Rattle.upgrade.proofs.Small.{slot-small as upgrade-slot-small}
 use Rattle.join.specs.Answers.{outcome as joinOutcome}
 use Rattle.join.specs.declared.Answer.{Answer as JoinAnswer}
 use Rattle.join.specs.declared.Answer.the-variants as joinAnswer
+use Rattle.one_of.specs.Answers.{outcome as oneOfOutcome}
+use Rattle.one_of.specs.declared.Answer.{Answer as OneOfAnswer}
+use Rattle.one_of.specs.declared.Answer.the-variants as oneOfAnswer
 use Rattle.shelf.specs.Operations.{outcome as shelfOutcome}
 use Rattle.shelf.specs.declared.Answer.{Answer as ShelfAnswer}
 use Rattle.shelf.specs.declared.Answer.the-variants as shelfAnswer
@@ -253,3 +256,12 @@ upgrade-slot o r {k} x b e f =
 pub upgrade-small : (s out : List ℕ) (r : UpgradeAnswer) {k : Refusal} (x : ℕ) (b : List ℕ) → r ≡ upgradeAnswer.Refused k x
     → upgradeOutcome r b ≡ upgradeOp s out → x < 2 ^ 32
 upgrade-small s out r {k} x b e f = upgrade-slot-small s out b k x (ap (λ (y : UpgradeAnswer). upgradeOutcome y b) (sym e) ∙ f)
+
+-- a circuit file from a circuit and a list of outputs
+pub one-of-done : (o : Outcome) (r : OneOfAnswer) (k : ℕ) (b lent : List ℕ) → r ≡ oneOfAnswer.Written k → oneOfOutcome r b ≡ o
+    → (_≡_ {A = ℕ} 0 (status (o .answer))) × (((k ∷ []) ≡ values (o .answer) lent) × ((b ∷ []) ≡ o .left))
+one-of-done o r k b lent e f = written-done (λ (x : OneOfAnswer). oneOfOutcome x b) o r (oneOfAnswer.Written k) k (b ∷ []) lent refl e f
+
+pub one-of-refused : (o : Outcome) (r : OneOfAnswer) (k : Refusal) (n : ℕ) (b lent : List ℕ) → r ≡ oneOfAnswer.Refused k → oneOfOutcome r b ≡ o
+    → n ≡ numberOf k → (n ≡ status (o .answer)) × ((lent ≡ values (o .answer) lent) × ((b ∷ []) ≡ o .left))
+one-of-refused o r k n b lent e f h = written-refused (λ (x : OneOfAnswer). oneOfOutcome x b) o r (oneOfAnswer.Refused k) k n (b ∷ []) lent refl e f h

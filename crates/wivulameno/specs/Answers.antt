@@ -12,6 +12,7 @@ use Rattle.upgrade.specs.Answers as upgrading
 use Rattle.upgrade.specs.Upgrade.{upgradeOp}
 use Rattle.join.specs.Answers as joining
 use Rattle.small.specs.Answers as small
+use Rattle.one_of.specs.Answers as oneOf
 use Rattle.mpc.specs.Answers as mpc
 use Rattle.seeds.specs.Operations as seeds
 use Rattle.proving.specs.Answers as proving
@@ -24,8 +25,8 @@ abbrev pub Injective : {A B : Type 0} → (A → B) → Type 0
 Injective {A} f = (a b : A) → f a ≡ f b → a ≡ b
 
 -- the definitions that put each answer enum into the paper's terms: of the refusals; of read; of evaluate; of convert; of upgrade; of join;
--- of small; of prepare, run, show and replay; of expand, open, masters, cover and challenge; of prove; of check; of stock and draw, with the
--- values of a success
+-- of small; of one of; of prepare, run, show and replay; of expand, open, masters, cover and challenge; of prove; of check; of stock and
+-- draw, with the values of a success
 pub record DifferentAnswers : Type 0 where
   pub refusals : Injective numberOf
   pub read : Injective readPaper
@@ -34,6 +35,7 @@ pub record DifferentAnswers : Type 0 where
   pub upgrade : Injective upgrading.paper
   pub join : Injective joining.paper
   pub small : Injective small.paper
+  pub one-of : Injective oneOf.paper
   pub run : Injective mpc.paper
   pub derive : Injective seeds.paper
   pub prove : Injective proving.paper
@@ -57,6 +59,7 @@ pub record DifferentStatuses : Type 0 where
   -- the slot of wv_upgrade_slot, which lends no output, is that of wv_upgrade
   pub upgrade-slot : (s out : List ℕ) → slot (upgradeOp s [] .answer) ≡ slot (upgradeOp s out .answer)
   pub join : (lent : List ℕ) → Injective (λ a. reported lent (joining.paper a))
+  pub one-of : (lent : List ℕ) → Injective (λ a. reported lent (oneOf.paper a))
   pub run : Injective (λ a. status (mpc.paper a))
   pub derive : Injective (λ a. status (seeds.paper a))
   pub prove : (lent : List ℕ) → Injective (λ a. reported lent (proving.paper a))

@@ -9,6 +9,7 @@ ghost use Rattle.bristol.specs.Operations.{convertOp};
 ghost use Rattle.upgrade.specs.Upgrade.{upgradeOp};
 ghost use Rattle.join.specs.Join.{joinOp};
 ghost use Rattle.small.specs.Small.{smallOp};
+ghost use Rattle.one_of.specs.OneOf.{oneOfOp};
 ghost use Rattle.mpc.specs.Operations.{prepareOp, runOp, showOp, replayOp};
 ghost use Rattle.proof.specs.Prove.{proveOp};
 ghost use Rattle.proof.specs.Check.{checkOp};
@@ -162,6 +163,26 @@ pub extern "C" fn wv_small(
             0
         }
         small::Answer::Refused(k) => refusal::number(k),
+    }
+}
+
+// Builds the circuit with one output, 1 exactly if the old output is in the list: its file's length, or the refusal.
+#[no_mangle]
+pub extern "C" fn wv_one_of(
+    circuit: &[u8],
+    list: &[u8],
+    out: &mut [u8],
+    written: &mut [u64; 1],
+) -> u32
+    ensures { λ r. ⌜ (r ≡ status (oneOfOp (now (circuit .entry)) (now (list .entry)) (now (out .entry)) .answer)) × ((now (written .exit) ≡ values (oneOfOp (now (circuit .entry)) (now (list .entry)) (now (out .entry)) .answer) (now (written .entry))) × (now (out .exit) ∷ [] ≡ oneOfOp (now (circuit .entry)) (now (list .entry)) (now (out .entry)) .left)) ⌝ }
+{
+    let a = one_of::one_of(circuit, list, out);
+    match a {
+        one_of::Answer::Written(k) => {
+            *written = [k as u64];
+            0
+        }
+        one_of::Answer::Refused(k) => refusal::number(k),
     }
 }
 

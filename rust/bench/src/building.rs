@@ -14,15 +14,24 @@ const GATES: usize = 45_000;
 /// Room for every circuit.
 const ROOM: usize = wivulameno::limits::MAX_CIRCUIT;
 
+/// The gates of the circuit of a price that is asked for one of several prices.
+const ASKED_GATES: usize = 90_000;
+
 /// What the builders work on.
 pub struct Circuits {
     price: Vec<u8>,
+    asked: Vec<u8>,
+    prices: Vec<u8>,
 }
 
 impl Circuits {
+    /// The list is of 16 prices, none of them twice, of 32 bits each.
     pub fn new() -> Circuits {
+        let prices = (0..16).map(|k: u32| k.wrapping_mul(0x9e37_79b9));
         Circuits {
             price: price::circuit(GATES),
+            asked: price::circuit(ASKED_GATES),
+            prices: prices.flat_map(u32::to_le_bytes).collect(),
         }
     }
 }
@@ -39,7 +48,7 @@ pub fn table(circuits: &Circuits) -> Table<'_> {
         title: "MB/s of circuit file built; B is a byte, MB a million".into(),
         rounds: ROUNDS,
         told: megabytes_per_second,
-        rows: vec![join(&circuits.price)],
+        rows: vec![join(&circuits.price), one_of(circuits)],
     }
 }
 
@@ -56,6 +65,21 @@ fn join(price: &[u8]) -> Row<'_> {
         amount: len,
         batch: 1,
         calls: [Some(built(ours)), Some(built(second)), None],
+    }
+}
+
+/// The second implementation says what a built file must give, and builds none.
+fn one_of(circuits: &Circuits) -> Row<'_> {
+    let Circuits { asked, prices, .. } = circuits;
+    let ours = move |out: &mut [u8]| {
+        wivulameno::circuit::one_of(black_box(asked), prices, out).expect("no refusal")
+    };
+    let len = ours(&mut vec![0; ROOM]);
+    Row {
+        name: format!("one of 16, {ASKED_GATES} gates, {len} B"),
+        amount: len,
+        batch: 1,
+        calls: [Some(built(ours)), None, None],
     }
 }
 

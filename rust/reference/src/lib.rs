@@ -13,6 +13,7 @@ pub mod join;
 pub mod masters;
 pub mod mpc;
 pub mod old;
+pub mod one_of;
 pub mod proof;
 pub mod seeds;
 pub mod shelf;

@@ -10,6 +10,7 @@ pub mod covers;
 pub mod cut_disk;
 pub mod guarded;
 pub mod old;
+pub mod one_of;
 pub mod outcomes;
 pub mod paged;
 pub mod pages;

@@ -1,6 +1,7 @@
 //! Legal and damaged calls of every C function, with pages around each lent
 //! buffer that may not be touched. A read or write past an end ends this test.
 
+use reference::one_of::OneOf;
 use reference::small::Small;
 use std::env;
 use std::os::unix::process::ExitStatusExt;
@@ -230,6 +231,61 @@ fn join(random: &mut Random, first: &[u8], second: &[u8]) -> Result<(), u32> {
     assert_eq!(answer, second.map(|_| ()));
     let written = second.map_or(before, |len| len as u64);
     assert!(filled == [expected, written.to_ne_bytes().to_vec()]);
+    answer
+}
+
+/// The list may be empty, too long, cut off or have a bit too many.
+#[test]
+fn one_of_several_outputs() {
+    let mut random = Random::new(0x6ab);
+    let mut outcomes = Outcomes::default();
+    for _ in 0..BUDGET {
+        let sizes = any_sizes(&mut random);
+        let slots = any_slots(&mut random, sizes[2]);
+        let file = legal(&mut random, sizes, &slots);
+        let circuit = match random.below(4) {
+            0 => damaged(&mut random, &file, &slots),
+            _ => file.bytes(),
+        };
+        let len = sizes[1].div_ceil(8);
+        let count = random.pick(&[1, 2, 3, 16, 16, 17]);
+        let list_len = near(&mut random, count * len);
+        let mut list = random.bytes(list_len);
+        if !random.once_in(4) {
+            let entries = list.chunks_mut(len);
+            entries.for_each(|entry| {
+                reference::bits::clear_rest(entry, sizes[1].min(8 * entry.len()));
+            });
+        }
+        outcomes.add_answer(&one_of(&mut random, &circuit, &list));
+    }
+    outcomes.expect(&[0, 1, 2, 3, 5, 6, 7, 19, 20, 21, 30], 5);
+}
+
+fn one_of(random: &mut Random, file: &[u8], list: &[u8]) -> Result<(), u32> {
+    // The gates are free: the file is that of a call without guards.
+    let plain = circuit::one_of_to_vec(file, list);
+    let len = near(random, plain.as_ref().map_or(40, Vec::len));
+    let out = random.bytes(len);
+    let before = random.word();
+    let outputs = [out.clone(), before.to_ne_bytes().to_vec()];
+    let (answer, filled) = lend(random, &[file, list], &outputs, |inputs, out| {
+        let [out, written] = out.try_into().unwrap_or_else(|_| panic!("two outputs"));
+        let written: *mut u64 = written.as_mut_ptr().cast();
+        assert!(written.is_aligned());
+        // SAFETY: these are 8 bytes, and aligned.
+        circuit::one_of_into(inputs[0], inputs[1], out, unsafe { &mut *written })
+    });
+    let asked = OneOf::of(file, list).map(|_| ());
+    let has_room = plain.as_ref().is_ok_and(|built| built.len() <= len);
+    let expected = asked.and(if has_room { Ok(()) } else { Err(6) });
+    assert_eq!(answer, expected);
+    let (mut bytes, mut written) = (out, before);
+    if let (Ok(built), true) = (plain, has_room) {
+        bytes[..built.len()].copy_from_slice(&built);
+        written = built.len() as u64;
+    }
+    assert!(filled == [bytes, written.to_ne_bytes().to_vec()]);
     answer
 }
 
@@ -509,6 +565,12 @@ fn empty_buffers_are_not_touched() {
             circuit::join(inputs[0], inputs[1], out[0]).map(|_| ())
         });
         assert_eq!(answer, Err(6));
+        for (list, expected) in [(&[][..], Err(30)), (&[1], Err(6))] {
+            let (answer, _) = lend(&mut random, &[&K, list], &[vec![]], |inputs, mut out| {
+                circuit::one_of(inputs[0], inputs[1], out[0]).map(|_| ())
+            });
+            assert_eq!(answer, expected);
+        }
         // The last small circuit, and the place behind it, where nothing is written.
         for (place, expected) in [(1679, Err(6)), (1680, Ok(()))] {
             let (answer, _) = lend(&mut random, &[], &[vec![]], |_, mut out| {

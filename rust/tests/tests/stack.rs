@@ -180,6 +180,19 @@ fn joined_circuits() {
     }
 }
 
+/// The most gates that are allowed with 256 outputs and 16 entries: 95,632 and 4,368.
+#[test]
+fn one_of_several_outputs() {
+    let mut random = Random::new(0x57f);
+    let largest = Setting::of_sizes(&mut random, [512, 256, 95_632], 16);
+    let list = random.bytes(16 * 32);
+    let mut file = vec![0; 20 + 16 * 100_000];
+    takes("one_of", || {
+        let answer = circuit::one_of(&largest.circuit, &list, &mut file);
+        assert!(answer.is_ok());
+    });
+}
+
 /// The first place, the last, and one behind it.
 #[test]
 fn small_circuits() {

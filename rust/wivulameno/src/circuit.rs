@@ -7,7 +7,9 @@
 
 mod building;
 
-pub use building::{join, join_into, join_to_vec, small, small_into, small_to_vec};
+pub use building::{join, join_into, join_to_vec};
+pub use building::{one_of, one_of_into, one_of_to_vec};
+pub use building::{small, small_into, small_to_vec};
 
 use crate::limits::{MAX_CIRCUIT, MAX_GATES, MAX_INPUTS, MAX_OUTPUTS};
 use crate::proof::oct;

@@ -3,7 +3,7 @@
 //!
 //! | module | what is there |
 //! | --- | --- |
-//! | [`circuit`] | read a circuit, evaluate it, convert a text or an old file to one, join two, list the small ones |
+//! | [`circuit`] | read a circuit, evaluate it, convert a text or an old file to one, join two, ask for one of several outputs, list the small ones |
 //! | [`proof`] | prove and check; how long a proof is, and how sound |
 //! | [`store`] | shelf and log in files, in the order of writes that survives a cut |
 //! | [`shelf`] | shelf pages in memory, for a host with a log of its own |

@@ -24,6 +24,9 @@ pub const MAX_SMALL_GATES: u32 = 2;
 /// The bytes of the longest circuit of [`small`](crate::circuit::small).
 pub const MAX_SMALL_CIRCUIT: usize = 16 + 4 + 16 * MAX_SMALL_GATES as usize;
 
+/// A list for [`one_of`](crate::circuit::one_of) has 1 to so many outputs.
+pub const MAX_LISTED: usize = 16;
+
 /// The bytes of a work buffer for every circuit.
 pub const MAX_WORK: usize = Sizes {
     inputs: MAX_INPUTS,

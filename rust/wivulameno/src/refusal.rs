@@ -60,11 +60,13 @@ pub enum Refusal {
     InputCounts = 25,
     /// The sizes are not those of a small circuit.
     SmallSizes = 29,
+    /// The list of outputs is empty or too long.
+    OutputList = 30,
 }
 
 impl Refusal {
     /// All of them, by their numbers. There is no 4, and none from 26 to 28.
-    pub const ALL: [Refusal; 25] = [
+    pub const ALL: [Refusal; 26] = [
         Refusal::CircuitLength,
         Refusal::CircuitSizes,
         Refusal::Gate,
@@ -90,6 +92,7 @@ impl Refusal {
         Refusal::TextLimits,
         Refusal::InputCounts,
         Refusal::SmallSizes,
+        Refusal::OutputList,
     ];
 
     /// The number in the C interface.
@@ -158,6 +161,7 @@ impl Refusal {
             Refusal::SmallSizes => {
                 "the sizes are not those of a small circuit: 1 or 2 inputs, 1 output, at most 2 gates"
             }
+            Refusal::OutputList => "the list of outputs is empty, or has more than 16 of them",
         }
     }
 }
@@ -177,13 +181,13 @@ mod tests {
 
     #[test]
     fn numbers_go_both_ways() {
-        let numbers = (1..=3).chain(5..=25).chain([29]);
+        let numbers = (1..=3).chain(5..=25).chain([29, 30]);
         let found = Refusal::ALL.map(Refusal::number);
         assert_eq!(found.to_vec(), numbers.collect::<Vec<_>>());
         for refusal in Refusal::ALL {
             assert_eq!(Refusal::from_number(refusal.number()), Some(refusal));
         }
-        for number in [0, 4, 26, 28, 30, u32::MAX] {
+        for number in [0, 4, 26, 28, 31, u32::MAX] {
             assert_eq!(Refusal::from_number(number), None);
         }
     }
@@ -200,7 +204,7 @@ mod tests {
     #[test]
     fn each_has_a_sentence_of_its_own() {
         let sentences: HashSet<_> = Refusal::ALL.map(Refusal::sentence).into();
-        assert_eq!(sentences.len(), 25);
+        assert_eq!(sentences.len(), 26);
         assert!(sentences.iter().all(|text| !text.ends_with('.')));
     }
 

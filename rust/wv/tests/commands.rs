@@ -69,6 +69,8 @@ fn the_examples_work() {
     let indate = include_bytes!("../../../examples/indate.circuit");
     folder.write("enough.circuit", enough);
     folder.write("indate.circuit", indate);
+    let grade = include_bytes!("../../../examples/grade.circuit");
+    folder.write("grade.circuit", grade);
     for command in wv::commands::ALL {
         let line = command.example.replace("/var/lib/depot/", "");
         let ended = folder.sh(&line);

@@ -7,6 +7,7 @@ mod circuit;
 mod convert;
 mod files;
 mod join;
+mod one_of;
 mod prove;
 mod shelf;
 mod small;
@@ -45,6 +46,7 @@ pub const ALL: &[Command] = &[
     convert::CONVERT,
     upgrade::UPGRADE,
     join::JOIN,
+    one_of::ONE_OF,
     small::SMALL,
     shelf::NEW,
     shelf::STOCK,

@@ -1,0 +1,11 @@
+pub mod Chained
+pub mod Coded
+pub mod Counts
+pub mod Entries
+pub mod Follows
+pub mod Legal
+pub mod Outcomes
+pub mod Slots
+pub mod Small
+pub mod Values
+pub mod Written

@@ -1,0 +1,4 @@
+pub mod Answers
+pub mod OneOf
+pub mod Steps
+pub mod Theorem
