@@ -1,6 +1,8 @@
 -- `join::joined_output` meets its contract: the first's output wires, then the second's.
 -- Assumes nothing.
 use borrow.Author.Needs.{needs}
+use mathlib.Core.Logic.{inr}
+use mathlib.Core.Path.{refl}
 use native.Mathlib.Omega.{arith}
 use Rattle.join.proofs.Writes.{output-first, output-small, output-second}
 use Rattle.join.proofs.joined_output.Statement.{statement}
@@ -10,7 +12,9 @@ add-field : tie.Need-add-field
 add-field c = search needs
 
 field-requires : tie.Need-field-requires
-field-requires c κs = search needs
+field-requires c κs =
+    let x = c .before .before .before in
+    (inr refl, omega (arith, x .pre .0 .first .whole, x .pre .0 .second .whole))
 
 returns : tie.Need-returns
 returns c =
@@ -21,7 +25,9 @@ add-field-2 : tie.Need-add-field-2
 add-field-2 c = search needs
 
 field-requires-2 : tie.Need-field-requires-2
-field-requires-2 c κs = search needs
+field-requires-2 c κs =
+    let x = c .before .before .before in
+    (inr refl, omega (arith, x .pre .0 .first .whole, x .pre .0 .second .whole))
 
 moved-wire-requires : tie.Need-moved-wire-requires
 moved-wire-requires c κs =
