@@ -20,7 +20,8 @@ use Rattle.circuit.specs.File.{onWalk, readsWritten}
 use Rattle.circuit.specs.Chain.{walkFrom}
 use Rattle.circuit.specs.Building.{builds}
 use Rattle.circuit.specs.Operations.{readAnswer, readOp}
-use Rattle.upgrade.specs.Upgrade.{bytesOf, upgraded, upgradeOp}
+use Rattle.building.specs.Files.{bytesOf, fileOf}
+use Rattle.upgrade.specs.Upgrade.{upgraded, upgradeOp}
 use Rattle.parties.specs.Parties.{heightOf, isPartyCount}
 use Rattle.plain.specs.Run.{corrections, corrected, broadcast, outputs, run}
 use Rattle.plain.specs.Tapes.{inputMasks, outputMasks, productShares, usedBits, unusedRows, withRow}
@@ -109,7 +110,7 @@ every-row (d ∷ cs) t c m =
 
 -- the marked cases pass
 table-passes : every cases ≡ true
-unfolding every holds sameAnswer sameBuffers sameOutcome sameBytes flatten odd testBit fromBits bitAt pack none unusedZero rowOf xors heightOf isPartyCount corrections corrected broadcast outputs run inputMasks outputMasks productShares usedBits unusedRows withRow correctionBits maskedInput maskedInputs runWith runOn honestRun rowBits rowsOf shownBits firstBits showing prepareLegal prepareOp ran runLegal runOp holdsShowing showLegal showOp leAt fields.field put ands fields.withinLimits fields.rightLength fields.goodRecord fields.goodRecords walkFrom fields.linkOf fields.chainWalk onWalk fields.chainFrom fields.gateAt fields.gatesInOrder readsWritten fields.goodOutputs fields.goodWires fields.circuitOf fields.readWith fields.readFields readAnswer readOp leBytes builds bytesOf upgraded upgradeOp correctionBytes stretchBytes asked some those up isAbove hasLeaf hidden unhidden opened cover leastFrom height coverBytes isChosen stretchStart
+unfolding every holds sameAnswer sameBuffers sameOutcome sameBytes flatten odd testBit fromBits bitAt pack none unusedZero rowOf xors heightOf isPartyCount corrections corrected broadcast outputs run inputMasks outputMasks productShares usedBits unusedRows withRow correctionBits maskedInput maskedInputs runWith runOn honestRun rowBits rowsOf shownBits firstBits showing prepareLegal prepareOp ran runLegal runOp holdsShowing showLegal showOp leAt fields.field put ands fields.withinLimits fields.rightLength fields.goodRecord fields.goodRecords walkFrom fields.linkOf fields.chainWalk onWalk fields.chainFrom fields.gateAt fields.gatesInOrder readsWritten fields.goodOutputs fields.goodWires fields.circuitOf fields.readWith fields.readFields readAnswer readOp leBytes builds bytesOf fileOf upgraded upgradeOp correctionBytes stretchBytes asked some those up isAbove hasLeaf hidden unhidden opened cover leastFrom height coverBytes isChosen stretchStart
 table-passes = refl
 
 -- every marked case is right
