@@ -32,13 +32,13 @@ module _ (s list : List ℕ) (z : Sizes) (all : ℕ) (out : List ℕ) (r : Room 
   same = all-same s list z all (r .given) (r .all)
 
   -- the header and the one output
-  pub header-written : (one two : List ℕ) (head : ℕ) → head ≡ relinked x (headOf x) → one ≡ sets out (width * 0) (fourBytes (z .inputs) 1 all head)
-      → two ≡ sets one (width * 4) (leBytes width (z .inputs + all - 1)) → two ≡ sets out 0 (bytesOf (new x list) 5)
-  header-written one two head h p q =
+  pub header-written : (one two : List ℕ) (head w : ℕ) → w ≡ z .inputs + all - 1 → head ≡ relinked x (headOf x) → one ≡ sets out (width * 0) (fourBytes (z .inputs) 1 all head)
+      → two ≡ sets one (width * 4) (leBytes width w) → two ≡ sets out 0 (bytesOf (new x list) 5)
+  header-written one two head w v h p q =
       let a = bytes-four (new x list) out out one 0 (z .inputs) 1 all head (bytes-none (new x list) out) (r .given .laid .inputs ∙ sym (new-inputs x list)) (sym (new-outputs x list))
       (same ∙ sym (new-gates x list)) (h ∙ sym (new-head x list)) p in
-      let w : z .inputs + all - 1 ≡ sumWire x (entries (outputsOf x) list) = omega (arith, r .given .laid .inputs, same) in
-      bytes-more (new x list) out one two 4 (z .inputs + all - 1) a (w ∙ sym (new-output x list)) q
+      let e : w ≡ sumWire x (entries (outputsOf x) list) = omega (arith, r .given .laid .inputs, same) in
+      bytes-more (new x list) out one two 4 w a (e ∙ sym (new-output x list)) q
 
   -- one slot more
   pub slot-written : (k : ℕ) (q : Record) (mid end first : List ℕ) → k < all → asFour q ≡ slotOf x list (k + 1)

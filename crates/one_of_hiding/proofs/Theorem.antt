@@ -1,12 +1,11 @@
 -- Theorem, one-of-hiding: two witnesses whose outputs are in the list have the output 1 of the built circuit, so demand 3's first half holds.
 -- Assumes nothing.
-use mathlib.Core.Path.{_≡_, refl, sym, ap, _∙_}
-use mathlib.Core.Bool.{true}
-use mathlib.Core.List.{List, [], _∷_}
+use mathlib.Core.Path.{_≡_, sym, ap, _∙_}
+use mathlib.Core.List.{List}
 use Prim.Native.Nat.{ℕ}
 use Rattle.bits.specs.Bits.{pack, bitAt}
 use Rattle.circuit.specs.Circuit.{Circuit, evaluate}
-use Rattle.circuit.specs.File.{legal, readCircuit}
+use Rattle.circuit.specs.File.{legal}
 use Rattle.hiding.specs.Hiding.{Witness}
 use Rattle.hiding.proofs.Theorem.{hiding}
 use Rattle.hiding.proofs.Shows.{hiding-shown}

@@ -1,9 +1,9 @@
 -- `one_of::build` meets its contract: by the gates and the length of the output.
 -- Assumes nothing.
-use Rattle.one_of.proofs.Outcomes.{products, too-many, too-short, given, all-gates, done}
-use borrow.Author.Needs.{needs}
-use native.Mathlib.Omega.{arith}
 use mathlib.Core.Path.{refl}
+use native.Mathlib.Omega.{arith}
+use borrow.Author.Needs.{needs}
+use Rattle.one_of.proofs.Outcomes.{products, too-many, too-short, given, all-gates, done}
 use Rattle.one_of.proofs.build.Statement.{statement}
 use Rattle.one_of.proofs.build.Tie as tie
 
@@ -30,7 +30,7 @@ add-if1-3 c =
 returns : tie.Need-returns
 returns c =
     let x = c .before .before .before .before .before .before in
-    too-many (x .args .s .now) (x .args .list .now) (x .args .z) (x .args .n) (x .pre .0) (x .pre .1 .0) (x .pre .1 .1 .1 .1) (x .args .out .now) (c .if1 .taken)
+    too-many (x .args .s .now) (x .args .list .now) (x .args .z) (x .args .n) (x .pre .0) (x .pre .1 .0) (x .pre .1 .1 .1 .1) (x .args .out .now) (omega (arith, c .if1 .taken))
 
 add-total : tie.Need-add-total
 add-total c =
@@ -70,14 +70,14 @@ mul-size-2 c =
 returns-2 : tie.Need-returns-2
 returns-2 c =
     let x = c .before .before .before .before .before .before .before .before .before in
-    too-short (x .args .s .now) (x .args .list .now) (x .args .z) (x .args .n) (x .pre .0) (x .pre .1 .0) (x .pre .1 .1 .1 .1) (x .pre .1 .1 .0) (c .before .before .before .if1 .left) _ refl (x .args .out .now) (c .if2 .taken)
+    too-short (x .args .s .now) (x .args .list .now) (x .args .z) (x .args .n) (x .pre .0) (x .pre .1 .0) (x .pre .1 .1 .1 .1) (x .pre .1 .1 .0) (omega (arith, c .before .before .before .if1 .left)) _ refl (x .args .out .now) (c .if2 .taken)
 
 write-file-requires : tie.Need-write-file-requires
 write-file-requires c κs =
     let x = c .before .before .before .before .before .before .before .before .before .before in
     record {
-      given = given (x .args .s .now) (x .args .list .now) (x .args .z) (x .args .n) (x .pre .0) (x .pre .1 .0) (x .pre .1 .1 .1 .1) (x .pre .1 .1 .0) (c .before .before .before .before .if1 .left) _ refl;
-      all = all-gates (x .args .s .now) (x .args .list .now) (x .args .z) (x .args .n) (x .pre .0) (x .pre .1 .0) (x .pre .1 .1 .1 .1) (x .pre .1 .1 .0) (c .before .before .before .before .if1 .left) _ refl;
+      given = given (x .args .s .now) (x .args .list .now) (x .args .z) (x .args .n) (x .pre .0) (x .pre .1 .0) (x .pre .1 .1 .1 .1) (x .pre .1 .1 .0) (omega (arith, c .before .before .before .before .if1 .left)) _ refl;
+      all = all-gates (x .args .s .now) (x .args .list .now) (x .args .z) (x .args .n) (x .pre .0) (x .pre .1 .0) (x .pre .1 .1 .1 .1) (x .pre .1 .1 .0) (omega (arith, c .before .before .before .before .if1 .left)) _ refl;
       room = c .before .if2 .left;
     }
 
@@ -87,7 +87,7 @@ same-length c = search needs
 returns-3 : tie.Need-returns-3
 returns-3 c =
     let x = c .before .before .before .before .before .before .before .before .before .before .before .before .before in
-    done (x .args .s .now) (x .args .list .now) (x .args .z) (x .args .n) (x .pre .0) (x .pre .1 .0) (x .pre .1 .1 .1 .1) (x .pre .1 .1 .0) (c .before .before .before .before .before .before .before .if1 .left) _ refl (x .args .out .now) _ (c .before .before .before .before .if2 .left) (c .before .before .write-file .ensures)
+    done (x .args .s .now) (x .args .list .now) (x .args .z) (x .args .n) (x .pre .0) (x .pre .1 .0) (x .pre .1 .1 .1 .1) (x .pre .1 .1 .0) (omega (arith, c .before .before .before .before .before .before .before .if1 .left)) _ refl (x .args .out .now) _ (c .before .before .before .before .if2 .left) (c .before .before .write-file .ensures)
 
 pub build-spec : {M : Type 1} → statement M
 build-spec =

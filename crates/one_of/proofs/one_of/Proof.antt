@@ -1,8 +1,8 @@
 -- `one_of::one_of` meets its contract: by what reading answers.
 -- Assumes nothing.
-use Rattle.one_of.proofs.Outcomes.{refused-first, read-first, lent-legal}
-use borrow.Author.Needs.{needs}
 use mathlib.Core.Path.{sym, _∙_}
+use borrow.Author.Needs.{needs}
+use Rattle.one_of.proofs.Outcomes.{refused-first, read-first, lent-legal}
 use Rattle.one_of.proofs.one_of.Statement.{statement}
 use Rattle.one_of.proofs.one_of.Tie as tie
 

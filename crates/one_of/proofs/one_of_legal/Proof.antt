@@ -1,9 +1,9 @@
 -- `one_of::one_of_legal` meets its contract: test by test.
 -- Assumes nothing.
-use Rattle.one_of.proofs.Outcomes.{empty, long, uneven, unclean, clean, sizes}
-use borrow.Author.Needs.{needs}
-use native.Mathlib.Omega.{arith}
 use mathlib.Core.Path.{_∙_}
+use native.Mathlib.Omega.{arith}
+use borrow.Author.Needs.{needs}
+use Rattle.one_of.proofs.Outcomes.{empty, long, uneven, unclean, clean, sizes}
 use Rattle.one_of.proofs.one_of_legal.Statement.{statement}
 use Rattle.one_of.proofs.one_of_legal.Tie as tie
 

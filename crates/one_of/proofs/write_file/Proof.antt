@@ -1,13 +1,13 @@
 -- `one_of::write_file` meets its contract. The loop's invariant: the header, the output and the first k slots are written.
 -- Assumes nothing.
-use Rattle.one_of.specs.OneOf.{relinked}
-use Rattle.circuit.proofs.Slots.{width-known}
-use Rattle.circuit.specs.File.{fieldsOf}
-use Rattle.one_of.proofs.Written.{Slots, header-written, slots-more, all-written}
-use borrow.Author.Needs.{needs}
-use native.Mathlib.Omega.{arith}
 use mathlib.Core.Path.{refl, ap, _∙_}
 use Prim.Native.Nat.{_-_, _≤_}
+use native.Mathlib.Omega.{arith}
+use borrow.Author.Needs.{needs}
+use Rattle.circuit.proofs.Slots.{width-known}
+use Rattle.circuit.specs.File.{fieldsOf}
+use Rattle.one_of.specs.OneOf.{relinked}
+use Rattle.one_of.proofs.Written.{Slots, header-written, slots-more, all-written}
 use Rattle.one_of.proofs.write_file.Statement.{statement}
 use Rattle.one_of.proofs.write_file.Tie as tie
 
@@ -112,7 +112,7 @@ returns : tie.Need-returns Inv-loop μ-loop
 returns c =
     let x = c .before .before .before .before .before .before .before .before .before .before .before .before .before .before .before .before .before in
     let i = c .before .loop .inv in
-    all-written (x .args .s .now) (x .args .list .now) (x .args .z) (x .args .total) (x .args .out .now) (x .pre) _ _ (omega (arith, i .0)) (i .1 .1 (x .args .out .now) (header-written (x .args .s .now) (x .args .list .now) (x .args .z) (x .args .total) (x .args .out .now) (x .pre) _ _ _ (c .before .before .before .before .before .before .before .before .before .before .before .before .relinked .ensures ∙ ap (relinked (fieldsOf (x .args .s .now))) (c .before .before .before .before .before .before .before .before .before .before .before .before .before .field .ensures)) (c .before .before .before .before .before .before .before .before .before .write-four .ensures) (c .before .before .before .before .write-u32 .ensures)))
+    all-written (x .args .s .now) (x .args .list .now) (x .args .z) (x .args .total) (x .args .out .now) (x .pre) _ _ (omega (arith, i .0)) (i .1 .1 (x .args .out .now) (header-written (x .args .s .now) (x .args .list .now) (x .args .z) (x .args .total) (x .args .out .now) (x .pre) _ _ _ _ (omega arith) (c .before .before .before .before .before .before .before .before .before .before .before .before .relinked .ensures ∙ ap (relinked (fieldsOf (x .args .s .now))) (c .before .before .before .before .before .before .before .before .before .before .before .before .before .field .ensures)) (c .before .before .before .before .before .before .before .before .before .write-four .ensures) (c .before .before .before .before .write-u32 .ensures)))
 
 pub write-file-spec : {M : Type 1} → statement M
 write-file-spec =

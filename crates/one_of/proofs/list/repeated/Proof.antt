@@ -1,14 +1,13 @@
 -- `one_of::list::repeated` meets its contract. The loop's invariant: what is gathered is the comparison with the first i entries.
 -- Assumes nothing.
+use mathlib.Core.Path.{_≡_, ap, _∙_}
+use Prim.Native.Nat.{_-_, _≤_}
+use native.Mathlib.Omega.{arith}
 use borrow.Author.Needs.{needs}
 use Rattle.bits.specs.Bits.{oct}
 use Rattle.bits.specs.Bytes.{rowOf}
 use Rattle.one_of.specs.OneOf.{among}
 use Rattle.one_of.proofs.Coded.{among-none, among-turn}
-use borrow.Author.Needs.{needs}
-use native.Mathlib.Omega.{arith}
-use mathlib.Core.Path.{_≡_, ap, _∙_}
-use Prim.Native.Nat.{_-_, _≤_}
 use Rattle.one_of.proofs.list.repeated.Statement.{statement}
 use Rattle.one_of.proofs.list.repeated.Tie as tie
 

@@ -1,13 +1,12 @@
 -- `one_of::list::unused_entries` meets its contract. The loop's invariant: what is gathered is the test of the first e entries.
 -- Assumes nothing.
+use mathlib.Core.Path.{_≡_}
+use Prim.Native.Nat.{_-_, _≤_}
+use native.Mathlib.Omega.{arith}
 use borrow.Author.Needs.{needs}
 use Rattle.bits.specs.Bits.{oct}
 use Rattle.one_of.specs.OneOf.{unusedEntries}
 use Rattle.one_of.proofs.Coded.{unused-none, unused-turn}
-use borrow.Author.Needs.{needs}
-use native.Mathlib.Omega.{arith}
-use mathlib.Core.Path.{_≡_}
-use Prim.Native.Nat.{_-_, _≤_}
 use Rattle.one_of.proofs.list.unused_entries.Statement.{statement}
 use Rattle.one_of.proofs.list.unused_entries.Tie as tie
 

@@ -1,11 +1,11 @@
 -- `one_of::records::entry_record` meets its contract: by whether the entry was listed before, and by the place of the gate.
 -- Assumes nothing.
-use Rattle.one_of.specs.OneOf.{entries}
-use Rattle.circuit.specs.File.{fieldsOf}
-use Rattle.one_of.proofs.Coded.{entry-few, top, sum-same, zero-same, entry-copy, entry-and, entry-join}
-use borrow.Author.Needs.{needs}
-use native.Mathlib.Omega.{arith}
 use mathlib.Core.Path.{_∙_}
+use native.Mathlib.Omega.{arith}
+use borrow.Author.Needs.{needs}
+use Rattle.circuit.specs.File.{fieldsOf}
+use Rattle.one_of.specs.OneOf.{entries}
+use Rattle.one_of.proofs.Coded.{entry-few, top, sum-same, zero-same, entry-copy, entry-and, entry-join}
 use Rattle.one_of.proofs.records.entry_record.Statement.{statement}
 use Rattle.one_of.proofs.records.entry_record.Tie as tie
 

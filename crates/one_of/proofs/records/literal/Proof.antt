@@ -1,11 +1,11 @@
 -- `one_of::records::literal` meets its contract: by the bit of the entry.
 -- Assumes nothing.
+use mathlib.Core.Path.{ap, _∙_}
+use native.Mathlib.Omega.{arith}
+use borrow.Author.Needs.{needs}
 use Rattle.bits.specs.Bits.{oct}
 use Rattle.circuit.specs.File.{fieldsOf}
 use Rattle.one_of.proofs.Coded.{bit-inside, literal-one, literal-zero}
-use mathlib.Core.Path.{ap, ap₂, _∙_}
-use Prim.Native.Nat.{ℕ, _+_}
-use borrow.Author.Needs.{needs}
 use Rattle.one_of.proofs.records.literal.Statement.{statement}
 use Rattle.one_of.proofs.records.literal.Tie as tie
 
@@ -44,7 +44,7 @@ returns-2 : tie.Need-returns-2
 returns-2 c =
     let x = c .before .before .before .before .before .before .before in
     literal-zero (fieldsOf (x .args .s .now)) (x .args .list .now) (x .args .e) (x .args .j) _ _ _ _ (c .before .before .before .before .oct .ensures ∙ ap oct (x .pre .0 .laid .outputs)) (c .before .before .before .row .ensures) (c .before .before .bit .ensures) (c .before .if1 .left)
-    (ap₂ (λ (i g : ℕ). i + g + x .args .j) (x .pre .0 .laid .inputs) (x .pre .0 .laid .gates))
+    (omega (arith, x .pre .0 .laid .inputs, x .pre .0 .laid .gates))
 
 pub literal-spec : {M : Type 1} → statement M
 literal-spec =

@@ -1,10 +1,10 @@
 -- `one_of::records::new_record` meets its contract: by the place of the gate.
 -- Assumes nothing.
-use Rattle.one_of.specs.OneOf.{entries}
+use native.Mathlib.Omega.{arith}
 use Rattle.circuit.proofs.Slots.{width-known}
 use Rattle.circuit.specs.File.{fieldsOf}
+use Rattle.one_of.specs.OneOf.{entries}
 use Rattle.one_of.proofs.Coded.{gate-inv, gate-zero, gate-entry, entry-place}
-use native.Mathlib.Omega.{arith}
 use Rattle.one_of.proofs.records.new_record.Statement.{statement}
 use Rattle.one_of.proofs.records.new_record.Tie as tie
 

@@ -1,7 +1,7 @@
 -- `one_of::records::old_record` meets its contract.
 -- Assumes nothing.
-use Rattle.one_of.proofs.Coded.{old-same}
 use borrow.Author.Needs.{needs}
+use Rattle.one_of.proofs.Coded.{old-same}
 use Rattle.one_of.proofs.records.old_record.Statement.{statement}
 use Rattle.one_of.proofs.records.old_record.Tie as tie
 

@@ -1,7 +1,7 @@
 -- `one_of::records::onward` meets its contract.
 -- Assumes nothing.
-use borrow.Author.Tests.{lt-ltb, le-ltb}
 use native.Mathlib.Omega.{arith}
+use borrow.Author.Tests.{lt-ltb, le-ltb}
 use Rattle.one_of.proofs.records.onward.Statement.{statement}
 use Rattle.one_of.proofs.records.onward.Tie as tie
 

@@ -1,12 +1,12 @@
 -- `one_of::records::prefix` meets its contract: by the bits before.
 -- Assumes nothing.
-use Rattle.one_of.specs.OneOf.{entries}
-use Rattle.circuit.specs.File.{fieldsOf}
-use Rattle.one_of.proofs.Coded.{prefix-first, prefix-later, entry-few, top, sum-same}
-use native.Mathlib.Omega.{arith}
 use mathlib.Core.Path.{ap, _∙_}
 use Prim.Native.Nat.{ℕ, _+_}
+use native.Mathlib.Omega.{arith}
 use borrow.Author.Needs.{needs}
+use Rattle.circuit.specs.File.{fieldsOf}
+use Rattle.one_of.specs.OneOf.{entries}
+use Rattle.one_of.proofs.Coded.{prefix-first, prefix-later, entry-few, top, sum-same}
 use Rattle.one_of.proofs.records.prefix.Statement.{statement}
 use Rattle.one_of.proofs.records.prefix.Tie as tie
 

@@ -1,10 +1,10 @@
 -- `one_of::records::relinked` meets its contract.
 -- Assumes nothing.
-use Rattle.circuit.specs.File.{fieldsOf}
-use Rattle.one_of.proofs.Coded.{relinked-last, relinked-same}
 use mathlib.Core.Path.{ap}
 use Prim.Native.Nat.{ℕ, _+_}
 use borrow.Author.Needs.{needs}
+use Rattle.circuit.specs.File.{fieldsOf}
+use Rattle.one_of.proofs.Coded.{relinked-last, relinked-same}
 use Rattle.one_of.proofs.records.relinked.Statement.{statement}
 use Rattle.one_of.proofs.records.relinked.Tie as tie
 

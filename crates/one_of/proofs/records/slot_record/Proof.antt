@@ -1,8 +1,8 @@
 -- `one_of::records::slot_record` meets its contract: an old slot, or one that is added.
 -- Assumes nothing.
+use native.Mathlib.Omega.{arith}
 use Rattle.circuit.specs.File.{fieldsOf}
 use Rattle.one_of.proofs.Coded.{slot-first, slot-added, all-same}
-use native.Mathlib.Omega.{arith}
 use Rattle.one_of.proofs.records.slot_record.Statement.{statement}
 use Rattle.one_of.proofs.records.slot_record.Tie as tie
 
