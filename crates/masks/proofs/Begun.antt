@@ -51,11 +51,11 @@ put-next m c t byte b e l =
     sym
     (ap₂ (λ (i z : ℕ). set m i (f (getD m i 0) z)) j d ∙ ap (λ (x : ℕ). set m (c + t / 8) (f x (t % 8))) (sym e) ∙ ap (set m (c + t / 8)) none)
 
--- the byte stays a byte
-pub grown-byte : (t byte : ℕ) (b : Bool) → byte < 2 ^ (t % 8) → byte + bitVal b * 2 ^ (t % 8) < 2 ^ 8
-grown-byte t byte b l =
+-- the byte stays a byte when the lowest bit of y is put into it
+pub grown-byte : (t byte y : ℕ) → byte < 2 ^ (t % 8) → byte + y % 2 * 2 ^ (t % 8) % 256 < 256
+grown-byte t byte y l =
     let h : t % 8 + 1 ≤ 8 = omega arith in
-    lt-of-lt-of-le (grown (t % 8) byte b l) (pow-mono h)
+    rw (shift-bit 8 y (t % 8) (omega arith)) (lt-of-lt-of-le (grown (t % 8) byte (odd y) l) (pow-mono h))
 
 -- an AND gate of the code: x is the bit of the product shares, w that of the output mask, v the byte that the next correction comes into
 module _ (g : Gate) (out k p c t byte a b x w v : ℕ) (m : List ℕ) (asks : Asks g out k p c t byte m) (e : g ≡ And a b) (ex : x ≡ bitVal (bitAt m p)) where

@@ -1,13 +1,9 @@
 -- `masks::chain::pass` meets its contract: in each arm the gate is that arm's.
 -- Assumes nothing.
-use mathlib.Core.Path.{_≡_, refl, ap, _∙_}
+use mathlib.Core.Path.{refl}
 use borrow.Author.Needs.{needs}
 use native.Mathlib.Omega.{arith}
-use lib.Bits.{bitXor, bitAnd}
-use lib.ListN.{getD, length-set}
-use Prim.Native.Nat.{ℕ, _+_, _*_, _%_, _^_}
-use Rattle.bits.specs.Bits.{odd}
-use Rattle.bits.proofs.Packing.{shift-bit}
+use lib.ListN.{length-set}
 use Rattle.masks.proofs.Begun.{grown-byte, and-passes}
 use Rattle.masks.proofs.chain.pass.Statement.{statement}
 use Rattle.masks.proofs.chain.pass.Tie as tie
@@ -44,12 +40,8 @@ shl-y c = search needs
 
 add-y : tie.Need-add-y
 add-y c =
-    let x = c .before .before .before .before .before .before .before .before .args in
-    let m = x .memory .now in
-    let g = c .before .before .before .before .before .gate2 .given .0 in
-    let z = x .t % 8 in
-    let d = bitXor (bitAnd (getD m (g .0) 0) (getD m (g .1 .0) 0)) (c .bit .result) in
-    record { fits = rw (shift-bit 8 d z (omega arith)) (grown-byte (x .t) (x .byte) (odd d) (c .before .before .before .before .before .before .before .before .pre .low)) }
+    let start = c .before .before .before .before .before .before .before .before in
+    record { fits = grown-byte (start .args .t) (start .args .byte) _ (start .pre .low) }
 
 add-memory : tie.Need-add-memory
 add-memory c = search needs
