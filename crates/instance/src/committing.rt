@@ -25,7 +25,13 @@ use planes::tapes::rows_in;
 use walk::layout;
 
 // h_j over the commitments of n parties; `theirs` stands for party p's (n for none).
-pub fn commit(inst: Instance, p: u32, theirs: &[u8], seeds: &[u8], corrections: &[u8]) -> [u8; 32]
+pub(crate) fn commit(
+    inst: Instance,
+    p: u32,
+    theirs: &[u8],
+    seeds: &[u8],
+    corrections: &[u8],
+) -> [u8; 32]
     requires { ⌜ (inst .parties ≤ 16) × (length (now seeds) ≡ 32 * inst .parties) ⌝ }
     ensures { λ r. ⌜ r ≡ commitmentsDigest (inst .number) (flatten (tabulate (inst .parties) (λ i. cond (eqb i p) (now (theirs .entry)) (commitmentOf (inst .number) (inst .parties) i (now (seeds .entry)) (now (corrections .entry)))))) ⌝ }
 {
@@ -46,8 +52,8 @@ pub fn commit(inst: Instance, p: u32, theirs: &[u8], seeds: &[u8], corrections: 
 }
 
 // h'_j over the masked inputs and the broadcasts in the memory, of which rows are made a group of 8 parties at a time. What then stands
-// in the place of the rows is not told.
-pub fn online(j: u32, masked: &[u8], z: Sizes, n: usize, memory: &mut [u8]) -> [u8; 32]
+// in the memory is not told.
+pub(crate) fn online(j: u32, masked: &[u8], z: Sizes, n: usize, memory: &mut [u8]) -> [u8; 32]
     requires { ⌜ Room (layoutOf z) (now memory) × ((n ≤ 64) × (rowsAt (layoutOf z) + 8 * broadcastBytes z ≤ length (now memory))) ⌝ }
     ensures { λ r. ⌜ r ≡ onlineDigest j (now (masked .entry)) (rowsSent (layoutOf z) n (broadcastBytes z) (now (memory .entry))) ⌝ }
 {

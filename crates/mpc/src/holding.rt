@@ -13,7 +13,7 @@ use planes::places::seeds_at;
 use walk::layout;
 
 // Brings the tapes of n parties into the memory.
-pub fn hold_tapes(z: Sizes, n: usize, tapes: &[u8], memory: &mut [u8])
+pub(crate) fn hold_tapes(z: Sizes, n: usize, tapes: &[u8], memory: &mut [u8])
     requires { ⌜ Placed z n (now memory) × TapesFit z n (now tapes) ⌝ }
     ensures { λ _. ⌜ now (memory .exit) ≡ withTapes z (now (tapes .entry)) (now (memory .entry)) ⌝ }
 {
