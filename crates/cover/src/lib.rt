@@ -78,7 +78,7 @@ pub fn mark(h: u32, table: &[u8], none: u8, m: usize, marks: &mut [u8])
 }
 
 // Whether node k is opened.
-pub(crate) fn is_opened(marks: &[u8], k: usize) -> bool
+pub fn is_opened(marks: &[u8], k: usize) -> bool
     requires { ⌜ k < length (now marks) ⌝ }
     ensures { λ r. ⌜ r ≡ openedBy (now (marks .entry)) k ⌝ }
 {
