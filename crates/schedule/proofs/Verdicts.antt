@@ -11,7 +11,7 @@ use lib.Dec.{ltb}
 use Rattle.bits.proofs.Numbers.{eq-or-ne}
 use Rattle.schedule.specs.Schedule.{Slot, waiting, State, isWaiting, waits, next, Outcome, goesOn, finished, Work, Service, leaves, verdictOf, workOn, verdictOn, put, serviceOf, afterService, unlessNone, empty, serve}
 use Rattle.schedule.specs.History.{Event, enter, call, isFree, afterEntry, after, servicesFrom}
-use Rattle.schedule.specs.Alone.{alone, ownIn, verdictIn, Same, Alone}
+use Rattle.schedule.specs.Alone.{alone, ownIn, verdictIn, Same, Keeps, Alone}
 use Rattle.schedule.proofs.Chain.{and-second}
 
 -- a slot put anew
@@ -23,7 +23,7 @@ pub put-other : {Job : Type 0} (slots : ℕ → Slot Job) (c : ℕ) (x : Slot Jo
 unfolding put
 put-other slots c x k ne = rw (ne-eqb k c ne)
 
-module _ {Job Verdict : Type 0} (N c : ℕ) (w : Job → Outcome Job Verdict) where
+module _ {Job Verdict : Type 0} (N c : ℕ) (w : Job → Outcome Job Verdict) (Own : Job → Type 0) (keeps : Keeps Own w) where
   -- what services give a caller that waits with j
   abbrev Right : List (Service Verdict) → Job → Type 0
   Right ss j = verdictIn c ss ≡ alone w (ownIn c ss) j
@@ -40,41 +40,42 @@ module _ {Job Verdict : Type 0} (N c : ℕ) (w : Job → Outcome Job Verdict) wh
   right-own s ss j (goesOn k) e p v r = rw (eq-eqb (s .caller) c e, v, p) (r k refl)
   right-own s ss j (finished x) e p v r = rw (eq-eqb (s .caller) c e, v, p)
 
-  module _ (work : Work Job Verdict) (same : (j : Job) → work c j ≡ w j) (rest : List (Service Verdict)) where
+  module _ (work : Work Job Verdict) (same : (j : Job) → Own j → work c j ≡ w j) (rest : List (Service Verdict)) where
     -- what remains of a call from a state on
     abbrev Onward : ℕ → State Job → Type 0
     Onward quota s =
-        (j : Job) → s .slot c ≡ waiting j → ((k : Job) → serve N work quota s .1 .slot c ≡ waiting k → Right rest k) → Right (serve N work quota s .0 ++ rest) j
+        (j : Job) → Own j → s .slot c ≡ waiting j → ((k : Job) → Own k → serve N work quota s .1 .slot c ≡ waiting k → Right rest k)
+        → Right (serve N work quota s .0 ++ rest) j
 
     abbrev turn : ℕ → State Job → Option ℕ → List (Service Verdict) × State Job
     turn quota s o =
         unlessNone o ([], s)
         (λ d. (serviceOf work d s ∷ serve N work quota (afterService work d s) .0, serve N work quota (afterService work d s) .1))
 
-    turn-right : (quota : ℕ) (s : State Job) (j : Job) → s .slot c ≡ waiting j → (o : Option ℕ) → ((d : ℕ) → Onward quota (afterService work d s))
-        → ((k : Job) → turn quota s o .1 .slot c ≡ waiting k → Right rest k) → Right (turn quota s o .0 ++ rest) j
-    turn-right quota s j h none ih r = r j h
-    turn-right quota s j h (some d) ih r =
+    turn-right : (quota : ℕ) (s : State Job) (j : Job) → Own j → s .slot c ≡ waiting j → (o : Option ℕ) → ((d : ℕ) → Onward quota (afterService work d s))
+        → ((k : Job) → Own k → turn quota s o .1 .slot c ≡ waiting k → Right rest k) → Right (turn quota s o .0 ++ rest) j
+    turn-right quota s j own h none ih r = r j own h
+    turn-right quota s j own h (some d) ih r =
         ⊎-elim
         (λ (e : d ≡ c).
         let g : s .slot d ≡ waiting j = ap (s .slot) e ∙ h in
-        let v : work d j ≡ w j = ap (λ (i : ℕ). work i j) e ∙ same j in
+        let v : work d j ≡ w j = ap (λ (i : ℕ). work i j) e ∙ same j own in
         let x : workOn (work d) (s .slot d) ≡ leaves (w j) = ap (workOn (work d)) g ∙ ap leaves v in
         right-own (serviceOf work d s) (serve N work quota (afterService work d s) .0 ++ rest) j (w j) e refl
         (ap (verdictOn (work d)) g ∙ ap verdictOf v)
         (λ k q.
         let y : put (s .slot) d (workOn (work d) (s .slot d)) c ≡ waiting k =
         ap (put (s .slot) d (workOn (work d) (s .slot d))) (sym e) ∙ put-same (s .slot) d (workOn (work d) (s .slot d)) ∙ x ∙ ap leaves q in
-        ih d k y r))
+        ih d k (keeps j k own q) y r))
         (λ (e : d ≢ c).
         right-other (serviceOf work d s) (serve N work quota (afterService work d s) .0 ++ rest) j e
-        (ih d j (put-other (s .slot) d (workOn (work d) (s .slot d)) c (λ q. e (sym q)) ∙ h) r))
+        (ih d j own (put-other (s .slot) d (workOn (work d) (s .slot d)) c (λ q. e (sym q)) ∙ h) r))
         (eq-or-ne d c)
 
     serve-right : (quota : ℕ) (s : State Job) → Onward quota s
     unfolding serve
-    serve-right zero s j h r = r j h
-    serve-right (suc quota) s j h r = turn-right quota s j h (next N (s .last) (waits s)) (λ d. serve-right quota (afterService work d s)) r
+    serve-right zero s j own h r = r j own h
+    serve-right (suc quota) s j own h r = turn-right quota s j own h (next N (s .last) (waits s)) (λ d. serve-right quota (afterService work d s)) r
 
   -- who waits is not entered anew
   entry-keeps : (s : State Job) (d : ℕ) (i j : Job) (t : Bool) → isFree N d s ≡ t → s .slot c ≡ waiting j
@@ -86,17 +87,17 @@ module _ {Job Verdict : Type 0} (N c : ℕ) (w : Job → Outcome Job Verdict) wh
       refused : c ≡ d → false ≡ true
       refused q = rw (sym q, h) at (and-second (ltb d N) (not (isWaiting (s .slot d))) e)
 
-  from-right : (s : State Job) (events : List (Event Job Verdict)) (j : Job) → s .slot c ≡ waiting j → Same c w events → Right (servicesFrom N s events) j
+  from-right : (s : State Job) (events : List (Event Job Verdict)) (j : Job) → Own j → s .slot c ≡ waiting j → Same Own c w events → Right (servicesFrom N s events) j
   unfolding servicesFrom Same afterEntry verdictIn ownIn alone
-  from-right s [] j h m = refl
-  from-right s (enter d i ∷ events) j h m = from-right (afterEntry N d i s) events j (entry-keeps s d i j (isFree N d s) refl h) m
-  from-right s (call quota work ∷ events) j h m =
-      serve-right work (m .0) (servicesFrom N (serve N work quota s .1) events) quota s j h
-      (λ k e. from-right (serve N work quota s .1) events k e (m .1))
+  from-right s [] j own h m = refl
+  from-right s (enter d i ∷ events) j own h m = from-right (afterEntry N d i s) events j own (entry-keeps s d i j (isFree N d s) refl h) m
+  from-right s (call quota work ∷ events) j own h m =
+      serve-right work (m .0) (servicesFrom N (serve N work quota s .1) events) quota s j own h
+      (λ k o e. from-right (serve N work quota s .1) events k o e (m .1))
 
 -- the verdict is the one that the job gets alone
 pub verdict-alone : Alone
 unfolding afterEntry
-verdict-alone Job Verdict N before later c j w free m =
+verdict-alone Job Verdict N before later c j w Own free own keeps m =
     let s = after N empty before in
-    from-right N c w (afterEntry N c j s) later j (rw free (put-same (s .slot) c (waiting j))) m
+    from-right N c w Own keeps (afterEntry N c j s) later j own (rw free (put-same (s .slot) c (waiting j))) m

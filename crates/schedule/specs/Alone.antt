@@ -1,5 +1,5 @@
 -- What order 9 promises of the verdicts: "the verdict is the one its proof gets alone, provided the same bytes are lent throughout".
--- The same bytes are here the same work on the caller's jobs in every call.
+-- The same bytes are here the same work in every call, on all jobs that the caller can have.
 -- Assumes nothing.
 use mathlib.Core.Path.{_≡_}
 use mathlib.Core.Bool.{true, cond}
@@ -34,17 +34,21 @@ unfoldable pub verdictIn : {Verdict : Type 0} → ℕ → List (Service Verdict)
 verdictIn c [] = none
 verdictIn c (s ∷ ss) = cond (eqb (s .caller) c) (orElse (s .verdict) (verdictIn c ss)) (verdictIn c ss)
 
--- every call of these events does the work w on the caller's jobs
-unfoldable pub Same : {Job Verdict : Type 0} → ℕ → (Job → Outcome Job Verdict) → List (Event Job Verdict) → Type 0
-Same c w [] = Unit {0}
-Same c w (enter d j ∷ events) = Same c w events
-Same {Job} c w (call quota work ∷ events) = ((j : Job) → work c j ≡ w j) × Same c w events
+-- every call of these events does the work w on the caller's jobs, which are Own
+unfoldable pub Same : {Job Verdict : Type 0} → (Job → Type 0) → ℕ → (Job → Outcome Job Verdict) → List (Event Job Verdict) → Type 0
+Same Own c w [] = Unit {0}
+Same Own c w (enter d j ∷ events) = Same Own c w events
+Same {Job} Own c w (call quota work ∷ events) = ((j : Job) → Own j → work c j ≡ w j) × Same Own c w events
 
--- A caller enters, whatever was before, and is not refused; then come any events with the same work for it.
--- Its first verdict is the one that its job gets alone by as many services, none where these do not finish it.
+-- what Own says of a job it says of the job as it goes on
+abbrev pub Keeps : {Job Verdict : Type 0} → (Job → Type 0) → (Job → Outcome Job Verdict) → Type 0
+Keeps {Job} Own w = (j k : Job) → Own j → w j ≡ goesOn k → Own k
+
+-- A caller enters, whatever was before, and is not refused; then come any events with the same work for it, of which the last may be the
+-- call with its verdict. Its first verdict is the one that its job gets alone by as many services, none where these do not finish it.
 abbrev pub Alone : Type 1
 Alone =
-    (Job Verdict : Type 0) (N : ℕ) (before later : List (Event Job Verdict)) (c : ℕ) (j : Job) (w : Job → Outcome Job Verdict) →
-    isFree N c (after N empty before) ≡ true → Same c w later →
+    (Job Verdict : Type 0) (N : ℕ) (before later : List (Event Job Verdict)) (c : ℕ) (j : Job) (w : Job → Outcome Job Verdict) (Own : Job → Type 0) →
+    isFree N c (after N empty before) ≡ true → Own j → Keeps Own w → Same Own c w later →
     verdictIn c (servicesFrom N (afterEntry N c j (after N empty before)) later)
     ≡ alone w (ownIn c (servicesFrom N (afterEntry N c j (after N empty before)) later)) j

@@ -1,0 +1,5 @@
+pub mod Histories
+pub mod Instances
+pub mod Theorem
+pub mod Entries
+pub mod Slots

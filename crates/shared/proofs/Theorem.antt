@@ -1,0 +1,209 @@
+-- The promises of order 9 over every list of entries and calls.
+-- Assumes nothing.
+use mathlib.Core.Path.{_≡_, refl, sym, ap, ap₂, _∙_, subst}
+use mathlib.Core.Bool.{Bool, true, false, cond, not, _&&_, true≢false}
+use mathlib.Core.List.{List, [], _∷_, _++_}
+use mathlib.Core.Option.{Option, none, some}
+use mathlib.Core.Logic.{_⊎_, inl, inr, ⊎-elim}
+use Prim.Native.Nat.{ℕ, zero, suc, _+_, _<_}
+use native.Mathlib.Omega.{arith}
+use lib.Dec.{leb, ltb}
+use lib.ListN.{length, getD, take, drop}
+use lib.Seq.{getD-drop}
+use Rattle.keccak.proofs.Absorbing.{Bytes}
+use Rattle.circuit.specs.Circuit.{Circuit}
+use Rattle.circuit.specs.File.{circuitOf}
+use Rattle.instance.specs.Instance.{Asked}
+use Rattle.instance.specs.Opened.{stretchCommitments, stretchOnline, stretchOutput}
+use Rattle.bits.specs.Bytes.{sameBytes}
+use Rattle.proof.specs.File.{headerM, headerN, headerHstar, masterAt, stretchAt}
+use Rattle.proof.specs.Check.{checkLegal}
+use Rattle.checking.specs.declared.stepping.Running.{Running}
+use Rattle.checking.specs.Running.{more, hstarIn}
+use Rattle.proof.proofs.Digests.{front-bytes}
+use Rattle.schedule.specs.Schedule.{State, waits, Outcome, goesOn, finished, Service, empty}
+use Rattle.schedule.specs.History as history
+use Rattle.schedule.specs.History.{Event, isFree, afterEntry, after, servicesFrom}
+use Rattle.schedule.specs.Alone.{byOutcome, alone, ownIn, verdictIn, Same}
+use Rattle.schedule.proofs.Fairness.{within, between}
+use Rattle.schedule.proofs.Verdicts.{verdict-alone}
+use Rattle.shared.specs.declared.Place.{Place}
+use Rattle.shared.specs.declared.Places.{Places}
+use Rattle.shared.specs.declared.Job.{Job}
+use Rattle.shared.specs.Service.{at, allInside, entryOf, entryAt, number, settledBoth, asks, unlessRefused, afterInstance, instanceOf, serviceAt, jobAt}
+use Rattle.shared.specs.Operations.{longWork, enterRefusal, entered, Lent, enter, call, stateAfter, servicesAfter}
+use Rattle.shared.specs.Theorem.{SameAt, Throughout, SharedChecker}
+use Rattle.shared.proofs.Histories.{isNone, takes, makes, planned, entered-is, state-planned, services-planned}
+use Rattle.shared.proofs.Instances.{told-alone}
+
+-- a proof that goes on has its places
+unfoldable Kept : Places → Outcome Job ℕ → Type 0
+Kept p (goesOn j) = j .places ≡ p
+Kept p (finished v) = Unit {0}
+
+kept-after : (proof : List ℕ) (j : Job) (d : Running) → Kept (j .places) (afterInstance proof j d)
+unfolding Kept afterInstance
+kept-after proof j d = by-case (ltb (suc (j .next)) (headerM proof))
+  where
+    by-case : (b : Bool)
+        → Kept (j .places) (cond b (goesOn (record { places = j .places; next = suc (j .next); digests = d })) (finished (cond (sameBytes (hstarIn d) (headerHstar proof)) 0 13)))
+    by-case true = refl
+    by-case false = tt
+
+kept-two : (p : Places) (a b : Bool) (x : Outcome Job ℕ) → Kept p x → Kept p (cond a (cond b x (finished 10)) (finished 13))
+unfolding Kept
+kept-two p true true x h = h
+kept-two p true false x h = tt
+kept-two p false b x h = tt
+
+kept-instance : (s y message proof : List ℕ) (j : Job) → Kept (j .places) (instanceOf s y message proof j)
+unfolding instanceOf
+kept-instance s y message proof j =
+    let c : Circuit = circuitOf s in
+    let M : ℕ = headerM proof in
+    let n : ℕ = headerN proof in
+    let ask : ℕ → Asked = asks s y message proof in
+    let i : ℕ = j .next in
+    let part : List ℕ = stretchAt c M n ask proof i in
+    let d : Running = more (settledBoth (j .digests)) (stretchCommitments c n i (masterAt M ask proof i) part (ask i)) (stretchOnline c n i part (ask i)) in
+    kept-two (j .places) (ltb i M) (stretchOutput c n i y part (ask i)) (afterInstance proof j d) (kept-after proof j d)
+
+kept-refused : (p : Places) (o : Option ℕ) (x : Outcome Job ℕ) → Kept p x → Kept p (unlessRefused o finished x)
+unfolding Kept
+kept-refused p none x a = a
+kept-refused p (some k) x a = tt
+
+kept-service : (buffer : List ℕ) (j : Job) → Kept (j .places) (serviceAt buffer j)
+unfolding serviceAt
+kept-service buffer j = kept-refused (j .places) (entryAt buffer (j .places)) _ (kept-instance _ _ _ _ j)
+
+service-keeps : (buffer : List ℕ) (p : Places) (j k : Job) → j .places ≡ p → serviceAt buffer j ≡ goesOn k → k .places ≡ p
+unfolding Kept
+service-keeps buffer p j k e q = subst (Kept (j .places)) q (kept-service buffer j) ∙ e
+
+-- bytes of the buffer
+part-bytes : (buffer : List ℕ) (p : Place) → ((i : ℕ) → getD buffer i 0 < 256) → Bytes (at buffer p)
+part-bytes buffer p h = front-bytes (p .len) (drop (p .start) buffer) (λ i. rw (getD-drop (p .start) buffer i 0) (h (p .start + i)))
+
+module _ (p : Places) (buffer : List ℕ) (ins : allInside buffer p ≡ true) where
+  -- the same bytes are served alike
+  service-same : (other : List ℕ) → SameAt p buffer other → (j : Job) → j .places ≡ p → serviceAt other j ≡ serviceAt buffer j
+  unfolding serviceAt entryAt
+  service-same other m j e = rw (e, ins, m .inside, m .circuit, m .y, m .message, m .proof)
+
+  same-planned : (t : Bool) (c quota : ℕ) (other : List ℕ) (events : List (Event Job ℕ)) → SameAt p buffer other
+      → Same (λ (j : Job). j .places ≡ p) c (serviceAt buffer) events
+      → Same (λ (j : Job). j .places ≡ p) c (serviceAt buffer) (cond t (history.call quota (λ d. serviceAt other) ∷ events) events)
+  unfolding Same
+  same-planned true c quota other events m h = (service-same other m, h)
+  same-planned false c quota other events m h = h
+
+  entry-planned : (t : Bool) (c d : ℕ) (i : Job) (events : List (Event Job ℕ))
+      → Same (λ (j : Job). j .places ≡ p) c (serviceAt buffer) events
+      → Same (λ (j : Job). j .places ≡ p) c (serviceAt buffer) (cond t (history.enter d i ∷ events) events)
+  unfolding Same
+  entry-planned true c d i events h = h
+  entry-planned false c d i events h = h
+
+  throughout-same : (c : ℕ) (events : List Lent) → Throughout p buffer events → Same (λ (j : Job). j .places ≡ p) c (serviceAt buffer) (planned events)
+  unfolding Throughout planned Same
+  throughout-same c [] h = tt
+  throughout-same c (enter d q other work ∷ events) h =
+      entry-planned (takes q other work) c d (jobAt q) (planned events) (throughout-same c events h)
+  throughout-same c (call quota other work ∷ events) h =
+      same-planned (makes quota work) c quota other (planned events) (h .0) (throughout-same c events (h .1))
+
+-- an entry that is not refused
+free-cases : (b1 b2 i l : Bool) (e : Option ℕ) → cond b1 (cond b2 (some 27) (cond i (cond l e (some 6)) (some 6))) (some 26) ≡ none
+    → (b1 && not b2 ≡ true) × ((i ≡ true) × ((l ≡ true) × (e ≡ none)))
+free-cases true false true true e q = (refl, (refl, (refl, q)))
+free-cases true false true false e q = let z : _≡_ {A = ℕ} 0 1 = cc in absurd (omega arith)
+free-cases true false false l e q = let z : _≡_ {A = ℕ} 0 1 = cc in absurd (omega arith)
+free-cases true true i l e q = let z : _≡_ {A = ℕ} 0 1 = cc in absurd (omega arith)
+free-cases false b2 i l e q = let z : _≡_ {A = ℕ} 0 1 = cc in absurd (omega arith)
+
+module _ (c : ℕ) (p : Places) (buffer work : List ℕ) (s : State Job) (e : enterRefusal c p buffer work s ≡ none) where
+  free-parts : (ltb c 16 && not (waits s c) ≡ true) × ((allInside buffer p ≡ true) × ((longWork work ≡ true) × (entryAt buffer p ≡ none)))
+  unfolding enterRefusal
+  free-parts = free-cases (ltb c 16) (waits s c) (allInside buffer p) (longWork work) (entryAt buffer p) e
+
+  free-entry : isFree 16 c s ≡ true
+  unfolding isFree
+  free-entry = free-parts .0
+
+  free-bytes : entryOf (at buffer (p .circuit)) (at buffer (p .y)) (at buffer (p .message)) (at buffer (p .proof)) ≡ none
+  unfolding entryAt
+  free-bytes = rw (free-parts .1 .0) at (free-parts .1 .1 .1)
+
+  free-entered : entered c p buffer work s ≡ afterEntry 16 c (jobAt p) s
+  free-entered =
+      entered-is c p buffer work s
+      ∙ rw (free-parts .1 .0, free-parts .1 .1 .0, free-parts .1 .1 .1)
+
+-- what a service of the entered proof does is its next instance
+module _ (buffer : List ℕ) (p : Places) (e : entryAt buffer p ≡ none) where
+  abbrev instances : Job → Outcome Job ℕ
+  instances = instanceOf (at buffer (p .circuit)) (at buffer (p .y)) (at buffer (p .message)) (at buffer (p .proof))
+
+  service-is : (j : Job) → j .places ≡ p → serviceAt buffer j ≡ instances j
+  unfolding serviceAt
+  service-is j q = rw (q, e)
+
+  outcome-same : (k : ℕ) (o : Outcome Job ℕ) → Kept p o → ((j : Job) → j .places ≡ p → alone (serviceAt buffer) k j ≡ alone instances k j)
+      → byOutcome o (alone (serviceAt buffer) k) some ≡ byOutcome o (alone instances k) some
+  unfolding Kept
+  outcome-same k (goesOn j) h ih = ih j h
+  outcome-same k (finished v) h ih = refl
+
+  alone-same : (k : ℕ) (j : Job) → j .places ≡ p → alone (serviceAt buffer) k j ≡ alone instances k j
+  unfolding alone
+  alone-same zero j q = refl
+  alone-same (suc k) j q =
+      ap (λ (o : Outcome Job ℕ). byOutcome o (alone (serviceAt buffer) k) some) (service-is j q)
+      ∙ outcome-same k (instances j) (subst (λ (x : Places). Kept x (instances j)) q (kept-instance _ _ _ _ j)) (alone-same k)
+
+start-places : (p : Places) → jobAt p .places ≡ p
+unfolding jobAt
+start-places p = refl
+
+-- the number of check's answer to the bytes at these places
+abbrev verdictOf : List ℕ → Places → ℕ
+verdictOf buffer p =
+    number (checkLegal (at buffer (p .circuit)) (at buffer (p .y)) (at buffer (p .message)) (at buffer (p .proof)) (circuitOf (at buffer (p .circuit))) .answer)
+
+-- the verdict of a proof that enters and is lent the same bytes throughout
+module _ (before later : List Lent) (c : ℕ) (p : Places) (buffer work : List ℕ) (bytes : (i : ℕ) → getD buffer i 0 < 256)
+    (e : enterRefusal c p buffer work (stateAfter empty before) ≡ none) (h : Throughout p buffer later) where
+  abbrev state : State Job
+  state = stateAfter empty before
+
+  abbrev services : List (Service ℕ)
+  services = servicesAfter (entered c p buffer work state) later
+
+  services-are : services ≡ servicesFrom 16 (afterEntry 16 c (jobAt p) (after 16 empty (planned before))) (planned later)
+  services-are =
+      services-planned (entered c p buffer work state) later
+      ∙ ap (λ (x : State Job). servicesFrom 16 x (planned later)) (free-entered c p buffer work state e ∙ ap (afterEntry 16 c (jobAt p)) (state-planned empty before))
+
+  verdict-same : verdictIn c services ≡ alone (serviceAt buffer) (ownIn c services) (jobAt p)
+  verdict-same =
+      subst (λ (x : List (Service ℕ)). verdictIn c x ≡ alone (serviceAt buffer) (ownIn c x) (jobAt p)) (sym services-are)
+      (verdict-alone Job ℕ 16 (planned before) (planned later) c (jobAt p) (serviceAt buffer) (λ (j : Job). j .places ≡ p)
+      (subst (λ (x : State Job). isFree 16 c x ≡ true) (state-planned empty before) (free-entry c p buffer work state e)) (start-places p)
+      (service-keeps buffer p) (throughout-same p buffer (free-parts c p buffer work state e .1 .0) c later h))
+
+  verdict-told : (verdictIn c services ≡ none) ⊎ (verdictIn c services ≡ some (verdictOf buffer p))
+  verdict-told =
+      let q = verdict-same ∙ alone-same buffer p (free-parts c p buffer work state e .1 .1 .1) (ownIn c services) (jobAt p) (start-places p) in
+      ⊎-elim (λ a. inl (q ∙ a)) (λ a. inr (q ∙ a))
+      (told-alone (at buffer (p .circuit)) (at buffer (p .y)) (at buffer (p .message)) (at buffer (p .proof)) (part-bytes buffer (p .proof) bytes)
+      (free-bytes c p buffer work state e) p (ownIn c services))
+
+-- the theorem
+pub shared-checker : SharedChecker
+shared-checker =
+    record {
+      within = λ events b row a c e. within Job ℕ 16 (planned events) b row a c (sym (services-planned empty events) ∙ e);
+      between = λ events b row a first second c e. between Job ℕ 16 (planned events) b row a first second c (sym (services-planned empty events) ∙ e);
+      alone = verdict-told;
+    }

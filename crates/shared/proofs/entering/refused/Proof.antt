@@ -1,0 +1,14 @@
+-- `shared::entering::refused` meets its contract.
+-- Assumes nothing.
+use mathlib.Core.Path.{refl}
+use Rattle.shared.proofs.entering.refused.Statement.{statement}
+use Rattle.shared.proofs.entering.refused.Tie as tie
+
+returns : tie.Need-returns
+returns c = (refl, refl)
+
+pub refused-spec : {M : Type 1} → statement M
+refused-spec =
+    tie.close
+    (tie.spec
+    returns)

@@ -1,0 +1,16 @@
+-- The answers of the shared checker in the document's terms.
+-- Assumes nothing.
+use mathlib.Core.Bool.{Bool, cond}
+use mathlib.Core.Option.{Option, none, some}
+use Prim.Native.Nat.{ℕ}
+use Rattle.shared.specs.declared.entering.Looked.{Looked}
+use Rattle.shared.specs.declared.entering.Looked.the-variants.{Refused, Ready}
+
+-- a refusal by its number, or none
+abbrev pub refusalOf : Bool → ℕ → Option ℕ
+refusalOf refused number = cond refused (some number) none
+
+-- the same of the tests of an entry
+abbrev pub lookedOf : Looked → Option ℕ
+lookedOf (Refused k) = some k
+lookedOf (Ready f) = none

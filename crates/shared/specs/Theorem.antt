@@ -1,0 +1,49 @@
+-- What order 9 promises, over every list of entries and calls from the empty state, each given the state that the last one left.
+-- Assumes nothing.
+use mathlib.Core.Path.{_≡_}
+use mathlib.Core.Bool.{true}
+use mathlib.Core.List.{List, [], _∷_, _++_}
+use mathlib.Core.Option.{Option, none, some}
+use mathlib.Core.Logic.{_≢_, _⊎_}
+use Prim.Native.Nat.{ℕ, _<_}
+use lib.ListN.{length, getD}
+use Rattle.circuit.specs.File.{circuitOf}
+use Rattle.proof.specs.Check.{checkLegal}
+use Rattle.schedule.specs.Schedule.{Service, empty}
+use Rattle.schedule.specs.Fair.{waitsAt, servedIn}
+use Rattle.schedule.specs.Alone.{verdictIn}
+use Rattle.shared.specs.declared.Place.{Place}
+use Rattle.shared.specs.declared.Places.{Places}
+use Rattle.shared.specs.declared.Job.{Job}
+use Rattle.shared.specs.Service.{at, allInside, number}
+use Rattle.shared.specs.Operations.{enterRefusal, entered, Lent, enter, call, stateAfter, servicesAfter}
+
+-- the same bytes at these places
+pub record SameAt (p : Places) (buffer other : List ℕ) : Type 0 where
+  pub inside : allInside other p ≡ true
+  pub circuit : at other (p .circuit) ≡ at buffer (p .circuit)
+  pub y : at other (p .y) ≡ at buffer (p .y)
+  pub message : at other (p .message) ≡ at buffer (p .message)
+  pub proof : at other (p .proof) ≡ at buffer (p .proof)
+
+-- "provided the same bytes are lent throughout": every call of these events lends them
+unfoldable pub Throughout : Places → List ℕ → List Lent → Type 0
+Throughout p buffer [] = Unit {0}
+Throughout p buffer (enter c q other work ∷ events) = Throughout p buffer events
+Throughout p buffer (call quota other work ∷ events) = SameAt p buffer other × Throughout p buffer events
+
+pub record SharedChecker : Type 0 where
+  -- "a waiting caller gets an instance within 16 services"
+  pub within : (events : List Lent) (before row after : List (Service ℕ)) (c : ℕ) → servicesAfter empty events ≡ before ++ row ++ after
+      → length row ≡ 16 → c < 16 → waitsAt c row ≡ true → servedIn c row ≡ true
+  -- "between two services of one caller every other that waits all that while gets one"
+  pub between : (events : List Lent) (before between after : List (Service ℕ)) (first second : Service ℕ) (c : ℕ)
+      → servicesAfter empty events ≡ before ++ (first ∷ between) ++ (second ∷ after) → first .caller ≡ second .caller → c ≢ first .caller
+      → waitsAt c (between ++ (second ∷ [])) ≡ true → servedIn c between ≡ true
+  -- "and the verdict is the one its proof gets alone, provided the same bytes are lent throughout": if it has one, the number of check's
+  -- answer to these bytes
+  pub alone : (before later : List Lent) (c : ℕ) (p : Places) (buffer work : List ℕ) → ((i : ℕ) → getD buffer i 0 < 256)
+      → enterRefusal c p buffer work (stateAfter empty before) ≡ none → Throughout p buffer later
+      → (verdictIn c (servicesAfter (entered c p buffer work (stateAfter empty before)) later) ≡ none)
+      ⊎ (verdictIn c (servicesAfter (entered c p buffer work (stateAfter empty before)) later)
+      ≡ some (number (checkLegal (at buffer (p .circuit)) (at buffer (p .y)) (at buffer (p .message)) (at buffer (p .proof)) (circuitOf (at buffer (p .circuit))) .answer)))

@@ -1,0 +1,184 @@
+// The entry of a proof: where its inputs lie, and the tests that it must pass.
+ghost use mathlib.Core.Path.{_≡_};
+ghost use mathlib.Core.Bool.{true};
+ghost use mathlib.Core.Option.{none, some};
+ghost use Prim.Native.Nat.{_+_, _≤_, _<_};
+ghost use lib.ListN.{length, set, replicate};
+ghost use Rattle.shared.specs.Service.{inside as «inside-def», allInside, at, entryAt, unlessRefused, jobAt};
+ghost use Rattle.shared.specs.States.{stateOf};
+ghost use Rattle.shared.specs.Operations.{enterRefusal, entered, workAfterEntry};
+ghost use Rattle.shared.specs.Answers.{refusalOf, lookedOf};
+ghost use Rattle.shared.specs.Steps.{Looking, seated};
+use crate::Job;
+use crate::Place;
+use crate::Places;
+use crate::Shared;
+use crate::job_at;
+use bits::clear;
+use checking::entering::Entry;
+use checking::entering::Shape;
+use checking::entering::test_lent;
+use circuit::ReadAnswer;
+use circuit::reading::read;
+use mpc::tests::both;
+use refusal::number;
+
+// The bytes of the work buffer.
+pub const SHARED_WORK: usize = 6436864;
+
+// What the tests of the bytes at some places answer: the number of a refusal, or the shape of a proof that passes.
+pub enum Looked {
+    Refused(u32),
+    Ready(Shape),
+}
+
+// What an entry answers, and the state that it leaves.
+pub struct Entered {
+    pub refused: bool,
+    pub number: u32,
+    pub state: Shared,
+}
+
+// Whether a place lies wholly inside the buffer.
+fn inside(buffer: &[u8], p: Place) -> bool
+    ensures { λ r. ⌜ r ≡ «inside-def» (now (buffer .entry)) p ⌝ }
+{
+    let n = buffer.len();
+    if n < p.start {
+        return false;
+    }
+    p.len <= n - p.start
+}
+
+// Whether all places do.
+pub(crate) fn all_inside(buffer: &[u8], p: Places) -> bool
+    ensures { λ r. ⌜ r ≡ allInside (now (buffer .entry)) p ⌝ }
+{
+    let a = inside(buffer, p.circuit);
+    let b = inside(buffer, p.y);
+    let c = inside(buffer, p.message);
+    let d = inside(buffer, p.proof);
+    both(a, both(b, both(c, d)))
+}
+
+// The bytes at a place.
+pub(crate) fn part(buffer: &[u8], p: Place) -> &[u8]
+    requires { ⌜ p .start + p .len ≤ length (now buffer) ⌝ }
+    ensures { λ r. ⌜ now r ≡ at (now (buffer .entry)) p ⌝ }
+{
+    let a = p.start;
+    let e = a + p.len;
+    &buffer[a..e]
+}
+
+// Tests the bytes at places inside the buffer. A table for 512 instances and marks for 1,024 nodes are lent.
+pub(crate) fn look(buffer: &[u8], p: Places, table: &mut [u8], marks: &mut [u8]) -> Looked
+    requires { ⌜ (allInside (now buffer) p ≡ true) × ((length (now table) ≡ 512) × (length (now marks) ≡ 1024)) ⌝ }
+    ensures { λ r. ⌜ lookedOf r ≡ entryAt (now (buffer .entry)) p ⌝ }
+    ensures { λ r. ⌜ Looking r (now (buffer .entry)) p (now (table .exit)) (now (marks .exit)) ⌝ }
+{
+    let s = part(buffer, p.circuit);
+    let y = part(buffer, p.y);
+    let message = part(buffer, p.message);
+    let proof = part(buffer, p.proof);
+    let answer = read(s);
+    match answer {
+        ReadAnswer::Refused(k, _) => Looked::Refused(number(k)),
+        ReadAnswer::Legal(z) => {
+            let entry = test_lent(s, z, y, message, proof, table, marks);
+            match entry {
+                Entry::Refused(k) => Looked::Refused(number(k)),
+                Entry::Taken(f) => Looked::Ready(f),
+            }
+        }
+    }
+}
+
+// The flags with that of caller i set, and the jobs with that of caller i put anew. An array that is a parameter tells its length.
+fn set_flag(flags: [bool; 16], i: usize) -> [bool; 16]
+    requires { ⌜ i < 16 ⌝ }
+    ensures { λ r. ⌜ (r ≡ set flags i true) × (length flags ≡ 16) ⌝ }
+{
+    let mut all = flags;
+    all[i] = true;
+    all
+}
+
+fn put_job(jobs: [Job; 16], i: usize, j: Job) -> [Job; 16]
+    requires { ⌜ i < 16 ⌝ }
+    ensures { λ r. ⌜ (r ≡ set jobs i j) × (length jobs ≡ 16) ⌝ }
+{
+    let mut all = jobs;
+    all[i] = j;
+    all
+}
+
+// A refused entry.
+fn refused(s: Shared, number: u32) -> Entered
+    ensures { λ r. ⌜ (refusalOf (r .refused) (r .number) ≡ some number) × (r .state ≡ s) ⌝ }
+{
+    Entered {
+        refused: true,
+        number,
+        state: s,
+    }
+}
+
+// The entry of a proof that passes all tests.
+fn seat(s: Shared, i: usize, job: Job) -> Entered
+    requires { ⌜ i < 16 ⌝ }
+    ensures { λ r. ⌜ (refusalOf (r .refused) (r .number) ≡ none) × (stateOf (r .state) ≡ seated (stateOf s) i job) ⌝ }
+{
+    let begin = s.begin;
+    let flags = s.waiting;
+    let jobs = s.jobs;
+    let all = set_flag(flags, i);
+    let put = put_job(jobs, i, job);
+    Entered {
+        refused: false,
+        number: 0,
+        state: Shared {
+            begin,
+            waiting: all,
+            jobs: put,
+        },
+    }
+}
+
+// An entry that passes the tests before the bytes: the work buffer is cleared, the bytes are tested, and the proof is put in its slot.
+fn enter_at(s: Shared, i: usize, places: Places, buffer: &[u8], work: &mut [u8]) -> Entered
+    requires { ⌜ (i < 16) × (allInside (now buffer) places ≡ true) ⌝ }
+    ensures { λ r. ⌜ (refusalOf (r .refused) (r .number) ≡ entryAt (now (buffer .entry)) places) × (stateOf (r .state) ≡ unlessRefused (entryAt (now (buffer .entry)) places) (λ _. stateOf s) (seated (stateOf s) i (jobAt places))) ⌝ }
+    ensures { λ _. ⌜ now (work .exit) ≡ replicate (length (now (work .entry))) 0 ⌝ }
+{
+    clear(work);
+    let mut table = [0u8; 512];
+    let mut marks = [0u8; 1024];
+    let looked = look(buffer, places, &mut table, &mut marks);
+    match looked {
+        Looked::Refused(k) => refused(s, k),
+        Looked::Ready(_shape) => seat(s, i, job_at(places)),
+    }
+}
+
+// A caller enters with a proof whose inputs lie at these places of the buffer. The work buffer is left all zero, but for a refusal up to
+// its test.
+pub fn enter(s: Shared, caller: u32, places: Places, buffer: &[u8], work: &mut [u8]) -> Entered
+    ensures { λ r. ⌜ (refusalOf (r .refused) (r .number) ≡ enterRefusal caller places (now (buffer .entry)) (now (work .entry)) (stateOf s)) × ((stateOf (r .state) ≡ entered caller places (now (buffer .entry)) (now (work .entry)) (stateOf s)) × (now (work .exit) ≡ workAfterEntry caller places (now (buffer .entry)) (now (work .entry)) (stateOf s))) ⌝ }
+{
+    if 15 < caller {
+        return refused(s, 26);
+    }
+    let i = caller as usize;
+    let flags = s.waiting;
+    if flags[i] {
+        return refused(s, 27);
+    }
+    if !all_inside(buffer, places) {
+        return refused(s, 6);
+    }
+    if work.len() < SHARED_WORK {
+        return refused(s, 6);
+    }
+    enter_at(s, i, places, buffer, work)
+}
