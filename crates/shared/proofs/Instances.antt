@@ -37,7 +37,7 @@ use Rattle.schedule.specs.Schedule.{Outcome, goesOn, finished}
 use Rattle.schedule.specs.Alone.{byOutcome, alone}
 use Rattle.shared.specs.declared.Places.{Places}
 use Rattle.shared.specs.declared.Job.{Job}
-use Rattle.shared.specs.Service.{number, butLate, onEntry, entryOf, settled, settledBoth, asks, afterInstance, instanceOf, jobAt}
+use Rattle.shared.specs.Service.{number, butLate, onEntry, entryOf, settled, settledBoth, asks, afterInstance, nextInstance, instanceOf, jobAt}
 
 pub none-some : {k : ℕ} → _≡_ {A = Option ℕ} (some k) none → ⊥
 none-some e = let z : _≡_ {A = ℕ} 0 1 = cc in absurd (omega arith)
@@ -167,12 +167,12 @@ module _ (s y message proof : List ℕ) (bytes : Bytes proof) (free : entryOf s 
 
     -- its output differs
     work-output : (i : ℕ) → i < M → outputs i ≡ false → work (job i) ≡ finished 10
-    unfolding instanceOf
+    unfolding instanceOf nextInstance
     work-output i l f = rw (lt-ltb i M l, f)
 
     -- it agrees
     work-agrees : (i : ℕ) → i < M → outputs i ≡ true → work (job i) ≡ afterInstance proof (job i) (running c M n ask proof (suc i))
-    unfolding instanceOf
+    unfolding instanceOf nextInstance
     work-agrees i l t = rw (lt-ltb i M l, t) (ap (afterInstance proof (job i)) (taken-in i))
 
     after-on : (i : ℕ) → suc i < M → afterInstance proof (job i) (running c M n ask proof (suc i)) ≡ goesOn (job (suc i))

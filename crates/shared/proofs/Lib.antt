@@ -3,3 +3,4 @@ pub mod Instances
 pub mod Theorem
 pub mod Entries
 pub mod Slots
+pub mod Served

@@ -30,7 +30,7 @@ use Rattle.schedule.proofs.Verdicts.{verdict-alone}
 use Rattle.shared.specs.declared.Place.{Place}
 use Rattle.shared.specs.declared.Places.{Places}
 use Rattle.shared.specs.declared.Job.{Job}
-use Rattle.shared.specs.Service.{at, allInside, entryOf, entryAt, number, settledBoth, asks, unlessRefused, afterInstance, instanceOf, serviceAt, jobAt}
+use Rattle.shared.specs.Service.{at, allInside, entryOf, entryAt, number, settledBoth, asks, unlessRefused, afterInstance, nextInstance, instanceOf, serviceAt, jobAt}
 use Rattle.shared.specs.Operations.{longWork, enterRefusal, entered, Lent, enter, call, stateAfter, servicesAfter}
 use Rattle.shared.specs.Theorem.{SameAt, Throughout, SharedChecker}
 use Rattle.shared.proofs.Histories.{isNone, takes, makes, planned, entered-is, state-planned, services-planned}
@@ -57,7 +57,7 @@ kept-two p true false x h = tt
 kept-two p false b x h = tt
 
 kept-instance : (s y message proof : List ℕ) (j : Job) → Kept (j .places) (instanceOf s y message proof j)
-unfolding instanceOf
+unfolding instanceOf nextInstance
 kept-instance s y message proof j =
     let c : Circuit = circuitOf s in
     let M : ℕ = headerM proof in

@@ -3,6 +3,9 @@
 use mathlib.Core.Bool.{Bool, cond}
 use mathlib.Core.Option.{Option, none, some}
 use Prim.Native.Nat.{ℕ}
+use Rattle.schedule.specs.Schedule.{Outcome, goesOn, finished}
+use Rattle.shared.specs.declared.Job.{Job}
+use Rattle.shared.specs.declared.serving.Served.{Served}
 use Rattle.shared.specs.declared.entering.Looked.{Looked}
 use Rattle.shared.specs.declared.entering.Looked.the-variants.{Refused, Ready}
 
@@ -14,3 +17,7 @@ refusalOf refused number = cond refused (some number) none
 abbrev pub lookedOf : Looked → Option ℕ
 lookedOf (Refused k) = some k
 lookedOf (Ready f) = none
+
+-- what a service gives
+abbrev pub outcomeOf : Served → Outcome Job ℕ
+outcomeOf s = cond (s .done) (finished (s .verdict)) (goesOn (s .job))

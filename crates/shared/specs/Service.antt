@@ -77,13 +77,9 @@ afterInstance proof job d =
     cond (ltb (suc (job .next)) (headerM proof)) (goesOn (record { places = job .places; next = suc (job .next); digests = d }))
     (finished (cond (sameBytes (hstarIn d) (headerHstar proof)) 0 13))
 
--- the next instance of a proof that is not refused on entry: "its first 10" finishes it; so does, with 13, a header with fewer instances
-unfoldable pub instanceOf : List ℕ → List ℕ → List ℕ → List ℕ → Job → Outcome Job ℕ
-instanceOf s y message proof job =
-    let c : Circuit = circuitOf s in
-    let M : ℕ = headerM proof in
-    let n : ℕ = headerN proof in
-    let ask : ℕ → Asked = asks s y message proof in
+-- the next instance of a proof of M instances with n parties: "its first 10" finishes it; so does, with 13, a header with fewer instances
+unfoldable pub nextInstance : Circuit → ℕ → ℕ → (ℕ → Asked) → List ℕ → List ℕ → Job → Outcome Job ℕ
+nextInstance c M n ask y proof job =
     let j : ℕ = job .next in
     let part : List ℕ = stretchAt c M n ask proof j in
     cond (ltb j M)
@@ -91,6 +87,10 @@ instanceOf s y message proof job =
     (afterInstance proof job (more (settledBoth (job .digests)) (stretchCommitments c n j (masterAt M ask proof j) part (ask j)) (stretchOnline c n j part (ask j))))
     (finished 10))
     (finished 13)
+
+-- of a proof that is not refused on entry
+unfoldable pub instanceOf : List ℕ → List ℕ → List ℕ → List ℕ → Job → Outcome Job ℕ
+instanceOf s y message proof job = nextInstance (circuitOf s) (headerM proof) (headerN proof) (asks s y message proof) y proof job
 
 abbrev pub unlessRefused : {A : Type 0} → Option ℕ → (ℕ → A) → A → A
 unlessRefused none f a = a

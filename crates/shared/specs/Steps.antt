@@ -1,15 +1,19 @@
 -- What only the contracts of steps use: no definition of the paper stands here.
 -- Assumes nothing.
+use mathlib.Core.Path.{_≡_}
+use mathlib.Core.Bool.{true}
 use mathlib.Core.List.{List}
 use Prim.Native.Nat.{ℕ}
-use Rattle.schedule.specs.Schedule.{State, waiting, put}
+use lib.ListN.{length}
+use Rattle.schedule.specs.Schedule.{State, waiting, put, Outcome}
+use Rattle.checking.specs.declared.entering.Shape.{Shape}
 use Rattle.checking.specs.Steps.{inTable, inMarks}
 use Rattle.checking.specs.Steps as steps
 use Rattle.shared.specs.declared.Places.{Places}
 use Rattle.shared.specs.declared.Job.{Job}
 use Rattle.shared.specs.declared.entering.Looked.{Looked}
 use Rattle.shared.specs.declared.entering.Looked.the-variants.{Refused, Ready}
-use Rattle.shared.specs.Service.{at}
+use Rattle.shared.specs.Service.{at, allInside, instanceOf}
 
 -- what the tests leave in the table and the marks, where the bytes at these places pass
 abbrev pub Looking : Looked → List ℕ → Places → List ℕ → List ℕ → Type 0
@@ -20,3 +24,15 @@ Looking (Ready f) buffer p table marks =
 -- the state with a proof of caller c put in its slot
 unfoldable pub seated : State Job → ℕ → Job → State Job
 seated s c j = record { last = s .last; slot = put (s .slot) c (waiting j) }
+
+-- a proof at these places that passes the tests, with its table and its marks in front of longer ones
+pub record ReadyAt (f : Shape) (buffer : List ℕ) (p : Places) (table marks : List ℕ) : Type 0 where
+  pub inside : allInside buffer p ≡ true
+  pub ready : steps.Ready (at buffer (p .circuit)) f (at buffer (p .y)) (at buffer (p .message)) (at buffer (p .proof)) (inTable table f) (inMarks marks f)
+  pub entries : length table ≡ 512
+  pub nodes : length marks ≡ 1024
+
+-- the next instance of a proof by its places
+unfoldable pub instanceAt : List ℕ → Job → Outcome Job ℕ
+instanceAt buffer job =
+    instanceOf (at buffer (job .places .circuit)) (at buffer (job .places .y)) (at buffer (job .places .message)) (at buffer (job .places .proof)) job

@@ -5,6 +5,7 @@ ghost use Rattle.shared.specs.Service.{jobAt};
 ghost use Rattle.shared.specs.States.{stateOf};
 
 pub mod entering;
+pub mod serving;
 
 use checking::stepping::Running;
 use checking::stepping::start_digests;
