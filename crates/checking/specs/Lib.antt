@@ -1,3 +1,3 @@
 pub mod Answers
-pub mod Running
+pub mod DigestSteps
 pub mod Steps

@@ -4,7 +4,7 @@ use mathlib.Core.Bool.{Bool}
 use mathlib.Core.List.{List}
 use Prim.Native.Nat.{ℕ, _-_}
 use Rattle.schedule.specs.Schedule.{numbers, firstOf}
-use Rattle.schedule.specs.Callers.{flagged, numberOf}
+use Rattle.schedule.specs.CallerSteps.{flagged, numberOf}
 
 -- the first flagged one of the callers from a up to e
 unfoldable pub firstWaiting : List Bool → ℕ → ℕ → ℕ

@@ -2,7 +2,7 @@
 ghost use mathlib.Core.Path.{_≡_};
 ghost use Prim.Native.Nat.{_≤_};
 ghost use Rattle.schedule.specs.Schedule.{begin as «begin-of»};
-ghost use Rattle.schedule.specs.Callers.{lastServed, nextCaller};
+ghost use Rattle.schedule.specs.CallerSteps.{lastServed, nextCaller};
 ghost use Rattle.schedule.specs.Steps.{firstWaiting};
 
 // The callers.

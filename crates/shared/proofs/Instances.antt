@@ -28,7 +28,7 @@ use Rattle.proof.specs.File.{headerM, headerTau, headerN, headerHstar, goodHead
 use Rattle.proof.specs.Check.{every, checkLegal}
 use Rattle.proof.proofs.Passing.{every-at}
 use Rattle.checking.specs.declared.stepping.Running.{Running}
-use Rattle.checking.specs.Running.{started, more, hstarIn}
+use Rattle.checking.specs.DigestSteps.{started, more, hstarIn}
 use Rattle.checking.specs.Steps.{allUnused, outputAt, commitmentsAt, onlineAt, recomputed, tested, judged, legalTests}
 use Rattle.checking.proofs.Headers.{header-counts}
 use Rattle.checking.proofs.Outcomes.{check-tests}

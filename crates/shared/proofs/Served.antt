@@ -25,7 +25,7 @@ use Rattle.shared.specs.Steps.{ReadyAt, instanceAt}
 use Rattle.instance.specs.Instance.{Asked}
 use Rattle.proof.specs.File.{headerM, headerHstar}
 use Rattle.checking.specs.declared.stepping.Running.{Running}
-use Rattle.checking.specs.Running.{more, hstarIn}
+use Rattle.checking.specs.DigestSteps.{more, hstarIn}
 use Rattle.checking.specs.Steps.{outputAt, commitmentsAt, onlineAt, Tested}
 use Rattle.schedule.specs.Schedule.{Outcome, goesOn, finished}
 use Rattle.shared.specs.declared.Job.{Job}

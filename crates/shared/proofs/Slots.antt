@@ -14,9 +14,9 @@ use lib.Seq.{getD-set-same, getD-set-other}
 use Rattle.bits.proofs.Numbers.{eq-or-ne}
 use Rattle.schedule.specs.Schedule.{Slot, idle, waiting, isWaiting, State, empty, waits, put}
 use Rattle.schedule.specs.History.{isFree, afterEntry}
-use Rattle.schedule.specs.Callers.{flagged, lastServed}
+use Rattle.schedule.specs.CallerSteps.{flagged, lastServed}
 use Rattle.checking.specs.declared.stepping.Running.{Running}
-use Rattle.checking.specs.Running.{started}
+use Rattle.checking.specs.DigestSteps.{started}
 use Rattle.shared.specs.declared.Places.{Places}
 use Rattle.shared.specs.declared.Job.{Job}
 use Rattle.shared.specs.declared.Shared.{Shared}

@@ -19,7 +19,7 @@ use Rattle.bits.specs.Bytes.{sameBytes}
 use Rattle.proof.specs.File.{headerM, headerN, headerHstar, masterAt, stretchAt}
 use Rattle.proof.specs.Check.{checkLegal}
 use Rattle.checking.specs.declared.stepping.Running.{Running}
-use Rattle.checking.specs.Running.{more, hstarIn}
+use Rattle.checking.specs.DigestSteps.{more, hstarIn}
 use Rattle.proof.proofs.Digests.{front-bytes}
 use Rattle.schedule.specs.Schedule.{State, waits, Outcome, goesOn, finished, Service, empty}
 use Rattle.schedule.specs.History as history

@@ -8,7 +8,7 @@ use lib.Dec.{leb, ltb}
 use lib.ListN.{length, replicate}
 use Rattle.schedule.specs.Schedule.{State, Service, empty, waits, next, unlessNone, serve}
 use Rattle.schedule.specs.History.{afterEntry}
-use Rattle.schedule.specs.Callers.{callers}
+use Rattle.schedule.specs.CallerSteps.{callers}
 use Rattle.shared.specs.declared.Places.{Places}
 use Rattle.shared.specs.declared.Job.{Job}
 use Rattle.shared.specs.Service.{allInside, entryAt, unlessRefused, serviceAt, jobAt}

@@ -1,3 +1,4 @@
+-- What only the contracts of steps use: no definition of the paper stands here.
 -- The schedule of 16 callers over flags: who waits, and with whom to begin.
 -- Assumes nothing.
 use mathlib.Core.Bool.{Bool, false, cond}
