@@ -1,8 +1,9 @@
 -- One service in the code, by its cases.
 -- Assumes nothing.
-use mathlib.Core.Path.{_≡_, refl, sym, ap, ap₂, _∙_}
+use mathlib.Core.Path.{_≡_, refl, sym, ap, ap₂, _∙_, subst}
 use mathlib.Core.Bool.{Bool, true, false, cond, not}
 use mathlib.Core.List.{List, [], _∷_}
+use mathlib.Core.Option.{Option, none, some}
 use Prim.Native.Nat.{ℕ, suc, _+_, _*_, _%_, _^_, _≤_, _<_}
 use lib.ListN.{length, take}
 use native.Mathlib.Numerals.{add-one}
@@ -21,7 +22,10 @@ use Rattle.cover.specs.Masters.{height}
 use Rattle.proof.specs.Protocol.{statementOf, challenged}
 use Rattle.proof.specs.Steps.{asksIn}
 use Rattle.checking.specs.declared.entering.Shape.{Shape}
-use Rattle.shared.specs.Steps.{ReadyAt, instanceAt}
+use Rattle.shared.specs.declared.Places.{Places}
+use Rattle.shared.specs.declared.entering.Looked.{Looked}
+use Rattle.shared.specs.declared.entering.Looked.the-variants as looked
+use Rattle.shared.specs.Steps.{Looking, ReadyAt, instanceAt}
 use Rattle.instance.specs.Instance.{Asked}
 use Rattle.proof.specs.File.{headerM, headerHstar}
 use Rattle.checking.specs.declared.stepping.Running.{Running}
@@ -29,7 +33,7 @@ use Rattle.checking.specs.DigestSteps.{more, hstarIn}
 use Rattle.checking.specs.Steps.{outputAt, commitmentsAt, onlineAt, Tested}
 use Rattle.schedule.specs.Schedule.{Outcome, goesOn, finished}
 use Rattle.shared.specs.declared.Job.{Job}
-use Rattle.shared.specs.Service.{settled, settledBoth, at, afterInstance, nextInstance, instanceOf}
+use Rattle.shared.specs.Service.{settled, settledBoth, at, allInside, entryAt, unlessRefused, afterInstance, nextInstance, instanceOf, serviceAt}
 
 -- settled sponges
 pub both-made : (d : Running) (a b : Sponge) → a ≡ settled (d .commitments) → b ≡ settled (d .online)
@@ -124,3 +128,26 @@ module _ (f : Shape) (buffer : List ℕ) (job : Job) (table marks : List ℕ) (t
       ∙ (ap (λ (a : ℕ → Asked). nextInstance (circuitOf S) (f .counts .instances) (f .counts .parties) a Y P job) (t .ready .asks)
       ∙ (ap (λ (m : ℕ). nextInstance (circuitOf S) m (f .counts .parties) (challenged m (f .counts .chosen) (f .counts .parties) (headerHstar P) (statementOf m (f .counts .chosen) (f .counts .parties) S Y X)) Y P job) (h .is-M)
       ∙ ap₂ (λ (u q : ℕ). nextInstance (circuitOf S) (headerM P) q (challenged (headerM P) u q (headerHstar P) (statementOf (headerM P) u q S Y X)) Y P job) (h .is-tau) (h .is-n))))
+
+-- a service is its next instance, unless its bytes are refused
+by-instance : (buffer : List ℕ) (job : Job) → unlessRefused (entryAt buffer (job .places)) finished (instanceAt buffer job) ≡ serviceAt buffer job
+unfolding serviceAt instanceAt
+by-instance buffer job = refl
+
+-- a service, by its tests
+module _ (buffer : List ℕ) (job : Job) where
+  pub service-outside : allInside buffer (job .places) ≡ false → (o : Outcome Job ℕ) → o ≡ finished 6 → o ≡ serviceAt buffer job
+  unfolding serviceAt entryAt
+  service-outside e o q = q ∙ rw e refl
+
+  pub service-refused : (k : ℕ) → some k ≡ entryAt buffer (job .places) → (o : Outcome Job ℕ) → o ≡ finished k → o ≡ serviceAt buffer job
+  service-refused k e o q = q ∙ ap (λ (x : Option ℕ). unlessRefused x finished (instanceAt buffer job)) e ∙ by-instance buffer job
+
+  pub service-ready : none ≡ entryAt buffer (job .places) → (o : Outcome Job ℕ) → o ≡ instanceAt buffer job → o ≡ serviceAt buffer job
+  service-ready e o q = q ∙ ap (λ (x : Option ℕ). unlessRefused x finished (instanceAt buffer job)) e ∙ by-instance buffer job
+
+-- what the tests leave is what the next instance needs
+pub ready-at : (r : Looked) (f : Shape) (buffer : List ℕ) (p : Places) (table marks : List ℕ) → Looking r buffer p table marks → r ≡ looked.Ready f
+    → allInside buffer p ≡ true → length table ≡ 512 → length marks ≡ 1024 → ReadyAt f buffer p table marks
+ready-at r f buffer p table marks h q i a b =
+    record { inside = i; ready = subst (λ (x : Looked). Looking x buffer p table marks) q h; entries = a; nodes = b }
