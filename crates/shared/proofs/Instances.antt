@@ -235,3 +235,36 @@ module _ (s y message proof : List ℕ) (bytes : Bytes proof) (free : entryOf s 
     -- a proof that enters
     pub told-alone : (k : ℕ) → (alone work k (jobAt p) ≡ none) ⊎ (alone work k (jobAt p) ≡ some verdict)
     told-alone k = subst (Told k) start-job (told k 0 some-instance every-zero)
+
+    -- with as many services as it has instances it has its verdict
+    abbrev Ends : ℕ → Job → Type 0
+    Ends k j = alone work k j ≡ some verdict
+
+    ends-finished : (k v : ℕ) (j : Job) → work j ≡ finished v → verdict ≡ v → Ends (suc k) j
+    unfolding alone
+    ends-finished k v j e q = ap (λ (o : Outcome Job ℕ). byOutcome o (alone work k) some) e ∙ ap some (sym q)
+
+    ends-on : (k : ℕ) (j i : Job) → work j ≡ goesOn i → Ends k i → Ends (suc k) j
+    unfolding alone
+    ends-on k j i e t = ap (λ (o : Outcome Job ℕ). byOutcome o (alone work k) some) e ∙ t
+
+    ends-agrees : (k i : ℕ) → i < M → every i outputs ≡ true → outputs i ≡ true → (suc i < M → Ends k (job (suc i))) → Ends (suc k) (job i)
+    ends-agrees k i l a t ih =
+        ⊎-elim
+        (λ (m : suc i < M). ends-on k (job i) (job (suc i)) (work-agrees i l t ∙ after-on i m) (ih m))
+        (λ (m : M ≤ suc i).
+        let e : suc i ≡ M = omega arith in
+        ends-finished k _ (job i) (work-agrees i l t ∙ after-last i e) (verdict-digest (ap (λ (x : ℕ). every x outputs) (sym e) ∙ every-more i a t)))
+        (lt-or-le (suc i) M)
+
+    ends-case : (k i : ℕ) → i < M → every i outputs ≡ true → (every (suc i) outputs ≡ true → suc i < M → Ends k (job (suc i))) → (b : Bool) → outputs i ≡ b
+        → Ends (suc k) (job i)
+    ends-case k i l a ih true t = ends-agrees k i l a t (ih (every-more i a t))
+    ends-case k i l a ih false f = ends-finished k 10 (job i) (work-output i l f) (verdict-output i l f)
+
+    ends : (k i : ℕ) → i < M → every i outputs ≡ true → M ≤ i + k → Ends k (job i)
+    ends zero i l a u = absurd (omega arith)
+    ends (suc k) i l a u = ends-case k i l a (λ e m. ends k (suc i) m e (omega arith)) (outputs i) refl
+
+    pub ends-alone : (k : ℕ) → M ≤ k → alone work k (jobAt p) ≡ some verdict
+    ends-alone k u = subst (Ends k) start-job (ends k 0 some-instance every-zero (omega arith))

@@ -5,7 +5,7 @@ use mathlib.Core.Bool.{Bool, true, false, cond, not, _&&_, true≢false}
 use mathlib.Core.List.{List, [], _∷_, _++_}
 use mathlib.Core.Option.{Option, none, some}
 use mathlib.Core.Logic.{_⊎_, inl, inr, ⊎-elim}
-use Prim.Native.Nat.{ℕ, zero, suc, _+_, _<_}
+use Prim.Native.Nat.{ℕ, zero, suc, _+_, _≤_, _<_}
 use native.Mathlib.Omega.{arith}
 use lib.Dec.{leb, ltb}
 use lib.ListN.{length, getD, take, drop}
@@ -34,7 +34,7 @@ use Rattle.shared.specs.Service.{at, allInside, entryOf, entryAt, number
 use Rattle.shared.specs.Operations.{longWork, enterRefusal, entered, Lent, enter, call, stateAfter, servicesAfter}
 use Rattle.shared.specs.Theorem.{SameAt, Throughout, SharedChecker}
 use Rattle.shared.proofs.Histories.{isNone, takes, makes, planned, entered-is, state-planned, services-planned}
-use Rattle.shared.proofs.Instances.{told-alone}
+use Rattle.shared.proofs.Instances.{told-alone, ends-alone}
 
 -- a proof that goes on has its places
 unfoldable Kept : Places → Outcome Job ℕ → Type 0
@@ -199,6 +199,13 @@ module _ (before later : List Lent) (c : ℕ) (p : Places) (buffer work : List �
       (told-alone (at buffer (p .circuit)) (at buffer (p .y)) (at buffer (p .message)) (at buffer (p .proof)) (part-bytes buffer (p .proof) bytes)
       (free-bytes c p buffer work state e) p (ownIn c services))
 
+  verdict-ends : headerM (at buffer (p .proof)) ≤ ownIn c services → verdictIn c services ≡ some (verdictOf buffer p)
+  verdict-ends l =
+      verdict-same
+      ∙ (alone-same buffer p (free-parts c p buffer work state e .1 .1 .1) (ownIn c services) (jobAt p) (start-places p)
+      ∙ ends-alone (at buffer (p .circuit)) (at buffer (p .y)) (at buffer (p .message)) (at buffer (p .proof)) (part-bytes buffer (p .proof) bytes)
+      (free-bytes c p buffer work state e) p (ownIn c services) l)
+
 -- the theorem
 pub shared-checker : SharedChecker
 shared-checker =
@@ -206,4 +213,5 @@ shared-checker =
       within = λ events b row a c e. within Job ℕ 16 (planned events) b row a c (sym (services-planned empty events) ∙ e);
       between = λ events b row a first second c e. between Job ℕ 16 (planned events) b row a first second c (sym (services-planned empty events) ∙ e);
       alone = verdict-told;
+      ends = verdict-ends;
     }

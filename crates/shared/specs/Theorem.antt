@@ -5,13 +5,14 @@ use mathlib.Core.Bool.{true}
 use mathlib.Core.List.{List, [], _∷_, _++_}
 use mathlib.Core.Option.{Option, none, some}
 use mathlib.Core.Logic.{_≢_, _⊎_}
-use Prim.Native.Nat.{ℕ, _<_}
+use Prim.Native.Nat.{ℕ, _≤_, _<_}
 use lib.ListN.{length, getD}
 use Rattle.circuit.specs.File.{circuitOf}
+use Rattle.proof.specs.File.{headerM}
 use Rattle.proof.specs.Check.{checkLegal}
 use Rattle.schedule.specs.Schedule.{Service, empty}
 use Rattle.schedule.specs.Fair.{waitsAt, servedIn}
-use Rattle.schedule.specs.Alone.{verdictIn}
+use Rattle.schedule.specs.Alone.{ownIn, verdictIn}
 use Rattle.shared.specs.declared.Place.{Place}
 use Rattle.shared.specs.declared.Places.{Places}
 use Rattle.shared.specs.declared.Job.{Job}
@@ -47,3 +48,9 @@ pub record SharedChecker : Type 0 where
       → (verdictIn c (servicesAfter (entered c p buffer work (stateAfter empty before)) later) ≡ none)
       ⊎ (verdictIn c (servicesAfter (entered c p buffer work (stateAfter empty before)) later)
       ≡ some (number (checkLegal (at buffer (p .circuit)) (at buffer (p .y)) (at buffer (p .message)) (at buffer (p .proof)) (circuitOf (at buffer (p .circuit))) .answer)))
+  -- and it has one by the time that it has had as many services as its header says instances
+  pub ends : (before later : List Lent) (c : ℕ) (p : Places) (buffer work : List ℕ) → ((i : ℕ) → getD buffer i 0 < 256)
+      → enterRefusal c p buffer work (stateAfter empty before) ≡ none → Throughout p buffer later
+      → headerM (at buffer (p .proof)) ≤ ownIn c (servicesAfter (entered c p buffer work (stateAfter empty before)) later)
+      → verdictIn c (servicesAfter (entered c p buffer work (stateAfter empty before)) later)
+      ≡ some (number (checkLegal (at buffer (p .circuit)) (at buffer (p .y)) (at buffer (p .message)) (at buffer (p .proof)) (circuitOf (at buffer (p .circuit))) .answer))
