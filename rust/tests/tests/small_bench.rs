@@ -1,5 +1,6 @@
 //! The test bench over every small circuit: each of them with every witness, every
-//! number of parties and every hidden party.
+//! number of parties and every hidden party. Partners are counted for rows of at most
+//! 4 bits, with 2 and 4 parties.
 
 use std::collections::BTreeMap;
 use tests::calls::{used_bits, Call, Setting};
