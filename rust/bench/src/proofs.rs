@@ -207,11 +207,13 @@ fn rows<'a>(example: &'a Example, counts: Counts, openssl: Option<&'a OpenSsl>) 
 fn cells(amount: usize, [ours, second, hashing]: [Option<f64>; 3]) -> [String; 6] {
     let milliseconds = |seconds: Option<f64>| seconds.map(|seconds| seconds * 1e3);
     let ratio = |other: Option<f64>| ours.zip(other).map(|(a, b)| a / b);
+    let ands = ours.filter(|_| amount > 0);
+    let each = ands.map(|ours| nanoseconds_each(ours, amount as f64));
     [
         cell(milliseconds(ours), 2),
         cell(milliseconds(second), 2),
         cell(milliseconds(hashing), 2),
-        cell(ours.map(|ours| nanoseconds_each(ours, amount as f64)), 2),
+        cell(each, 2),
         cell(ratio(hashing), 2),
         cell(ratio(second), 2),
     ]
@@ -273,9 +275,11 @@ const PRICE_COUNTS: Counts = Counts {
 };
 
 /// Pricing circuits of 9,000 and of 90,000 gates side by side: time and memory, and how
-/// far from linear the time is.
+/// far from linear the time is. What a proof of one gate takes (seeds, commitments, the
+/// masters' tree) does not grow with the circuit; the rest is the time of the AND gates.
 fn print_prices(openssl: Option<&OpenSsl>) {
     let examples = [
+        Example::price("1 gate", 1),
         Example::price("9000 gates", 9_000),
         Example::price("90000 gates", 90_000),
     ];
@@ -283,13 +287,21 @@ fn print_prices(openssl: Option<&OpenSsl>) {
         .iter()
         .flat_map(|example| rows(example, PRICE_COUNTS, openssl));
     let mut rows: Vec<Row> = rows.collect();
-    let best = print_rows(&mut rows, 3, openssl);
-    let each = |row: usize| best[row][0].expect("a time") / rows[row].amount as f64;
-    let [prove, check] = [0, 1].map(|row| each(row + 2) / each(row));
-    println!(
-        "90000 against 9000 gates, the time for each AND gate: prove {prove:.2}, check {check:.2}"
-    );
-    for example in &examples {
+    let best = print_rows(&mut rows, 5, openssl);
+    let seconds = |row: usize| best[row][0].expect("a time");
+    let whole = |row: usize| seconds(row) / rows[row].amount as f64;
+    let grown = |row: usize, fixed: f64| (seconds(row) - fixed) / rows[row].amount as f64;
+    for (operation, row) in [("prove", 0), ("check", 1)] {
+        let fixed = seconds(row);
+        println!(
+            "90000 against 9000 gates, {operation}, the time for each AND gate: {:.2}; without the \
+             {:.2} ms of 1 gate: {:.2}",
+            whole(row + 4) / whole(row + 2),
+            1e3 * fixed,
+            grown(row + 4, fixed) / grown(row + 2, fixed),
+        );
+    }
+    for example in &examples[1..] {
         print_memory(example);
     }
     println!();
