@@ -1,6 +1,5 @@
 //! The test bench over every small circuit: each of them with every witness, every
-//! number of parties and every hidden party. Partners are counted for rows of at most
-//! 4 bits, with 2 and 4 parties.
+//! number of parties and every hidden party.
 
 use std::collections::BTreeMap;
 use tests::calls::{used_bits, Call, Setting};
@@ -161,16 +160,14 @@ fn count_partners(setting: &Setting, p: u32) -> usize {
     pairs
 }
 
-/// The circuits whose rows have at most 4 bits, with each of these parties hidden.
-fn partners_of(n: u32, parties: &[u32]) {
+/// Every circuit, with each party hidden in turn.
+fn partners_of(n: u32) {
     let mut random = Random::new(u64::from(n) + 200);
     let mut pairs = 0;
     for circuit in circuits() {
         let setting = Setting::of_circuit(&mut random, &circuit, n);
-        if setting.sizes.inputs + 2 * setting.sizes.ands <= 4 {
-            for &p in parties {
-                pairs += count_partners(&setting, p);
-            }
+        for p in 0..n {
+            pairs += count_partners(&setting, p);
         }
     }
     assert!(pairs > 1_000, "{pairs}");
@@ -178,10 +175,20 @@ fn partners_of(n: u32, parties: &[u32]) {
 
 #[test]
 fn partners_of_2_parties() {
-    partners_of(2, &[0, 1]);
+    partners_of(2);
 }
 
 #[test]
 fn partners_of_4_parties() {
-    partners_of(4, &[1, 3]);
+    partners_of(4);
+}
+
+#[test]
+fn partners_of_8_parties() {
+    partners_of(8);
+}
+
+#[test]
+fn partners_of_16_parties() {
+    partners_of(16);
 }
