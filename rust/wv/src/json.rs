@@ -12,6 +12,8 @@ pub enum Value {
     Number(String),
     /// A text.
     Text(String),
+    /// Keys with their values.
+    Object(Vec<(String, Value)>),
 }
 
 impl From<bool> for Value {
@@ -66,10 +68,15 @@ impl Object {
 
     /// The object on a line, with the line's end.
     pub fn line(&self) -> String {
-        let shown = |(key, value): &(&str, Value)| format!("{}:{}", quoted(key), text(value));
-        let pairs: Vec<String> = self.0.iter().map(shown).collect();
-        format!("{{{}}}\n", pairs.join(","))
+        object(self.0.iter().map(|(key, value)| (*key, value))) + "\n"
     }
+}
+
+fn object<'a>(pairs: impl Iterator<Item = (&'a str, &'a Value)>) -> String {
+    let pairs: Vec<String> = pairs
+        .map(|(key, value)| format!("{}:{}", quoted(key), text(value)))
+        .collect();
+    format!("{{{}}}", pairs.join(","))
 }
 
 fn text(value: &Value) -> String {
@@ -78,6 +85,7 @@ fn text(value: &Value) -> String {
         Value::Bool(value) => value.to_string(),
         Value::Number(digits) => digits.clone(),
         Value::Text(text) => quoted(text),
+        Value::Object(pairs) => object(pairs.iter().map(|(key, value)| (key.as_str(), value))),
     }
 }
 
@@ -111,8 +119,13 @@ mod tests {
         object.set("message", "a \"b\" \\ ü\n\x1b");
         object.set("refused", None::<u32>);
         object.set("accepted", true);
+        object.set(
+            "y",
+            Value::Object(vec![("a".into(), 1_u32.into()), ("b".into(), true.into())]),
+        );
+        object.set("none", Value::Object(vec![]));
         let line = object.line();
-        let expected = r#"{"slots":3,"accepted":true,"bits":128.0,"message":"a \"b\" \\ ü\n\u001b","refused":null}"#;
+        let expected = r#"{"slots":3,"accepted":true,"bits":128.0,"message":"a \"b\" \\ ü\n\u001b","refused":null,"y":{"a":1,"b":true},"none":{}}"#;
         assert_eq!(line, format!("{expected}\n"));
     }
 }

@@ -71,6 +71,9 @@ fn the_examples_work() {
     folder.write("indate.circuit", indate);
     let grade = include_bytes!("../../../examples/grade.circuit");
     folder.write("grade.circuit", grade);
+    let covers16 = include_bytes!("../../../examples/covers16.statement");
+    folder.write("covers16.statement", covers16);
+    folder.write("values.txt", b"on_hand=1000\norder=250\n");
     for command in wv::commands::ALL {
         let line = command.example.replace("/var/lib/depot/", "");
         let ended = folder.sh(&line);
@@ -83,7 +86,7 @@ fn the_examples_work() {
 #[test]
 fn help_on_secrets() {
     let folder = Folder::new("help_secrets");
-    for command in ["prove", "evaluate", "shelf stock"] {
+    for command in ["prove", "evaluate", "row", "shelf stock"] {
         let ended = folder.wv(&format!("help {command}"));
         let words: Vec<&str> = ended.text().split_whitespace().collect();
         let text = words.join(" ");

@@ -1,5 +1,6 @@
 //! The check of a proof, at the buyer's end.
 
+use super::asked::Asked;
 use super::causes;
 use super::circuit::Circuit;
 use super::Command;
@@ -17,7 +18,8 @@ pub const BITS: f64 = 128.0;
 
 pub const CHECK: Command = Command {
     name: "check",
-    usage: "CIRCUIT PROOF --y Y --message MESSAGE [--bits B] [--json]",
+    usage: "CIRCUIT PROOF --y Y --message MESSAGE [--statement STATEMENT]
+         [--bits B] [--json]",
     about: "Check a proof.",
     help: "\
 Accepts a proof that its maker has a witness for which the circuit gives y,
@@ -27,22 +29,27 @@ the prover's, byte for byte.
 
   --y Y              the claimed output
   --message MESSAGE  the message that the proof is bound to
+  --statement STATEMENT
+                     print what the statement shows, a line `name=value` each;
+                     the circuit has to be the statement's
   --bits B           refuse a proof whose soundness is below B bits, usually
                      128. The maker chooses M, tau and n: with small ones a
                      proof can be guessed. 0 accepts any
   --json             print an object with the keys accepted, m, tau, n, bits,
-                     refused and message; the last two are null when all is well
+                     refused and message; the last two are null when all is
+                     well. With a statement there is the key y, an object
 
-Refused with 1, 2, 3, 5, 19, 20 or 21 for the circuit, 6 or 7 for y and the
-message, 11 for a proof that is none, 12, 7, 10 or 13 for one that does not hold
-for this circuit, y and message, and without a number for too few bits.
+Refused with 1, 2, 3, 5, 19, 20 or 21 for the circuit, without a number if it is
+not the statement's, 6 or 7 for y and the message, 11 for a proof that is none,
+12, 7, 10 or 13 for one that does not hold for this circuit, y and message, and
+without a number for too few bits.
 ",
     example: "  \
   wv check covers16.circuit order.proof --y hex:f50100 \\
       --message 'text:order 4711'
 ",
     places: 2,
-    options: &["y", "message", "bits"],
+    options: &["y", "message", "statement", "bits"],
     flags: &["json"],
     run: check,
 };
@@ -57,6 +64,7 @@ fn check(args: &Args, report: &mut Report) -> Result<(), Failure> {
         y: args.input(y)?,
         message: args.input(message)?,
     };
+    let statement = Asked::of_circuit(args, &claim.circuit)?;
     let counts = claim.holds()?;
     let Counts { m, tau, n } = counts;
     let bits = counts.soundness_bits().expect("legal counts");
@@ -73,6 +81,9 @@ fn check(args: &Args, report: &mut Report) -> Result<(), Failure> {
         )));
     }
     report.set("accepted", true);
+    if let Some(statement) = statement {
+        statement.report(&claim.y.bytes, report);
+    }
     report.line(&format!(
         "accepted, M {m}, tau {tau}, n {n}, soundness {shown} bits"
     ));

@@ -1,5 +1,6 @@
 //! Circuits: what they are, and what they give.
 
+use super::asked::Asked;
 use super::causes::Packed;
 use super::chain;
 use super::Command;
@@ -87,6 +88,11 @@ impl Circuit {
         Ok(Circuit { input, sizes })
     }
 
+    /// For a message: its name.
+    pub fn name(&self) -> &str {
+        self.input.name_or("the typed circuit")
+    }
+
     /// The circuit file.
     pub fn bytes(&self) -> &[u8] {
         &self.input.bytes
@@ -133,39 +139,48 @@ impl Circuit {
 
 pub const EVALUATE: Command = Command {
     name: "evaluate",
-    usage: "CIRCUIT WITNESS [--out FILE] [--raw]",
+    usage: "CIRCUIT WITNESS [--out FILE] [--raw | --statement STATEMENT]",
     about: "Print the outputs of a circuit for a witness.",
     help: "\
 The outputs are printed as a line of hexadecimal digits.
 
-  --out FILE  write them there
-  --raw       write the bytes themselves, without a line's end
+  --out FILE             write them there
+  --raw                  write the bytes themselves, without a line's end
+  --statement STATEMENT  write what the statement shows, a line `name=value`
+                         each; the circuit has to be the statement's
 
 A witness that is typed on the command line is seen by other users in the
 process list, and kept in the shell's history: give a row that they may not read
 as a file, as `-` or as `fd:N`.
 
-Refused with 1, 2, 3, 5, 19, 20 or 21 for the circuit, 6 for a witness of
-another length, 7 for unused bits in its last byte.
+Refused with 1, 2, 3, 5, 19, 20 or 21 for the circuit, without a number if it is
+not the statement's, 6 for a witness of another length, 7 for unused bits in its
+last byte.
 ",
     example: "  wv evaluate covers16.circuit covers16.row\n",
     places: 2,
-    options: &["out"],
+    options: &["out", "statement"],
     flags: &["raw"],
     run: evaluate,
 };
 
 fn evaluate(args: &Args, _: &mut Report) -> Result<(), Failure> {
+    if args.flag("raw") && args.option("statement").is_some() {
+        return Err(EVALUATE.misused("`--raw` and `--statement` do not go together"));
+    }
     let circuit = Circuit::read(args, args.place(0))?;
+    let asked = Asked::of_circuit(args, &circuit)?;
     let witness = args.input(args.place(1))?;
     let mut taken = circuit.taken();
     taken.push((witness.titled("the witness"), witness.place.clone()));
+    taken.extend(asked.iter().flat_map(Asked::taken));
     let out = args.option("out").unwrap_or(OsStr::new("-"));
     let target = Target::find(out, &taken)?;
     let y = circuit.outputs(&witness)?;
-    let written = match args.flag("raw") {
-        true => y,
-        false => (to_hex(&y) + "\n").into(),
+    let written = match asked {
+        Some(asked) => asked.lines(&y).into(),
+        None if args.flag("raw") => y,
+        None => (to_hex(&y) + "\n").into(),
     };
     target.write(&written)
 }

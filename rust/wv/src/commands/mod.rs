@@ -1,5 +1,7 @@
 //! The commands.
 
+mod asked;
+mod build;
 mod causes;
 mod chain;
 mod check;
@@ -9,6 +11,7 @@ mod files;
 mod join;
 mod one_of;
 mod prove;
+mod row;
 mod shelf;
 mod small;
 mod upgrade;
@@ -43,6 +46,9 @@ pub struct Command {
 pub const ALL: &[Command] = &[
     circuit::CIRCUIT,
     circuit::EVALUATE,
+    build::BUILD,
+    row::ROW,
+    row::CLAIM,
     convert::CONVERT,
     upgrade::UPGRADE,
     join::JOIN,
