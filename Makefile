@@ -1,11 +1,15 @@
 # make run     the main job on an example: a shelf, a draw, a proof, its check, and an old page put back
 # make test    the gate: every proof, every must-fail edit, every program, then the Rust and the C tests
-# make bench   throughput of the library, the second implementation and OpenSSL, and what a proof costs
+# make bench   throughput of the library, the second implementation and OpenSSL, and what a proof costs, in
+#              target/; make bench KEEP=1 writes docs/proof-cost.txt and docs/proof-cost.svg
+# make install PREFIX=/usr/local   headers, archives, pkg-config files, wv, its manual page and completions
+# make dist    tarballs of the sources and of what is installed, in target/dist
 
-.PHONY: run test bench lib fmt
+.PHONY: run test bench lib install dist fmt
 
 cargo_run = cargo run --release --manifest-path rust/Cargo.toml --target-dir target/rust --offline --locked --quiet
-costs = docs/proof-cost
+costs = $(if $(KEEP),docs,target)/proof-cost
+PREFIX ?= /usr/local
 below = $(shell sed -n 's/^wivulameno://p' crates.txt)
 
 run: lib
@@ -25,6 +29,12 @@ bench: lib
 	$(cargo_run) --package bench
 	$(cargo_run) --package wv --bin cost -- measure $(costs).txt
 	test ! -f $(costs).txt || $(cargo_run) --package wv --bin cost -- plot $(costs).txt $(costs).svg
+
+install: lib
+	@tools/install "$(DESTDIR)$(PREFIX)"
+
+dist: lib
+	@tools/dist target/dist
 
 fmt:
 	rt fmt

@@ -19,5 +19,6 @@ pub mod proofs;
 pub mod random;
 pub mod specs;
 pub mod stack;
+pub mod tables;
 pub mod vectors;
 pub mod works;

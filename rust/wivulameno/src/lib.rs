@@ -81,6 +81,9 @@ pub use work::Work;
 
 use limits::DIGEST_LEN;
 
+/// The version of this crate, which is that of the C headers and of `wv`.
+pub const VERSION: &str = env!("CARGO_PKG_VERSION");
+
 /// The README's program in Rust, as it stands there.
 #[cfg(doctest)]
 #[doc = include_str!("../../../README.md")]

@@ -10,6 +10,7 @@ pub mod input;
 pub mod json;
 pub mod names;
 pub mod output;
+pub mod pages;
 pub mod place;
 pub mod plot;
 pub mod progress;

@@ -1,6 +1,9 @@
 //! Draws proof size against proving time, as an SVG image.
 
+mod labels;
+
 use crate::cost::{Family, Measured, FAMILIES};
+use labels::{Scene, RADIUS, SIZE};
 
 const WIDTH: f64 = 900.0;
 const HEIGHT: f64 = 560.0;
@@ -56,12 +59,14 @@ pub fn svg(data: &[Measured], machine: &str) -> String {
     let mut image = head();
     image += &grid(&times, &sizes);
     let circuits = circuits(data);
+    let mut lines = vec![];
     for (circuit, colour) in circuits.iter().zip(COLOURS.iter().cycle()) {
         for (family, dash) in FAMILIES.iter().zip(DASHES) {
             let rows = rows_of(data, circuit, family);
-            image += &line(&rows, colour, dash, &times, &sizes);
+            lines.push(Line::of(&rows, colour, dash, &times, &sizes));
         }
     }
+    image += &drawn(&lines);
     image += &legend(&circuits);
     image += &text(left, HEIGHT - 12.0, "start", 11, &escaped(machine));
     image + "</svg>\n"
@@ -158,20 +163,62 @@ fn rows_of<'a>(data: &'a [Measured], circuit: &str, family: &Family) -> Vec<&'a 
     members.filter_map(|&member| row_of(member)).collect()
 }
 
-/// Points with n beside them, and a line through them.
-fn line(rows: &[&Measured], colour: &str, dash: &str, times: &Axis, sizes: &Axis) -> String {
-    let place = |row: &Measured| [times.place(row.prove), sizes.place(row.bytes as f64)];
-    let places: Vec<[f64; 2]> = rows.iter().map(|row| place(row)).collect();
-    let mut image = String::new();
-    for pair in places.windows(2) {
-        let [[x1, y1], [x2, y2]] = [pair[0], pair[1]];
-        image += &stroke([x1, y1, x2, y2], colour, 1.5, dash);
+/// The points of a family, with n beside them, and a line through them.
+struct Line {
+    points: Vec<([f64; 2], String)>,
+    colour: &'static str,
+    dash: &'static str,
+}
+
+impl Line {
+    fn of(
+        rows: &[&Measured],
+        colour: &'static str,
+        dash: &'static str,
+        times: &Axis,
+        sizes: &Axis,
+    ) -> Line {
+        let place = |row: &Measured| [times.place(row.prove), sizes.place(row.bytes as f64)];
+        let points = rows
+            .iter()
+            .map(|row| (place(row), row.counts.n.to_string()));
+        Line {
+            points: points.collect(),
+            colour,
+            dash,
+        }
     }
-    for ([x, y], row) in places.iter().zip(rows) {
-        image += &format!("<circle cx=\"{x:.1}\" cy=\"{y:.1}\" r=\"4\" fill=\"{colour}\"/>\n");
-        image += &text(x + 6.0, y - 6.0, "start", 11, &row.counts.n.to_string());
+
+    fn segments(&self) -> Vec<labels::Segment> {
+        let pairs = self.points.windows(2);
+        pairs.map(|pair| [pair[0].0, pair[1].0]).collect()
     }
-    image
+}
+
+/// All lines and points, then the labels, each where it hides least.
+fn drawn(lines: &[Line]) -> String {
+    let all = || lines.iter().flat_map(|line| line.points.iter());
+    let mut scene = Scene {
+        points: all().map(|(place, _)| *place).collect(),
+        lines: lines.iter().flat_map(Line::segments).collect(),
+        labels: vec![],
+        frame: FRAME,
+    };
+    let [mut image, mut numbers] = [String::new(), String::new()];
+    for line in lines {
+        for [[x1, y1], [x2, y2]] in line.segments() {
+            image += &stroke([x1, y1, x2, y2], line.colour, 1.5, line.dash);
+        }
+        for (place, n) in &line.points {
+            let ([x, y], colour) = (place, line.colour);
+            image += &format!(
+                "<circle cx=\"{x:.1}\" cy=\"{y:.1}\" r=\"{RADIUS}\" fill=\"{colour}\"/>\n"
+            );
+            let [x, y] = scene.place(*place, n);
+            numbers += &text(x, y + 0.375 * SIZE, "middle", SIZE as u32, n);
+        }
+    }
+    image + &numbers
 }
 
 fn legend(circuits: &[String]) -> String {
@@ -227,6 +274,46 @@ mod tests {
             assert!((top..=bottom).contains(&value("cy")), "{circle}");
         }
         assert!(image.contains("a&lt;b") && image.contains("a test &amp; more"));
+    }
+
+    /// The labels of points, as rectangles.
+    fn labels_of(image: &str) -> Vec<labels::Rect> {
+        let lines = image.lines().filter(|line| {
+            line.starts_with("<text") && line.contains("\"middle\" font-size=\"11\"")
+        });
+        let rect = |line: &str| {
+            let place = |name| value(line, name);
+            let text = line.split(['>', '<']).nth(2).expect("a text");
+            labels::around([place("x"), place("y") - 0.375 * SIZE], text)
+        };
+        lines.map(rect).collect()
+    }
+
+    fn value(line: &str, name: &str) -> f64 {
+        let rest = line.split(&format!(" {name}=\"")).nth(1).expect(name);
+        rest.split('"').next().unwrap().parse().expect("a number")
+    }
+
+    /// No label lies on another one or on a point, also in the image of the README.
+    #[test]
+    fn labels_can_be_read() {
+        let text = include_str!("../../../docs/proof-cost.txt");
+        let readme = crate::cost::read_data(text).expect("data");
+        for data in [readme, some_data()] {
+            let image = svg(&data, "a test");
+            let labels = labels_of(&image);
+            assert_eq!(labels.len(), data.len());
+            for (place, label) in labels.iter().enumerate() {
+                let others = &labels[place + 1..];
+                assert!(!others.iter().any(|other| labels::meet(*label, *other)));
+            }
+            for circle in image.lines().filter(|line| line.starts_with("<circle")) {
+                let [x, y] = ["cx", "cy"].map(|name| value(circle, name));
+                let point = [x - RADIUS, y - RADIUS, x + RADIUS, y + RADIUS];
+                let hidden = labels.iter().any(|label| labels::meet(*label, point));
+                assert!(!hidden, "{circle}");
+            }
+        }
     }
 
     #[test]

@@ -7,6 +7,7 @@ mod chain;
 mod check;
 mod circuit;
 mod convert;
+mod cost;
 mod files;
 mod join;
 mod one_of;
@@ -59,9 +60,11 @@ pub const ALL: &[Command] = &[
     shelf::STATUS,
     prove::PROVE,
     check::CHECK,
+    cost::COST,
 ];
 
-const COMMON: &str = "\
+/// What all commands have in common: inputs, outputs, exit status.
+pub const COMMON: &str = "\
 Input bytes are given as the name of a file, as `-` for standard input, as
 `fd:3` for an open descriptor, as `hex:4e20` for bytes typed in hexadecimal, or
 as `text:order 7`. Bits are packed into bytes lowest first. An output is a file,
