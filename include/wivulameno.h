@@ -9,10 +9,11 @@
  *
  * A lent buffer is a pointer and its length in bytes. The pointer is valid for
  * that length and is never NULL, not even for length 0. An output without a
- * length (sizes, written, digest, root) is a buffer of its type's size. A const
- * buffer is only read; of another buffer, no byte outside of its length is read
- * or written. In one call, a buffer that is written overlaps nothing else that
- * is lent. Buffers that are only read may be the same or overlap.
+ * length (sizes, written, digest, root, state, checked, verdicts) is a buffer of
+ * its type's size. A const buffer is only read; of another buffer, no byte outside
+ * of its length is read or written. In one call, a buffer that is written overlaps
+ * nothing else that is lent. Buffers that are only read may be the same or
+ * overlap.
  *
  * The library has no heap and no memory of its own. wv_prepare, wv_run, wv_show,
  * wv_replay, wv_prove and wv_check are lent a work buffer as their last one, of
@@ -25,6 +26,8 @@
  * used for one call after the other. It may be static or allocated and needs no
  * alignment. All of it is cleared at every such call: for a small circuit lend
  * wv_work_len bytes rather than WV_MAX_WORK. During a call it holds secrets.
+ * wv_shared_enter and wv_shared_check are lent one too, of WV_SHARED_WORK bytes or
+ * more, and test it before they read a circuit.
  *
  * Secrets. The work buffer holds tapes, masks and shares only during a call. What
  * a call leaves below the caller's frame on the stack (seeds of hidden parties,
@@ -60,8 +63,7 @@ extern "C" {
 #define WV_VERSION "0.1.0"
 
 /*
- * What a function returns. A number means the same in all; there is no 4, and
- * none from 26 to 28.
+ * What a function returns. A number means the same in all; there is no 4.
  */
 enum wv_answer {
     /* done; from wv_check: the proof is accepted */
@@ -78,7 +80,8 @@ enum wv_answer {
     WV_REFUSED_LENGTH = 6,
     /* a bit that must be zero is not */
     WV_REFUSED_UNUSED_BITS = 7,
-    /* the number of instances, of chosen ones or of parties is not allowed */
+    /* the number of instances, of chosen ones or of parties is not allowed, or
+       the quota of a call to a shared checker */
     WV_REFUSED_COUNTS = 8,
     /* there is no such party or leaf, no leaf is hidden, or the cut is behind
        the last gate */
@@ -116,6 +119,12 @@ enum wv_answer {
     WV_REFUSED_TEXT_LIMITS = 24,
     /* two circuits have different numbers of inputs; see wv_join */
     WV_REFUSED_INPUT_COUNTS = 25,
+    /* there is no such caller of a shared checker; see wv_shared_enter */
+    WV_REFUSED_CALLER = 26,
+    /* the caller has a proof waiting; see wv_shared_enter */
+    WV_REFUSED_WAITING = 27,
+    /* no proof is waiting; see wv_shared_check */
+    WV_REFUSED_NONE_WAITING = 28,
     /* the sizes are not those of a small circuit; see wv_small */
     WV_REFUSED_SMALL_SIZES = 29,
     /* a list of outputs is empty or has more than 16; see wv_one_of */
@@ -142,6 +151,10 @@ enum wv_answer {
 #define WV_MAX_MESSAGE 4096      /* the longest message */
 #define WV_PROOF_HEADER_LEN 38
 #define WV_MAX_PROOF 12873198    /* room for every proof; see wv_proof_len */
+#define WV_MAX_CALLERS 16        /* a shared checker has callers 0 to 15 */
+#define WV_MAX_QUOTA 512         /* and checks 1 to 512 instances in a call; */
+#define WV_SHARED_STATE 7537     /* its state */
+#define WV_SHARED_WORK 6436864   /* and its work buffer */
 #define WV_ROOT_LEN 16           /* also of a master and of a leaf */
 #define WV_DIGEST_LEN 32
 #define WV_MAX_SLOTS 255         /* a shelf page has 1 to 255 slots */
@@ -753,6 +766,64 @@ uint32_t wv_check(const uint8_t *circuit, size_t circuit_len,
                   const uint8_t *message, size_t message_len,
                   const uint8_t *proof, size_t proof_len,
                   uint8_t *work, size_t work_len);
+
+/*
+ * One checker that up to 16 callers share, so that a long proof does not hold up
+ * the others. A caller, 0 to 15, has at most one proof waiting. The callers that
+ * wait are served one instance of their proof each, in cyclic order, beginning
+ * after the one served last, with 0 at first.
+ *
+ * The state is bytes that the host keeps from one call to the next; it may move
+ * them or write them to a file. They need no alignment and hold no secret. Any
+ * bytes are some state, so a damaged one does no harm but to its verdicts: keep
+ * it where only those write who may decide what is accepted.
+ *
+ * The inputs of all proofs lie in one buffer, which is lent to every entry and
+ * call and is only read; an entry names where. If the same bytes lie there in
+ * every call until the proof is finished, its verdict is what wv_check answers to
+ * them. A waiting proof whose bytes have changed so that an entry would refuse
+ * them is finished with that number.
+ *
+ * The work buffer is WV_SHARED_WORK bytes or more. A refusal up to its test leaves
+ * it as it was. Every other entry or call, refused or not, leaves all of it zero.
+ */
+
+/*
+ * Writes the empty state: nobody waits, and nobody was served. Refuses nothing.
+ */
+uint32_t wv_shared_start(uint8_t state[WV_SHARED_STATE]);
+
+/*
+ * Enters the caller's proof, which then waits. places is where the circuit, y, the
+ * message and the proof lie in the buffer, in this order: the place of its first
+ * byte and its length for each. They may overlap. Refuses in this order:
+ *   26  the caller is above 15
+ *   27  it has a proof waiting
+ *    6  an input is not wholly inside the buffer; an empty one may lie at its end
+ *    6  the work buffer is shorter than WV_SHARED_WORK
+ *   then whatever wv_check refuses the inputs with, but for 10 and 13
+ */
+uint32_t wv_shared_enter(uint8_t state[WV_SHARED_STATE], uint32_t caller,
+                         const uint64_t places[8],
+                         const uint8_t *buffer, size_t buffer_len,
+                         uint8_t *work, size_t work_len);
+
+/*
+ * Checks instances of the waiting proofs until as many as the quota are checked
+ * or nobody waits. Writes how many it checked to checked, and for each caller its
+ * verdict of this call to verdicts: 0 if its proof is accepted, the number that it
+ * is refused with, or 255 if it is not finished in this call or none was waiting.
+ * A finished proof waits no more, and its caller may enter another. The refusal
+ * that finishes a proof with changed bytes counts as an instance; so does 13 if
+ * its m is no longer above the number of the next instance. Refuses in this order:
+ *    8  the quota is not 1 to 512
+ *   28  no proof is waiting
+ *    6  the work buffer is shorter than WV_SHARED_WORK
+ */
+uint32_t wv_shared_check(uint8_t state[WV_SHARED_STATE], uint32_t quota,
+                         const uint8_t *buffer, size_t buffer_len,
+                         uint32_t *checked, uint8_t verdicts[WV_MAX_CALLERS],
+                         uint8_t *work, size_t work_len);
 
 #ifdef __cplusplus
 }

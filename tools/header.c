@@ -206,6 +206,114 @@ static void read_buffers_overlap(void)
           WV_ACCEPTED);
 }
 
+/* A shared checker: its state, its work buffer, and what a call tells. */
+static uint8_t state[WV_SHARED_STATE], shared_work[WV_SHARED_WORK];
+static uint32_t checked;
+static uint8_t verdicts[WV_MAX_CALLERS];
+
+/* Is every byte the one given? */
+static size_t all(const uint8_t *bytes, size_t len, uint8_t byte)
+{
+    size_t i;
+
+    for (i = 0; i < len; i++)
+        if (bytes[i] != byte)
+            return 0;
+    return 1;
+}
+
+/* An entry. A refused one leaves the state as it was. */
+static void enter(uint32_t caller, const uint64_t places[8],
+                  const uint8_t *buffer, size_t buffer_len, size_t work_len,
+                  uint32_t answer)
+{
+    static uint8_t before[WV_SHARED_STATE];
+
+    memcpy(before, state, sizeof state);
+    memset(shared_work, 0xee, sizeof shared_work);
+    equal("shared enter",
+          wv_shared_enter(state, caller, places, buffer, buffer_len,
+                          shared_work, work_len), answer);
+    if (answer != WV_ACCEPTED)
+        equal("its state", memcmp(before, state, sizeof state) == 0, 1);
+    equal("its work buffer", shared_work[0],
+          work_len < sizeof shared_work || answer == WV_REFUSED_CALLER
+          || answer == WV_REFUSED_WAITING || answer == WV_REFUSED_LENGTH
+          ? 0xee : 0);
+}
+
+/* A call, with the verdicts of callers 0 and 3. A refused one leaves all. */
+static void call(uint32_t quota, const uint8_t *buffer, size_t buffer_len,
+                 size_t work_len, uint32_t answer, uint32_t count,
+                 uint8_t first, uint8_t second)
+{
+    uint8_t expected[WV_MAX_CALLERS];
+
+    memset(shared_work, 0xee, sizeof shared_work);
+    memset(verdicts, 0xdd, sizeof verdicts);
+    checked = 77;
+    equal("shared check",
+          wv_shared_check(state, quota, buffer, buffer_len, &checked, verdicts,
+                          shared_work, work_len), answer);
+    memset(expected, answer == WV_ACCEPTED ? 255 : 0xdd, sizeof expected);
+    expected[0] = first;
+    expected[3] = second;
+    equal("its count", checked, count);
+    equal("its verdicts", memcmp(verdicts, expected, sizeof expected) == 0, 1);
+    equal("its work buffer",
+          all(shared_work, sizeof shared_work, answer == WV_ACCEPTED ? 0 : 0xee),
+          1);
+}
+
+/*
+ * Callers 0 and 3 enter one proof of 4 instances: 0, 3 and 0 are served, then 3,
+ * 0, 3, 0 and 3. Then caller 3 enters it again, and a gate's kind is changed: the
+ * proof is finished by its first service.
+ */
+static void shared_checker(void)
+{
+    static uint8_t buffer[38 + 233];
+    static const uint8_t root[WV_ROOT_LEN] = {4};
+    const uint8_t witness = 3;
+    const size_t whole = WV_SHARED_WORK;
+    uint64_t written = 0, places[8] = {0, 36, 36, 1, 37, 1, 38, 0};
+
+    memcpy(buffer, k, sizeof k);
+    buffer[36] = 1;
+    buffer[37] = 'a';
+    equal("prove",
+          wv_prove(k, sizeof k, &witness, 1, buffer + 36, 1, buffer + 37, 1,
+                   root, sizeof root, 4, 1, 2, buffer + 38, 233, &written,
+                   work, sizeof work),
+          WV_ACCEPTED);
+    places[7] = written;
+    memset(state, 0xee, sizeof state);
+    equal("shared start", wv_shared_start(state), WV_ACCEPTED);
+    equal("the empty state", all(state, sizeof state, 0), 1);
+    call(1, buffer, sizeof buffer, whole, WV_REFUSED_NONE_WAITING, 77, 0xdd, 0xdd);
+    call(0, buffer, sizeof buffer, 0, WV_REFUSED_COUNTS, 77, 0xdd, 0xdd);
+    call(513, buffer, sizeof buffer, 0, WV_REFUSED_COUNTS, 77, 0xdd, 0xdd);
+    enter(16, places, buffer, sizeof buffer, whole, WV_REFUSED_CALLER);
+    enter(0, places, buffer, 37 + (size_t)written, whole, WV_REFUSED_LENGTH);
+    enter(0, places, buffer, sizeof buffer, whole - 1, WV_REFUSED_LENGTH);
+    places[7] = 0;
+    enter(0, places, buffer, sizeof buffer, whole, WV_REFUSED_PROOF_HEADER);
+    places[7] = written;
+    enter(3, places, buffer, sizeof buffer, whole, WV_ACCEPTED);
+    enter(3, places, buffer, sizeof buffer, whole, WV_REFUSED_WAITING);
+    enter(0, places, buffer, sizeof buffer, whole, WV_ACCEPTED);
+    call(3, buffer, sizeof buffer, whole - 1, WV_REFUSED_LENGTH, 77, 0xdd, 0xdd);
+    call(3, buffer, sizeof buffer, whole, WV_ACCEPTED, 3, 255, 255);
+    call(512, buffer, sizeof buffer, whole, WV_ACCEPTED, 5, WV_ACCEPTED,
+         WV_ACCEPTED);
+    call(512, buffer, sizeof buffer, whole, WV_REFUSED_NONE_WAITING, 77, 0xdd,
+         0xdd);
+    enter(3, places, buffer, sizeof buffer, whole, WV_ACCEPTED);
+    buffer[20] = 4;
+    call(512, buffer, sizeof buffer, whole, WV_ACCEPTED, 1, 255,
+         WV_REFUSED_GATE);
+}
+
 /*
  * The challenge's input as the header says. With m 256 and tau 1 the first of 8
  * bytes is the instance, with n 16 the lower half of the next one is the party.
@@ -471,6 +579,7 @@ int main(void)
     work_buffers();
     old_files();
     read_buffers_overlap();
+    shared_checker();
     masters_and_cover();
     challenge_input();
     chains();

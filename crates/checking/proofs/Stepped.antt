@@ -17,7 +17,7 @@ use Rattle.hashing.specs.Steps.{taken, given}
 use Rattle.instance.specs.Instance.{Asked}
 use Rattle.proof.specs.File.{headerHstar}
 use Rattle.checking.specs.declared.stepping.Running.{Running}
-use Rattle.checking.specs.DigestSteps.{started, more, hstarIn}
+use Rattle.checking.specs.RunningDigests.{started, more, hstarIn}
 use Rattle.checking.specs.Steps.{commitmentsAt, onlineAt, recomputed}
 use Rattle.checking.proofs.Verified.{sponge-room, commitments-none, commitments-turn, online-none, online-turn, hstar-made}
 

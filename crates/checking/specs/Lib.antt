@@ -1,3 +1,3 @@
 pub mod Answers
-pub mod DigestSteps
+pub mod RunningDigests
 pub mod Steps

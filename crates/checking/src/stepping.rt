@@ -7,7 +7,7 @@ ghost use Rattle.circuit.specs.File.{circuitOf};
 ghost use Rattle.masks.specs.Steps.{wireCount};
 ghost use Rattle.proof.specs.File.{headerHstar, stretchStart};
 ghost use Rattle.proof.specs.Steps.{asksIn};
-ghost use Rattle.checking.specs.DigestSteps.{started, more, hstarIn};
+ghost use Rattle.checking.specs.RunningDigests.{started, more, hstarIn};
 ghost use Rattle.checking.specs.Steps.{Tested, outputAt, commitmentsAt, onlineAt};
 use crate::entering::Shape;
 use crate::masters::master_of;

@@ -8,12 +8,12 @@ use lib.Dec.{T, eqb, leb, leb→le}
 use lib.ListN.{getD}
 use borrow.Author.Tests.{eqb-false}
 use Rattle.refusal.specs.declared.Refusal.{Refusal}
-use Rattle.refusal.specs.declared.Refusal.the-variants.{Length, Limits, Record, Wire, BufferLength, UnusedBits, Parameter, Index, Output, Header, ProofLength, Digest, Shelf, Count, Empty, Full, Exhausted, BeyondGates, EndsEarly, GoesOn, Text, GateKind, TextLimits, InputCounts, SmallSizes, ListLength}
+use Rattle.refusal.specs.declared.Refusal.the-variants.{Length, Limits, Record, Wire, BufferLength, UnusedBits, Parameter, Index, Output, Header, ProofLength, Digest, Shelf, Count, Empty, Full, Exhausted, BeyondGates, EndsEarly, GoesOn, Text, GateKind, TextLimits, InputCounts, CallerNumber, AlreadyWaiting, NoneWaiting, SmallSizes, ListLength}
 use Rattle.refusal.specs.Refusal.{numberOf, NoFour}
 
--- the refusals in the order of their numbers, and one more to stand at the places that have none
+-- the refusals in the order of their numbers, and one to stand at the places that have none
 inOrder : List Refusal
-inOrder = Length ∷ Length ∷ Limits ∷ Record ∷ Length ∷ Wire ∷ BufferLength ∷ UnusedBits ∷ Parameter ∷ Index ∷ Output ∷ Header ∷ ProofLength ∷ Digest ∷ Shelf ∷ Count ∷ Empty ∷ Full ∷ Exhausted ∷ BeyondGates ∷ EndsEarly ∷ GoesOn ∷ Text ∷ GateKind ∷ TextLimits ∷ InputCounts ∷ Length ∷ Length ∷ Length ∷ SmallSizes ∷ ListLength ∷ []
+inOrder = Length ∷ Length ∷ Limits ∷ Record ∷ Length ∷ Wire ∷ BufferLength ∷ UnusedBits ∷ Parameter ∷ Index ∷ Output ∷ Header ∷ ProofLength ∷ Digest ∷ Shelf ∷ Count ∷ Empty ∷ Full ∷ Exhausted ∷ BeyondGates ∷ EndsEarly ∷ GoesOn ∷ Text ∷ GateKind ∷ TextLimits ∷ InputCounts ∷ CallerNumber ∷ AlreadyWaiting ∷ NoneWaiting ∷ SmallSizes ∷ ListLength ∷ []
 
 -- the refusal of a number
 ofNumber : ℕ → Refusal
@@ -46,6 +46,9 @@ right Text = (refl, (tt, (tt, refl)))
 right GateKind = (refl, (tt, (tt, refl)))
 right TextLimits = (refl, (tt, (tt, refl)))
 right InputCounts = (refl, (tt, (tt, refl)))
+right CallerNumber = (refl, (tt, (tt, refl)))
+right AlreadyWaiting = (refl, (tt, (tt, refl)))
+right NoneWaiting = (refl, (tt, (tt, refl)))
 right SmallSizes = (refl, (tt, (tt, refl)))
 right ListLength = (refl, (tt, (tt, refl)))
 

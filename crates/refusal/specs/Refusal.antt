@@ -4,7 +4,7 @@
 use mathlib.Core.Logic.{_≢_}
 use Prim.Native.Nat.{ℕ}
 use Rattle.refusal.specs.declared.Refusal.{Refusal}
-use Rattle.refusal.specs.declared.Refusal.the-variants.{Length, Limits, Record, Wire, BufferLength, UnusedBits, Parameter, Index, Output, Header, ProofLength, Digest, Shelf, Count, Empty, Full, Exhausted, BeyondGates, EndsEarly, GoesOn, Text, GateKind, TextLimits, InputCounts, SmallSizes, ListLength}
+use Rattle.refusal.specs.declared.Refusal.the-variants.{Length, Limits, Record, Wire, BufferLength, UnusedBits, Parameter, Index, Output, Header, ProofLength, Digest, Shelf, Count, Empty, Full, Exhausted, BeyondGates, EndsEarly, GoesOn, Text, GateKind, TextLimits, InputCounts, CallerNumber, AlreadyWaiting, NoneWaiting, SmallSizes, ListLength}
 
 -- the number of a refusal
 abbrev pub numberOf : Refusal → ℕ
@@ -32,6 +32,9 @@ numberOf Text = 22
 numberOf GateKind = 23
 numberOf TextLimits = 24
 numberOf InputCounts = 25
+numberOf CallerNumber = 26
+numberOf AlreadyWaiting = 27
+numberOf NoneWaiting = 28
 numberOf SmallSizes = 29
 numberOf ListLength = 30
 

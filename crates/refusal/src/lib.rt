@@ -52,6 +52,12 @@ pub enum Refusal {
     TextLimits,
     // 25: the input counts differ.
     InputCounts,
+    // 26: a caller beyond 15.
+    CallerNumber,
+    // 27: a caller already waiting.
+    AlreadyWaiting,
+    // 28: no proof waiting.
+    NoneWaiting,
     // 29: a size beyond these (small circuits: I of 1 or 2, O = 1 and G up to 2).
     SmallSizes,
     // 30: an empty list or over 16·oct(O) bytes.
@@ -87,6 +93,9 @@ pub fn number(r: Refusal) -> u32
         Refusal::GateKind => 23,
         Refusal::TextLimits => 24,
         Refusal::InputCounts => 25,
+        Refusal::CallerNumber => 26,
+        Refusal::AlreadyWaiting => 27,
+        Refusal::NoneWaiting => 28,
         Refusal::SmallSizes => 29,
         Refusal::ListLength => 30,
     }

@@ -3,5 +3,5 @@ pub mod History
 pub mod Fair
 pub mod Alone
 pub mod Cases
-pub mod CallerSteps
+pub mod Callers
 pub mod Steps

@@ -2,9 +2,19 @@
 -- Assumes nothing.
 use mathlib.Core.Bool.{Bool}
 use mathlib.Core.List.{List}
+use mathlib.Core.Option.{Option, none, some}
 use Prim.Native.Nat.{ℕ, _-_}
-use Rattle.schedule.specs.Schedule.{numbers, firstOf}
-use Rattle.schedule.specs.CallerSteps.{flagged, numberOf}
+use Rattle.schedule.specs.Schedule.{numbers, firstOf, next}
+use Rattle.schedule.specs.Callers.{callers, flagged, lastServed}
+
+-- a caller's number, 16 for none
+abbrev pub numberOf : Option ℕ → ℕ
+numberOf none = callers
+numberOf (some c) = c
+
+-- the caller to be served next
+unfoldable pub nextCaller : ℕ → List Bool → ℕ
+nextCaller begin flags = numberOf (next callers (lastServed begin) (flagged flags))
 
 -- the first flagged one of the callers from a up to e
 unfoldable pub firstWaiting : List Bool → ℕ → ℕ → ℕ

@@ -2,14 +2,14 @@
 ghost use mathlib.Core.Path.{_≡_};
 ghost use Prim.Native.Nat.{_≤_};
 ghost use Rattle.schedule.specs.Schedule.{begin as «begin-of»};
-ghost use Rattle.schedule.specs.CallerSteps.{lastServed, nextCaller};
-ghost use Rattle.schedule.specs.Steps.{firstWaiting};
+ghost use Rattle.schedule.specs.Callers.{lastServed};
+ghost use Rattle.schedule.specs.Steps.{nextCaller, firstWaiting};
 
 // The callers.
 pub const CALLERS: u8 = 16;
 
 // The caller with whom to begin; a number above 16 counts as 0.
-fn asked_first(begin: u8) -> u8
+pub fn asked_first(begin: u8) -> u8
     ensures { λ r. ⌜ r ≡ «begin-of» (lastServed begin) ⌝ }
 {
     if begin < 17 {

@@ -17,6 +17,7 @@ use Rattle.bits.proofs.Tests.{and-true-left, and-true-right}
 use Rattle.refusal.specs.Refusal.{numberOf}
 use Rattle.refusal.specs.declared.Refusal as declared
 use Rattle.refusal.specs.Outcome as outcomes
+use Rattle.refusal.proofs.Laws.{numberOf-range}
 use Rattle.refusal.specs.Outcome.{refuses, done, unless}
 use Rattle.circuit.specs.Circuit.{Circuit}
 use Rattle.circuit.specs.File.{Reading, refused, legal, readCircuit, circuitOf}
@@ -89,6 +90,10 @@ module _ (buffer : List ℕ) (p : Places) where
 -- the bytes at a place
 pub part-is : (buffer : List ℕ) (p : Place) → take (p .start + p .len - p .start) (drop (p .start) buffer) ≡ at buffer p
 part-is buffer p = let e : p .start + p .len - p .start ≡ p .len = omega arith in ap (λ (k : ℕ). take k (drop (p .start) buffer)) e
+
+-- a refusal's number is none of the verdicts' 255
+pub number-small : (r : declared.Refusal) (n : ℕ) → n ≡ numberOf r → n < 255
+number-small r n e = omega (arith, numberOf-range r .1)
 
 -- the number of a test that refuses is refused on entry
 refused-number : (k m : ℕ) → refuses k [] ≡ refuses m [] → butLate m ≡ some m → butLate k ≡ some k

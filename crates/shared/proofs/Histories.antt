@@ -56,7 +56,7 @@ unfolding entered enterRefusal afterEntry isFree
 entered-is c p buffer work s = entry-cases (ltb c 16) (waits s c) (allInside buffer p) (longWork work) (entryAt buffer p) s _
 
 -- a call where nobody waits
-serve-nobody : (work : Work Job ℕ) (quota : ℕ) (s : State Job) → next 16 (s .last) (waits s) ≡ none → serve 16 work quota s ≡ ([], s)
+pub serve-nobody : (work : Work Job ℕ) (quota : ℕ) (s : State Job) → next 16 (s .last) (waits s) ≡ none → serve 16 work quota s ≡ ([], s)
 unfolding serve
 serve-nobody work zero s e = refl
 serve-nobody work (suc quota) s e = rw e

@@ -25,10 +25,12 @@ use Rattle.circuit.proofs.Answered.{read-same}
 use Rattle.instance.specs.Instance.{Asked}
 use Rattle.seeds.proofs.Instances.{counts-fit}
 use Rattle.proof.specs.File.{headerM, headerTau, headerN, headerHstar, goodHeader, proofBytes}
-use Rattle.proof.specs.Check.{every, checkLegal}
+use Rattle.circuit.specs.Operations.{workBytes}
+use Rattle.mpc.proofs.Succeeding.{work-enough}
+use Rattle.proof.specs.Check.{every, checkLegal, checkOp}
 use Rattle.proof.proofs.Passing.{every-at}
 use Rattle.checking.specs.declared.stepping.Running.{Running}
-use Rattle.checking.specs.DigestSteps.{started, more, hstarIn}
+use Rattle.checking.specs.RunningDigests.{started, more, hstarIn}
 use Rattle.checking.specs.Steps.{allUnused, outputAt, commitmentsAt, onlineAt, recomputed, tested, judged, legalTests}
 use Rattle.checking.proofs.Headers.{header-counts}
 use Rattle.checking.proofs.Outcomes.{check-tests}
@@ -111,6 +113,14 @@ module _ (s y message proof : List ℕ) (bytes : Bytes proof) (free : entryOf s 
 
   verdict-is : verdict ≡ number (judged c y proof M n ask .answer)
   verdict-is = ap (λ (o : outcomes.Outcome). number (o .answer)) (check-tests s y message proof c ∙ passed .1)
+
+  -- it is that of the operation, with any work buffer that is long enough
+  pub verdict-op : (own : List ℕ) → workBytes c ≤ length own → number (checkOp s y message proof own .answer) ≡ verdict
+  unfolding checkOp entryOf
+  verdict-op own l =
+      let e = entry-legal (readCircuit s) (checkLegal s y message proof) free in
+      ap (λ (o : outcomes.Outcome). number (o .answer))
+      (work-enough s c [] own (checkLegal s y message proof) (e .1 ∙ ap legal (sym (read-same s (e .0) (e .1)))) l)
 
   -- there is an instance
   some-instance : 0 < M

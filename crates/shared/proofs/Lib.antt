@@ -1,5 +1,7 @@
 pub mod Histories
 pub mod Instances
+pub mod Onward
+pub mod Told
 pub mod Theorem
 pub mod Entries
 pub mod Slots

@@ -29,7 +29,7 @@ use Rattle.shared.specs.Steps.{Looking, ReadyAt, instanceAt}
 use Rattle.instance.specs.Instance.{Asked}
 use Rattle.proof.specs.File.{headerM, headerHstar}
 use Rattle.checking.specs.declared.stepping.Running.{Running}
-use Rattle.checking.specs.DigestSteps.{more, hstarIn}
+use Rattle.checking.specs.RunningDigests.{more, hstarIn}
 use Rattle.checking.specs.Steps.{outputAt, commitmentsAt, onlineAt, Tested}
 use Rattle.schedule.specs.Schedule.{Outcome, goesOn, finished}
 use Rattle.shared.specs.declared.Job.{Job}
@@ -136,10 +136,6 @@ by-instance buffer job = refl
 
 -- a service, by its tests
 module _ (buffer : List ℕ) (job : Job) where
-  pub service-outside : allInside buffer (job .places) ≡ false → (o : Outcome Job ℕ) → o ≡ finished 6 → o ≡ serviceAt buffer job
-  unfolding serviceAt entryAt
-  service-outside e o q = q ∙ rw e refl
-
   pub service-refused : (k : ℕ) → some k ≡ entryAt buffer (job .places) → (o : Outcome Job ℕ) → o ≡ finished k → o ≡ serviceAt buffer job
   service-refused k e o q = q ∙ ap (λ (x : Option ℕ). unlessRefused x finished (instanceAt buffer job)) e ∙ by-instance buffer job
 

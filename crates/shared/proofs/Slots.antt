@@ -14,9 +14,9 @@ use lib.Seq.{getD-set-same, getD-set-other}
 use Rattle.bits.proofs.Numbers.{eq-or-ne}
 use Rattle.schedule.specs.Schedule.{Slot, idle, waiting, isWaiting, State, empty, waits, put}
 use Rattle.schedule.specs.History.{isFree, afterEntry}
-use Rattle.schedule.specs.CallerSteps.{flagged, lastServed}
+use Rattle.schedule.specs.Callers.{flagged, lastServed}
 use Rattle.checking.specs.declared.stepping.Running.{Running}
-use Rattle.checking.specs.DigestSteps.{started}
+use Rattle.checking.specs.RunningDigests.{started}
 use Rattle.shared.specs.declared.Places.{Places}
 use Rattle.shared.specs.declared.Job.{Job}
 use Rattle.shared.specs.declared.Shared.{Shared}
@@ -46,22 +46,22 @@ waits-flagged s c = by-case (flagged (s .waiting) c)
     by-case true = refl
     by-case false = refl
 
--- a proof put anew
-pub slots-put : (flags : List Bool) (jobs : List Job) (c : ℕ) (j : Job) → c < length flags → c < length jobs
-    → slotOf (set flags c true) (set jobs c j) ≡ put (slotOf flags jobs) c (waiting j)
+-- a flag and a proof put anew
+pub slots-put : (flags : List Bool) (jobs : List Job) (c : ℕ) (b : Bool) (j : Job) → c < length flags → c < length jobs
+    → slotOf (set flags c b) (set jobs c j) ≡ put (slotOf flags jobs) c (cond b (waiting j) idle)
 unfolding slotOf put
-slots-put flags jobs c j l m =
+slots-put flags jobs c b j l m =
     fun-ext λ k.
     ⊎-elim
-    (λ (q : k ≡ c). rw (q, eq-eqb c c refl, getD-set-same flags c true false l, getD-set-same jobs c j nowhere m))
-    (λ (q : k ≢ c). rw (ne-eqb k c q, getD-set-other flags c k true false q, getD-set-other jobs c k j nowhere q))
+    (λ (q : k ≡ c). rw (q, eq-eqb c c refl, getD-set-same flags c b false l, getD-set-same jobs c j nowhere m))
+    (λ (q : k ≢ c). rw (ne-eqb k c q, getD-set-other flags c k b false q, getD-set-other jobs c k j nowhere q))
     (eq-or-ne k c)
 
 pub state-put : (s : Shared) (c : ℕ) (j : Job) (flags : List Bool) (jobs : List Job) → flags ≡ set (s .waiting) c true → jobs ≡ set (s .jobs) c j
     → c < length (s .waiting) → c < length (s .jobs)
     → stateOf (record { begin = s .begin; waiting = flags; jobs = jobs }) ≡ record { last = stateOf s .last; slot = put (stateOf s .slot) c (waiting j) }
 unfolding stateOf
-state-put s c j flags jobs ef ej l m = rw (ef, ej, slots-put (s .waiting) (s .jobs) c j l m)
+state-put s c j flags jobs ef ej l m = rw (ef, ej, slots-put (s .waiting) (s .jobs) c true j l m)
 
 -- a proof that enters
 pub job-made : (p : Places) (d : Running) → d ≡ started → record { places = p; next = 0; digests = d } ≡ jobAt p

@@ -11,15 +11,9 @@ use lib.Dec.{leb, ltb}
 use lib.ListN.{length, getD, take, drop}
 use lib.Seq.{getD-drop}
 use Rattle.keccak.proofs.Absorbing.{Bytes}
-use Rattle.circuit.specs.Circuit.{Circuit}
 use Rattle.circuit.specs.File.{circuitOf}
-use Rattle.instance.specs.Instance.{Asked}
-use Rattle.instance.specs.Opened.{stretchCommitments, stretchOnline, stretchOutput}
-use Rattle.bits.specs.Bytes.{sameBytes}
-use Rattle.proof.specs.File.{headerM, headerN, headerHstar, masterAt, stretchAt}
+use Rattle.proof.specs.File.{headerM}
 use Rattle.proof.specs.Check.{checkLegal}
-use Rattle.checking.specs.declared.stepping.Running.{Running}
-use Rattle.checking.specs.DigestSteps.{more, hstarIn}
 use Rattle.proof.proofs.Digests.{front-bytes}
 use Rattle.schedule.specs.Schedule.{State, waits, Outcome, goesOn, finished, Service, empty}
 use Rattle.schedule.specs.History as history
@@ -30,56 +24,13 @@ use Rattle.schedule.proofs.Verdicts.{verdict-alone}
 use Rattle.shared.specs.declared.Place.{Place}
 use Rattle.shared.specs.declared.Places.{Places}
 use Rattle.shared.specs.declared.Job.{Job}
-use Rattle.shared.specs.Service.{at, allInside, entryOf, entryAt, number, settledBoth, asks, unlessRefused, afterInstance, nextInstance, instanceOf, serviceAt, jobAt}
+use Rattle.shared.specs.Service.{at, allInside, entryOf, entryAt, number, instanceOf, serviceAt, jobAt}
 use Rattle.shared.specs.Operations.{longWork, enterRefusal, entered, Lent, enter, call, stateAfter, servicesAfter}
-use Rattle.shared.specs.Theorem.{SameAt, Throughout, SharedChecker}
+use Rattle.shared.specs.Theorem.{SameAt, Throughout, verdictAlone, LongEnough, SharedChecker}
 use Rattle.shared.proofs.Histories.{isNone, takes, makes, planned, entered-is, state-planned, services-planned}
-use Rattle.shared.proofs.Instances.{told-alone, ends-alone}
-
--- a proof that goes on has its places
-unfoldable Kept : Places → Outcome Job ℕ → Type 0
-Kept p (goesOn j) = j .places ≡ p
-Kept p (finished v) = Unit {0}
-
-kept-after : (proof : List ℕ) (j : Job) (d : Running) → Kept (j .places) (afterInstance proof j d)
-unfolding Kept afterInstance
-kept-after proof j d = by-case (ltb (suc (j .next)) (headerM proof))
-  where
-    by-case : (b : Bool)
-        → Kept (j .places) (cond b (goesOn (record { places = j .places; next = suc (j .next); digests = d })) (finished (cond (sameBytes (hstarIn d) (headerHstar proof)) 0 13)))
-    by-case true = refl
-    by-case false = tt
-
-kept-two : (p : Places) (a b : Bool) (x : Outcome Job ℕ) → Kept p x → Kept p (cond a (cond b x (finished 10)) (finished 13))
-unfolding Kept
-kept-two p true true x h = h
-kept-two p true false x h = tt
-kept-two p false b x h = tt
-
-kept-instance : (s y message proof : List ℕ) (j : Job) → Kept (j .places) (instanceOf s y message proof j)
-unfolding instanceOf nextInstance
-kept-instance s y message proof j =
-    let c : Circuit = circuitOf s in
-    let M : ℕ = headerM proof in
-    let n : ℕ = headerN proof in
-    let ask : ℕ → Asked = asks s y message proof in
-    let i : ℕ = j .next in
-    let part : List ℕ = stretchAt c M n ask proof i in
-    let d : Running = more (settledBoth (j .digests)) (stretchCommitments c n i (masterAt M ask proof i) part (ask i)) (stretchOnline c n i part (ask i)) in
-    kept-two (j .places) (ltb i M) (stretchOutput c n i y part (ask i)) (afterInstance proof j d) (kept-after proof j d)
-
-kept-refused : (p : Places) (o : Option ℕ) (x : Outcome Job ℕ) → Kept p x → Kept p (unlessRefused o finished x)
-unfolding Kept
-kept-refused p none x a = a
-kept-refused p (some k) x a = tt
-
-kept-service : (buffer : List ℕ) (j : Job) → Kept (j .places) (serviceAt buffer j)
-unfolding serviceAt
-kept-service buffer j = kept-refused (j .places) (entryAt buffer (j .places)) _ (kept-instance _ _ _ _ j)
-
-service-keeps : (buffer : List ℕ) (p : Places) (j k : Job) → j .places ≡ p → serviceAt buffer j ≡ goesOn k → k .places ≡ p
-unfolding Kept
-service-keeps buffer p j k e q = subst (Kept (j .places)) q (kept-service buffer j) ∙ e
+use Rattle.shared.proofs.Instances.{verdict-op, told-alone, ends-alone}
+use Rattle.shared.proofs.Told.{call-told}
+use Rattle.shared.proofs.Onward.{Kept, kept-instance, service-keeps}
 
 -- bytes of the buffer
 part-bytes : (buffer : List ℕ) (p : Place) → ((i : ℕ) → getD buffer i 0 < 256) → Bytes (at buffer p)
@@ -166,13 +117,8 @@ start-places : (p : Places) → jobAt p .places ≡ p
 unfolding jobAt
 start-places p = refl
 
--- the number of check's answer to the bytes at these places
-abbrev verdictOf : List ℕ → Places → ℕ
-verdictOf buffer p =
-    number (checkLegal (at buffer (p .circuit)) (at buffer (p .y)) (at buffer (p .message)) (at buffer (p .proof)) (circuitOf (at buffer (p .circuit))) .answer)
-
 -- the verdict of a proof that enters and is lent the same bytes throughout
-module _ (before later : List Lent) (c : ℕ) (p : Places) (buffer work : List ℕ) (bytes : (i : ℕ) → getD buffer i 0 < 256)
+module _ (before later : List Lent) (c : ℕ) (p : Places) (buffer work own : List ℕ) (bytes : (i : ℕ) → getD buffer i 0 < 256) (long : LongEnough buffer p own)
     (e : enterRefusal c p buffer work (stateAfter empty before) ≡ none) (h : Throughout p buffer later) where
   abbrev state : State Job
   state = stateAfter empty before
@@ -192,19 +138,26 @@ module _ (before later : List Lent) (c : ℕ) (p : Places) (buffer work : List �
       (subst (λ (x : State Job). isFree 16 c x ≡ true) (state-planned empty before) (free-entry c p buffer work state e)) (start-places p)
       (service-keeps buffer p) (throughout-same p buffer (free-parts c p buffer work state e .1 .0) c later h))
 
-  verdict-told : (verdictIn c services ≡ none) ⊎ (verdictIn c services ≡ some (verdictOf buffer p))
+  op-is : number (checkLegal (at buffer (p .circuit)) (at buffer (p .y)) (at buffer (p .message)) (at buffer (p .proof)) (circuitOf (at buffer (p .circuit))) .answer)
+      ≡ verdictAlone buffer p own
+  op-is =
+      sym (verdict-op (at buffer (p .circuit)) (at buffer (p .y)) (at buffer (p .message)) (at buffer (p .proof)) (part-bytes buffer (p .proof) bytes)
+      (free-bytes c p buffer work state e) own long)
+
+  verdict-told : (verdictIn c services ≡ none) ⊎ (verdictIn c services ≡ some (verdictAlone buffer p own))
   verdict-told =
       let q = verdict-same ∙ alone-same buffer p (free-parts c p buffer work state e .1 .1 .1) (ownIn c services) (jobAt p) (start-places p) in
-      ⊎-elim (λ a. inl (q ∙ a)) (λ a. inr (q ∙ a))
+      ⊎-elim (λ a. inl (q ∙ a)) (λ a. inr (q ∙ a ∙ ap some op-is))
       (told-alone (at buffer (p .circuit)) (at buffer (p .y)) (at buffer (p .message)) (at buffer (p .proof)) (part-bytes buffer (p .proof) bytes)
       (free-bytes c p buffer work state e) p (ownIn c services))
 
-  verdict-ends : headerM (at buffer (p .proof)) ≤ ownIn c services → verdictIn c services ≡ some (verdictOf buffer p)
+  verdict-ends : headerM (at buffer (p .proof)) ≤ ownIn c services → verdictIn c services ≡ some (verdictAlone buffer p own)
   verdict-ends l =
       verdict-same
       ∙ (alone-same buffer p (free-parts c p buffer work state e .1 .1 .1) (ownIn c services) (jobAt p) (start-places p)
       ∙ ends-alone (at buffer (p .circuit)) (at buffer (p .y)) (at buffer (p .message)) (at buffer (p .proof)) (part-bytes buffer (p .proof) bytes)
-      (free-bytes c p buffer work state e) p (ownIn c services) l)
+      (free-bytes c p buffer work state e) p (ownIn c services) l
+      ∙ ap some op-is)
 
 -- the theorem
 pub shared-checker : SharedChecker
@@ -214,4 +167,5 @@ shared-checker =
       between = λ events b row a first second c e. between Job ℕ 16 (planned events) b row a first second c (sym (services-planned empty events) ∙ e);
       alone = verdict-told;
       ends = verdict-ends;
+      told = call-told;
     }

@@ -5,10 +5,10 @@ use mathlib.Core.List.{List, [], _∷_, _++_}
 use mathlib.Core.Option.{Option, none, some}
 use Prim.Native.Nat.{ℕ}
 use lib.Dec.{leb, ltb}
-use lib.ListN.{length, replicate}
+use lib.ListN.{length, replicate, set}
 use Rattle.schedule.specs.Schedule.{State, Service, empty, waits, next, unlessNone, serve}
 use Rattle.schedule.specs.History.{afterEntry}
-use Rattle.schedule.specs.CallerSteps.{callers}
+use Rattle.schedule.specs.Callers.{callers}
 use Rattle.shared.specs.declared.Places.{Places}
 use Rattle.shared.specs.declared.Job.{Job}
 use Rattle.shared.specs.Service.{allInside, entryAt, unlessRefused, serviceAt, jobAt}
@@ -43,6 +43,24 @@ callRefusal quota work s =
 -- a call: its services, and the state that it leaves; a refused one makes none and changes nothing
 unfoldable pub called : ℕ → List ℕ → List ℕ → State Job → List (Service ℕ) × State Job
 called quota buffer work s = unlessRefused (callRefusal quota work s) (λ k. ([], s)) (serve callers (λ c. serviceAt buffer) quota s)
+
+-- "the answer holds these verdicts, each under its caller"
+abbrev pub under : ℕ → Option ℕ → List ℕ → List ℕ
+under c none verdicts = verdicts
+under c (some v) verdicts = set verdicts c v
+
+unfoldable pub noted : List ℕ → List (Service ℕ) → List ℕ
+noted verdicts [] = verdicts
+noted verdicts (s ∷ services) = noted (under (s .caller) (s .verdict) verdicts) services
+
+-- the verdicts of a call's services: 255 under a caller that has none
+abbrev pub verdictsOf : List (Service ℕ) → List ℕ
+verdictsOf services = noted (replicate callers 255) services
+
+-- the work buffer of a call "left as in order 7": untouched up to its test, which is the last that refuses, all zero after every later
+-- ending
+unfoldable pub workAfterCall : ℕ → List ℕ → State Job → List ℕ
+workAfterCall quota work s = unlessRefused (callRefusal quota work s) (λ k. work) (replicate (length work) 0)
 
 -- an entry or a call, with the buffer and the work buffer that it is lent
 pub data Lent : Type 0 where

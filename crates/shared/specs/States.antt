@@ -5,7 +5,7 @@ use mathlib.Core.List.{List}
 use Prim.Native.Nat.{ℕ}
 use lib.ListN.{getD}
 use Rattle.schedule.specs.Schedule.{Slot, idle, waiting, State}
-use Rattle.schedule.specs.CallerSteps.{flagged, lastServed}
+use Rattle.schedule.specs.Callers.{flagged, lastServed}
 use Rattle.shared.specs.declared.Job.{Job}
 use Rattle.shared.specs.declared.Shared.{Shared}
 use Rattle.shared.specs.Service.{jobAt}

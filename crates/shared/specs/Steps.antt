@@ -1,23 +1,34 @@
 -- What only the contracts of steps use: no definition of the paper stands here.
 -- Assumes nothing.
 use mathlib.Core.Path.{_≡_}
-use mathlib.Core.Bool.{true}
+use mathlib.Core.Bool.{true, cond}
 use mathlib.Core.List.{List}
-use Prim.Native.Nat.{ℕ}
+use mathlib.Core.Option.{Option, none, some}
+use Prim.Native.Nat.{ℕ, _<_}
 use lib.ListN.{length}
-use Rattle.schedule.specs.Schedule.{State, waiting, put, Outcome}
+use Rattle.schedule.specs.Schedule.{State, waiting, put, Outcome, goesOn, finished}
 use Rattle.checking.specs.declared.entering.Shape.{Shape}
 use Rattle.checking.specs.Steps.{inTable, inMarks}
 use Rattle.checking.specs.Steps as steps
 use Rattle.shared.specs.declared.Places.{Places}
 use Rattle.shared.specs.declared.Job.{Job}
+use Rattle.shared.specs.declared.serving.Served.{Served}
 use Rattle.shared.specs.declared.entering.Looked.{Looked}
 use Rattle.shared.specs.declared.entering.Looked.the-variants.{Refused, Ready}
 use Rattle.shared.specs.Service.{at, allInside, instanceOf}
 
--- what the tests leave in the table and the marks, where the bytes at these places pass
+-- the answer of the tests of an entry: the number of a refusal, or none
+abbrev pub lookedOf : Looked → Option ℕ
+lookedOf (Refused k) = some k
+lookedOf (Ready f) = none
+
+-- what a service gives
+abbrev pub outcomeOf : Served → Outcome Job ℕ
+outcomeOf s = cond (s .done) (finished (s .verdict)) (goesOn (s .job))
+
+-- what the tests leave in the table and the marks, where the bytes at these places pass; else a number that is none of the verdicts' 255
 abbrev pub Looking : Looked → List ℕ → Places → List ℕ → List ℕ → Type 0
-Looking (Refused k) buffer p table marks = Unit {0}
+Looking (Refused k) buffer p table marks = k < 255
 Looking (Ready f) buffer p table marks =
     steps.Ready (at buffer (p .circuit)) f (at buffer (p .y)) (at buffer (p .message)) (at buffer (p .proof)) (inTable table f) (inMarks marks f)
 

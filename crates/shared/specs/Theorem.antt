@@ -9,15 +9,16 @@ use Prim.Native.Nat.{ℕ, _≤_, _<_}
 use lib.ListN.{length, getD}
 use Rattle.circuit.specs.File.{circuitOf}
 use Rattle.proof.specs.File.{headerM}
-use Rattle.proof.specs.Check.{checkLegal}
-use Rattle.schedule.specs.Schedule.{Service, empty}
+use Rattle.circuit.specs.Operations.{workBytes}
+use Rattle.proof.specs.Check.{checkOp}
+use Rattle.schedule.specs.Schedule.{State, Service, empty}
 use Rattle.schedule.specs.Fair.{waitsAt, servedIn}
 use Rattle.schedule.specs.Alone.{ownIn, verdictIn}
 use Rattle.shared.specs.declared.Place.{Place}
 use Rattle.shared.specs.declared.Places.{Places}
 use Rattle.shared.specs.declared.Job.{Job}
 use Rattle.shared.specs.Service.{at, allInside, number}
-use Rattle.shared.specs.Operations.{enterRefusal, entered, Lent, enter, call, stateAfter, servicesAfter}
+use Rattle.shared.specs.Operations.{enterRefusal, entered, called, verdictsOf, Lent, enter, call, stateAfter, servicesAfter}
 
 -- the same bytes at these places
 pub record SameAt (p : Places) (buffer other : List ℕ) : Type 0 where
@@ -33,6 +34,19 @@ Throughout p buffer [] = Unit {0}
 Throughout p buffer (enter c q other work ∷ events) = Throughout p buffer events
 Throughout p buffer (call quota other work ∷ events) = SameAt p buffer other × Throughout p buffer events
 
+-- "the one its proof gets alone": the number of the answer of check to the bytes at these places, with a work buffer of its own
+abbrev pub verdictAlone : List ℕ → Places → List ℕ → ℕ
+verdictAlone buffer p own = number (checkOp (at buffer (p .circuit)) (at buffer (p .y)) (at buffer (p .message)) (at buffer (p .proof)) own .answer)
+
+-- that work buffer is as long as check asks for
+abbrev pub LongEnough : List ℕ → Places → List ℕ → Type 0
+LongEnough buffer p own = workBytes (circuitOf (at buffer (p .circuit))) ≤ length own
+
+-- a caller's verdict as the answer of a call holds it
+abbrev pub heldAs : Option ℕ → ℕ
+heldAs none = 255
+heldAs (some v) = v
+
 pub record SharedChecker : Type 0 where
   -- "a waiting caller gets an instance within 16 services"
   pub within : (events : List Lent) (before row after : List (Service ℕ)) (c : ℕ) → servicesAfter empty events ≡ before ++ row ++ after
@@ -41,16 +55,18 @@ pub record SharedChecker : Type 0 where
   pub between : (events : List Lent) (before between after : List (Service ℕ)) (first second : Service ℕ) (c : ℕ)
       → servicesAfter empty events ≡ before ++ (first ∷ between) ++ (second ∷ after) → first .caller ≡ second .caller → c ≢ first .caller
       → waitsAt c (between ++ (second ∷ [])) ≡ true → servedIn c between ≡ true
-  -- "and the verdict is the one its proof gets alone, provided the same bytes are lent throughout": if it has one, the number of check's
-  -- answer to these bytes
-  pub alone : (before later : List Lent) (c : ℕ) (p : Places) (buffer work : List ℕ) → ((i : ℕ) → getD buffer i 0 < 256)
+  -- "and the verdict is the one its proof gets alone, provided the same bytes are lent throughout": if it has one
+  pub alone : (before later : List Lent) (c : ℕ) (p : Places) (buffer work own : List ℕ) → ((i : ℕ) → getD buffer i 0 < 256) → LongEnough buffer p own
       → enterRefusal c p buffer work (stateAfter empty before) ≡ none → Throughout p buffer later
       → (verdictIn c (servicesAfter (entered c p buffer work (stateAfter empty before)) later) ≡ none)
       ⊎ (verdictIn c (servicesAfter (entered c p buffer work (stateAfter empty before)) later)
-      ≡ some (number (checkLegal (at buffer (p .circuit)) (at buffer (p .y)) (at buffer (p .message)) (at buffer (p .proof)) (circuitOf (at buffer (p .circuit))) .answer)))
+      ≡ some (verdictAlone buffer p own))
   -- and it has one by the time that it has had as many services as its header says instances
-  pub ends : (before later : List Lent) (c : ℕ) (p : Places) (buffer work : List ℕ) → ((i : ℕ) → getD buffer i 0 < 256)
+  pub ends : (before later : List Lent) (c : ℕ) (p : Places) (buffer work own : List ℕ) → ((i : ℕ) → getD buffer i 0 < 256) → LongEnough buffer p own
       → enterRefusal c p buffer work (stateAfter empty before) ≡ none → Throughout p buffer later
       → headerM (at buffer (p .proof)) ≤ ownIn c (servicesAfter (entered c p buffer work (stateAfter empty before)) later)
       → verdictIn c (servicesAfter (entered c p buffer work (stateAfter empty before)) later)
-      ≡ some (number (checkLegal (at buffer (p .circuit)) (at buffer (p .y)) (at buffer (p .message)) (at buffer (p .proof)) (circuitOf (at buffer (p .circuit))) .answer))
+      ≡ some (verdictAlone buffer p own)
+  -- "the answer holds these verdicts, each under its caller": the verdict of its proof in that call
+  pub told : (quota : ℕ) (buffer work : List ℕ) (s : State Job) (c : ℕ) → c < 16
+      → getD (verdictsOf (called quota buffer work s .0)) c 255 ≡ heldAs (verdictIn c (called quota buffer work s .0))

@@ -7,8 +7,8 @@ ghost use lib.ListN.{length, set, replicate};
 ghost use Rattle.shared.specs.Service.{inside as «inside-def», allInside, at, entryAt, unlessRefused, jobAt};
 ghost use Rattle.shared.specs.States.{stateOf};
 ghost use Rattle.shared.specs.Operations.{enterRefusal, entered, workAfterEntry};
-ghost use Rattle.shared.specs.Answers.{refusalOf, lookedOf};
-ghost use Rattle.shared.specs.Steps.{Looking, seated};
+ghost use Rattle.shared.specs.Answers.{refusalOf};
+ghost use Rattle.shared.specs.Steps.{lookedOf, Looking, seated};
 use crate::Job;
 use crate::Place;
 use crate::Places;
@@ -21,6 +21,7 @@ use checking::entering::test_lent;
 use circuit::ReadAnswer;
 use circuit::reading::read;
 use mpc::tests::both;
+use refusal::Refusal;
 use refusal::number;
 
 // The bytes of the work buffer.
@@ -51,7 +52,7 @@ fn inside(buffer: &[u8], p: Place) -> bool
 }
 
 // Whether all places do.
-pub(crate) fn all_inside(buffer: &[u8], p: Places) -> bool
+pub fn all_inside(buffer: &[u8], p: Places) -> bool
     ensures { λ r. ⌜ r ≡ allInside (now (buffer .entry)) p ⌝ }
 {
     let a = inside(buffer, p.circuit);
@@ -72,7 +73,7 @@ pub(crate) fn part(buffer: &[u8], p: Place) -> &[u8]
 }
 
 // Tests the bytes at places inside the buffer. A table for 512 instances and marks for 1,024 nodes are lent.
-pub(crate) fn look(buffer: &[u8], p: Places, table: &mut [u8], marks: &mut [u8]) -> Looked
+pub fn look(buffer: &[u8], p: Places, table: &mut [u8], marks: &mut [u8]) -> Looked
     requires { ⌜ (allInside (now buffer) p ≡ true) × ((length (now table) ≡ 512) × (length (now marks) ≡ 1024)) ⌝ }
     ensures { λ r. ⌜ lookedOf r ≡ entryAt (now (buffer .entry)) p ⌝ }
     ensures { λ r. ⌜ Looking r (now (buffer .entry)) p (now (table .exit)) (now (marks .exit)) ⌝ }
@@ -167,18 +168,18 @@ pub fn enter(s: Shared, caller: u32, places: Places, buffer: &[u8], work: &mut [
     ensures { λ r. ⌜ (refusalOf (r .refused) (r .number) ≡ enterRefusal caller places (now (buffer .entry)) (now (work .entry)) (stateOf s)) × ((stateOf (r .state) ≡ entered caller places (now (buffer .entry)) (now (work .entry)) (stateOf s)) × (now (work .exit) ≡ workAfterEntry caller places (now (buffer .entry)) (now (work .entry)) (stateOf s))) ⌝ }
 {
     if 15 < caller {
-        return refused(s, 26);
+        return refused(s, number(Refusal::CallerNumber));
     }
     let i = caller as usize;
     let flags = s.waiting;
     if flags[i] {
-        return refused(s, 27);
+        return refused(s, number(Refusal::AlreadyWaiting));
     }
     if !all_inside(buffer, places) {
-        return refused(s, 6);
+        return refused(s, number(Refusal::BufferLength));
     }
     if work.len() < SHARED_WORK {
-        return refused(s, 6);
+        return refused(s, number(Refusal::BufferLength));
     }
     enter_at(s, i, places, buffer, work)
 }

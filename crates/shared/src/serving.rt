@@ -7,14 +7,10 @@ ghost use Rattle.masks.specs.Steps.{wireCount};
 ghost use Rattle.checking.specs.Steps.{Tested};
 ghost use Rattle.proof.specs.File.{headerM};
 ghost use Rattle.proof.specs.Steps.{asksIn};
-ghost use Rattle.shared.specs.Service.{settled as «settled-of», settledBoth, afterInstance, nextInstance, serviceAt};
+ghost use Rattle.shared.specs.Service.{settled as «settled-of», settledBoth, afterInstance, nextInstance};
 ghost use Rattle.schedule.specs.Schedule.{finished as «finished-with»};
-ghost use Rattle.shared.specs.Answers.{outcomeOf};
-ghost use Rattle.shared.specs.Steps.{ReadyAt, instanceAt};
+ghost use Rattle.shared.specs.Steps.{outcomeOf, ReadyAt, instanceAt};
 use crate::Job;
-use crate::entering::Looked;
-use crate::entering::all_inside;
-use crate::entering::look;
 use crate::entering::part;
 use checking::entering::Shape;
 use checking::stepping::Running;
@@ -32,7 +28,7 @@ pub struct Served {
 }
 
 // A proof that is finished.
-fn finished(job: Job, verdict: u32) -> Served
+pub fn finished(job: Job, verdict: u32) -> Served
     ensures { λ r. ⌜ outcomeOf r ≡ «finished-with» verdict ⌝ }
 {
     Served {
@@ -116,7 +112,7 @@ pub(crate) fn serve_tested(
 }
 
 // The same of a proof whose inputs lie at its places in the buffer, with the table and the marks that its tests have left.
-pub(crate) fn serve_ready(
+pub fn serve_ready(
     job: Job,
     f: Shape,
     buffer: &[u8],
@@ -135,22 +131,4 @@ pub(crate) fn serve_ready(
     let c = k.instances as usize;
     let r = row_count(k.instances);
     serve_tested(job, s, f, &table[..c], &marks[..r], y, proof, work)
-}
-
-// One service of a waiting proof, with the tests of its bytes: bytes that entry would now refuse finish it.
-pub(crate) fn serve_one(job: Job, buffer: &[u8], work: &mut [u8]) -> Served
-    requires { ⌜ 6436864 ≤ length (now work) ⌝ }
-    ensures { λ r. ⌜ outcomeOf r ≡ serviceAt (now (buffer .entry)) job ⌝ }
-{
-    let p = job.places;
-    if !all_inside(buffer, p) {
-        return finished(job, 6);
-    }
-    let mut table = [0u8; 512];
-    let mut marks = [0u8; 1024];
-    let looked = look(buffer, p, &mut table, &mut marks);
-    match looked {
-        Looked::Refused(k) => finished(job, k),
-        Looked::Ready(f) => serve_ready(job, f, buffer, &table, &marks, work),
-    }
 }

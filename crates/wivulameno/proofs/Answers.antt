@@ -33,6 +33,7 @@ use Rattle.shelf.specs.Operations.{paper as shelfPaper}
 use Rattle.shelf.specs.declared.Answer.the-variants as shelfAnswer
 use Rattle.wivulameno.specs.Interface.{status, values, slot}
 use Rattle.wivulameno.proofs.SmallStatuses.{small-paper}
+use Rattle.wivulameno.proofs.SharedStatuses.{enter-paper, check-paper}
 use Rattle.wivulameno.specs.Answers.{Injective, DifferentAnswers, reported, readReported, DifferentStatuses}
 
 -- what is different after another step was different before it
@@ -177,5 +178,7 @@ different-answers =
       derive = before seeds.paper status derive-status;
       prove = before proving.paper (reported []) (prove-status []);
       check = before checking.paper status check-status;
+      shared-enter = enter-paper;
+      shared-check = check-paper;
       shelf = λ vs. before (λ a. shelfPaper a vs) status (shelf-status vs);
     }

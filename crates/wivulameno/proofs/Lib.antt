@@ -1,3 +1,4 @@
 pub mod Statuses
+pub mod SharedStatuses
 pub mod Answers
 pub mod SmallStatuses

@@ -17,6 +17,7 @@ use Rattle.mpc.specs.Answers as mpc
 use Rattle.seeds.specs.Operations as seeds
 use Rattle.proving.specs.Answers as proving
 use Rattle.checking.specs.Answers as checking
+use Rattle.shared_bytes.specs.Answers.{enterPaper, checkPaper}
 use Rattle.shelf.specs.Operations.{paper as shelfPaper}
 use Rattle.wivulameno.specs.Interface.{status, values, slot}
 
@@ -25,8 +26,8 @@ abbrev pub Injective : {A B : Type 0} → (A → B) → Type 0
 Injective {A} f = (a b : A) → f a ≡ f b → a ≡ b
 
 -- the definitions that put each answer enum into the paper's terms: of the refusals; of read; of evaluate; of convert; of upgrade; of join;
--- of small; of one of; of prepare, run, show and replay; of expand, open, masters, cover and challenge; of prove; of check; of stock and
--- draw, with the values of a success
+-- of small; of one of; of prepare, run, show and replay; of expand, open, masters, cover and challenge; of prove; of check; of the shared
+-- checker's entry and call; of stock and draw, with the values of a success
 pub record DifferentAnswers : Type 0 where
   pub refusals : Injective numberOf
   pub read : Injective readPaper
@@ -40,6 +41,8 @@ pub record DifferentAnswers : Type 0 where
   pub derive : Injective seeds.paper
   pub prove : Injective proving.paper
   pub check : Injective checking.paper
+  pub shared-enter : Injective enterPaper
+  pub shared-check : Injective checkPaper
   pub shelf : (vs : List ℕ) → Injective (λ a. shelfPaper a vs)
 
 -- what a C function with numbers to fill in says: its status, and those numbers, where `lent` is what they were

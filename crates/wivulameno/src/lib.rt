@@ -13,6 +13,7 @@ ghost use Rattle.one_of.specs.OneOf.{oneOfOp};
 ghost use Rattle.mpc.specs.Operations.{prepareOp, runOp, showOp, replayOp};
 ghost use Rattle.proof.specs.Prove.{proveOp};
 ghost use Rattle.proof.specs.Check.{checkOp};
+ghost use Rattle.shared_bytes.specs.Operations.{startOp, enterOp, callOp};
 ghost use Rattle.shelf.specs.Operations.{stockOp, drawOp};
 ghost use Rattle.seeds.specs.Operations.{expandOp, openOp, mastersOp, coverOp, challengeOp};
 ghost use Rattle.wivulameno.specs.Interface.{status, values, slot, lengthTold};
@@ -360,6 +361,57 @@ pub extern "C" fn wv_check(
     match a {
         checking::Answer::Accepted => 0,
         checking::Answer::Refused(k) => refusal::number(k),
+    }
+}
+
+// Puts the empty state of a shared checker into the lent bytes.
+#[no_mangle]
+pub extern "C" fn wv_shared_start(state: &mut [u8; 7537]) -> u32
+    ensures { λ r. ⌜ (r ≡ status (startOp .answer)) × (now (state .exit) ∷ [] ≡ startOp .left) ⌝ }
+{
+    shared_bytes::start(state);
+    0
+}
+
+// Enters a caller's proof into a shared checker, whose state is the lent bytes. The numbers of `places` are start and length of circuit, y,
+// message and proof in the buffer.
+#[no_mangle]
+pub extern "C" fn wv_shared_enter(
+    state: &mut [u8; 7537],
+    caller: u32,
+    places: &[u64; 8],
+    buffer: &[u8],
+    work: &mut [u8],
+) -> u32
+    ensures { λ r. ⌜ (r ≡ status (enterOp (now (state .entry)) caller (now (places .entry)) (now (buffer .entry)) (now (work .entry)) .answer)) × (now (state .exit) ∷ now (work .exit) ∷ [] ≡ enterOp (now (state .entry)) caller (now (places .entry)) (now (buffer .entry)) (now (work .entry)) .left) ⌝ }
+{
+    let a = shared_bytes::enter(state, caller, places, buffer, work);
+    match a {
+        shared_bytes::EnterAnswer::Done => 0,
+        shared_bytes::EnterAnswer::Refused(k) => k,
+    }
+}
+
+// Checks a quota of instances of the proofs that wait in a shared checker: how many were checked, and each caller's verdict, 255 for none in
+// this call, 0 for accepted, else the number.
+#[no_mangle]
+pub extern "C" fn wv_shared_check(
+    state: &mut [u8; 7537],
+    quota: u32,
+    buffer: &[u8],
+    checked: &mut [u32; 1],
+    verdicts: &mut [u8; 16],
+    work: &mut [u8],
+) -> u32
+    ensures { λ r. ⌜ (r ≡ status (callOp (now (state .entry)) quota (now (buffer .entry)) (now (verdicts .entry)) (now (work .entry)) .answer)) × ((now (checked .exit) ≡ values (callOp (now (state .entry)) quota (now (buffer .entry)) (now (verdicts .entry)) (now (work .entry)) .answer) (now (checked .entry))) × (now (state .exit) ∷ now (verdicts .exit) ∷ now (work .exit) ∷ [] ≡ callOp (now (state .entry)) quota (now (buffer .entry)) (now (verdicts .entry)) (now (work .entry)) .left)) ⌝ }
+{
+    let a = shared_bytes::check(state, quota, buffer, verdicts, work);
+    match a {
+        shared_bytes::CheckAnswer::Checked(n) => {
+            *checked = [n];
+            0
+        }
+        shared_bytes::CheckAnswer::Refused(k) => k,
     }
 }
 

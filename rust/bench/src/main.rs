@@ -8,6 +8,7 @@ mod openssl;
 mod price;
 mod proofs;
 mod rows;
+mod shared;
 mod texts;
 
 use openssl::OpenSsl;
@@ -29,4 +30,5 @@ fn main() {
     mpc::gates_table(&instance).print();
     mpc::challenge_table().print();
     proofs::print(openssl.as_ref());
+    shared::print();
 }

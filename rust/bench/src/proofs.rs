@@ -11,7 +11,7 @@ use reference::work::work_len;
 use std::hint::black_box;
 use wivulameno::Work;
 
-const MESSAGE: &[u8] = b"order 17 of depot 4, 2026-03-01.";
+pub const MESSAGE: &[u8] = b"order 17 of depot 4, 2026-03-01.";
 const ROOT: [u8; 16] = [0x5a; 16];
 const INSTANCES: [u32; 3] = [64, 256, 512];
 
@@ -34,11 +34,11 @@ macro_rules! example {
 }
 
 /// A circuit with a witness, and a proof for each M and n.
-struct Example {
-    name: &'static str,
-    circuit: Vec<u8>,
+pub struct Example {
+    pub name: &'static str,
+    pub circuit: Vec<u8>,
     witness: Vec<u8>,
-    y: Vec<u8>,
+    pub y: Vec<u8>,
     sizes: Sizes,
 }
 
@@ -67,8 +67,13 @@ impl Example {
         Example::of((name, circuit, witness))
     }
 
+    /// The comparison of `make run`.
+    pub fn covers16() -> Example {
+        Example::of(example!("covers16"))
+    }
+
     /// A pricing circuit of so many gates.
-    fn price(name: &'static str, gates: usize) -> Example {
+    pub fn price(name: &'static str, gates: usize) -> Example {
         let witness = price::row(price::some_values());
         Example::of((name, price::circuit(gates), witness))
     }
@@ -86,7 +91,7 @@ impl Example {
     }
 
     /// The proof by the library.
-    fn proof(&self, counts: Counts) -> Vec<u8> {
+    pub fn proof(&self, counts: Counts) -> Vec<u8> {
         let mut proof = vec![0; longest(self.sizes, counts)];
         let statement = wivulameno::proof::Statement {
             circuit: &self.circuit,
@@ -257,12 +262,9 @@ fn print_rows(rows: &mut [Row], rounds: usize, openssl: Option<&OpenSsl>) -> Vec
 
 /// The examples, then the worst circuit in fewer rounds.
 pub fn print(openssl: Option<&OpenSsl>) {
-    let small = [
-        example!("covers16"),
-        example!("covers32"),
-        example!("fresh"),
-    ];
-    print_table(&small.map(Example::of), SOME_PARTIES, 15, openssl);
+    let [covers32, fresh] = [example!("covers32"), example!("fresh")].map(Example::of);
+    let small = [Example::covers16(), covers32, fresh];
+    print_table(&small, SOME_PARTIES, 15, openssl);
     print_table(&[Example::worst()], ALL_PARTIES, 6, openssl);
     print_prices(openssl);
 }

@@ -16,6 +16,7 @@ pub mod old;
 pub mod one_of;
 pub mod proof;
 pub mod seeds;
+pub mod shared;
 pub mod shelf;
 pub mod small;
 pub mod work;

@@ -78,13 +78,7 @@ pub fn check(statement: Statement, proof: &[u8], work: &mut [u8]) -> Result<(), 
     let circuit = legal(statement.circuit)?;
     let sizes = circuit.sizes();
     let _work = Work::lent(sizes, work)?;
-    lengths_of(statement, sizes)?;
-    if !rest_is_zero(statement.y, sizes.outputs) {
-        return Err(7);
-    }
-    let (counts, h_star) = header(proof).ok_or(11_u32)?;
-    let hidden = hidden_parties(statement, counts, h_star);
-    answers(&circuit, statement.y, &hidden, proof)
+    Checkable::of_circuit(circuit, statement, proof)?.check()
 }
 
 /// Does the proof of a circuit file that is legal answer the challenge that hides
@@ -96,34 +90,90 @@ pub fn check_answers(
     proof: &[u8],
 ) -> Result<(), Refusal> {
     let circuit = legal(circuit).expect("a legal circuit");
-    answers(&circuit, y, hidden, proof)
+    Checkable::answering(circuit, y, hidden, proof)?.check()
 }
 
-fn answers(
-    circuit: &Circuit,
-    y: &[u8],
-    hidden: &[Option<u8>],
-    proof: &[u8],
-) -> Result<(), Refusal> {
-    let (counts, h_star) = header(proof).expect("a header");
-    let (sizes, n) = (circuit.sizes(), counts.n as usize);
-    let received = received(sizes, n, hidden, proof).ok_or(12_u32)?;
-    if !received.iter().all(|part| part.unused_is_zero(sizes)) {
-        return Err(7);
+/// A proof that passes all tests of check but those for 10 and 13, ready to be checked
+/// instance by instance.
+pub struct Checkable<'a> {
+    circuit: Circuit,
+    y: &'a [u8],
+    n: usize,
+    h_star: Digest,
+    instances: Vec<Received<'a>>,
+}
+
+impl<'a> Checkable<'a> {
+    /// The refusals of check but that for the work buffer, 10 and 13.
+    pub fn of(statement: Statement<'a>, proof: &'a [u8]) -> Result<Checkable<'a>, Refusal> {
+        Checkable::of_circuit(legal(statement.circuit)?, statement, proof)
     }
-    let instances = (0..).zip(&received);
-    let checked: Vec<Checked> = instances
-        .map(|(j, part)| part.checked(circuit, j, n))
-        .collect();
-    let other = |part: &Checked| part.output.as_ref().is_some_and(|output| output != y);
-    if checked.iter().any(other) {
-        return Err(10);
+
+    /// What follows the tests of the circuit: 6, 7, 11, 12 and 7.
+    fn of_circuit(
+        circuit: Circuit,
+        statement: Statement<'a>,
+        proof: &'a [u8],
+    ) -> Result<Checkable<'a>, Refusal> {
+        let sizes = circuit.sizes();
+        lengths_of(statement, sizes)?;
+        if !rest_is_zero(statement.y, sizes.outputs) {
+            return Err(7);
+        }
+        let (counts, h_star) = header(proof).ok_or(11_u32)?;
+        let hidden = hidden_parties(statement, counts, h_star);
+        Checkable::answering(circuit, statement.y, &hidden, proof)
     }
-    let h: Vec<Digest> = checked.iter().map(|part| part.h).collect();
-    let h_prime: Vec<Digest> = checked.iter().map(|part| part.h_prime).collect();
-    match digest_of_all(&h, &h_prime) == h_star {
-        true => Ok(()),
-        false => Err(13),
+
+    /// The proof has a header, whose challenge hides these parties: 12 and 7.
+    fn answering(
+        circuit: Circuit,
+        y: &'a [u8],
+        hidden: &[Option<u8>],
+        proof: &'a [u8],
+    ) -> Result<Checkable<'a>, Refusal> {
+        let (counts, h_star) = header(proof).expect("a header");
+        let (sizes, n) = (circuit.sizes(), counts.n as usize);
+        let instances = received(sizes, n, hidden, proof).ok_or(12_u32)?;
+        if !instances.iter().all(|part| part.unused_is_zero(sizes)) {
+            return Err(7);
+        }
+        Ok(Checkable {
+            circuit,
+            y,
+            n,
+            h_star,
+            instances,
+        })
+    }
+
+    /// M, the number of instances.
+    pub fn instances(&self) -> usize {
+        self.instances.len()
+    }
+
+    /// Checks instance j and gives h_j and h'_j; 10 if its output is not y.
+    pub fn instance(&self, j: usize) -> Result<[Digest; 2], Refusal> {
+        let Checked { digests, output } =
+            self.instances[j].checked(&self.circuit, j as u16, self.n);
+        match output.is_some_and(|output| output != self.y) {
+            true => Err(10),
+            false => Ok(digests),
+        }
+    }
+
+    /// Is h* that of these h_j and h'_j? Else 13.
+    pub fn fits(&self, digests: &[[Digest; 2]]) -> Result<(), Refusal> {
+        match digest_of_all(digests) == self.h_star {
+            true => Ok(()),
+            false => Err(13),
+        }
+    }
+
+    fn check(&self) -> Result<(), Refusal> {
+        let all = (0..self.instances()).map(|j| self.instance(j));
+        let digests: Vec<[Digest; 2]> = all.collect::<Result<_, _>>()?;
+        self.fits(&digests)
     }
 }
 
@@ -224,9 +274,10 @@ pub fn parts<'a>(
 }
 
 /// Tags 9, 10 and 11: h* over all h_j and all h'_j.
-fn digest_of_all(h: &[Digest], h_prime: &[Digest]) -> Digest {
-    let h = seeds::all_commitments_digest(h);
-    let h_prime = seeds::all_broadcasts_digest(h_prime);
+fn digest_of_all(digests: &[[Digest; 2]]) -> Digest {
+    let [h, h_prime] = [0, 1].map(|side| digests.iter().map(|both| both[side]).collect::<Vec<_>>());
+    let h = seeds::all_commitments_digest(&h);
+    let h_prime = seeds::all_broadcasts_digest(&h_prime);
     seeds::h_star(h, h_prime)
 }
 
@@ -340,9 +391,9 @@ fn all_instances(circuit: &Circuit, witness: &[u8], root: Value, counts: Counts)
 
 /// The h* of these instances.
 pub fn h_star(instances: &[Instance]) -> Digest {
-    let h: Vec<Digest> = instances.iter().map(Instance::h).collect();
-    let h_prime: Vec<Digest> = instances.iter().map(Instance::h_prime).collect();
-    digest_of_all(&h, &h_prime)
+    let each = instances.iter();
+    let digests: Vec<[Digest; 2]> = each.map(|one| [one.h(), one.h_prime()]).collect();
+    digest_of_all(&digests)
 }
 
 /// The proof file with this h*: the header, and what its challenge asks for. The
@@ -417,11 +468,10 @@ fn received<'a>(
     Some(received.collect())
 }
 
-/// What follows from a part of the proof: both digests, and the output if it
-/// was replayed.
+/// What follows from a part of the proof: h_j and h'_j, and the output if it was
+/// replayed.
 struct Checked {
-    h: Digest,
-    h_prime: Digest,
+    digests: [Digest; 2],
     output: Option<Vec<u8>>,
 }
 
@@ -440,8 +490,7 @@ impl Received<'_> {
             Received::NotChosen { master, h_prime } => {
                 let commitments = Preprocessing::of(circuit, j, n, *master).commitments();
                 Checked {
-                    h: seeds::commitments_digest(j, &commitments),
-                    h_prime: *h_prime,
+                    digests: [seeds::commitments_digest(j, &commitments), *h_prime],
                     output: None,
                 }
             }
@@ -495,9 +544,10 @@ impl<'a> Opened<'a> {
             row: self.row,
         };
         let (rows, output) = run_shown(circuit, n, self.p, showing);
+        let h = seeds::commitments_digest(j, &commitments);
+        let h_prime = seeds::broadcasts_digest(j, self.masked_inputs, &rows);
         Checked {
-            h: seeds::commitments_digest(j, &commitments),
-            h_prime: seeds::broadcasts_digest(j, self.masked_inputs, &rows),
+            digests: [h, h_prime],
             output: Some(output),
         }
     }

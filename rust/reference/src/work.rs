@@ -8,14 +8,19 @@ pub fn work_len(sizes: Sizes) -> usize {
     64 * (sizes.inputs + sizes.gates) + 4096
 }
 
-/// The buffer of an operation that has read its circuit. Nothing is kept in it, but
-/// it is all zero when the operation ends, however that ends.
+/// The buffer of an operation that has passed the test of its length. Nothing is kept in
+/// it, but it is all zero when the operation ends, however that ends.
 pub(crate) struct Work<'a>(&'a mut [u8]);
 
 impl Work<'_> {
-    /// 6 for a buffer that is too short, which stays as it is.
+    /// 6 for a buffer that is too short for this circuit, which stays as it is.
     pub fn lent(sizes: Sizes, work: &mut [u8]) -> Result<Work<'_>, Refusal> {
-        match work.len() < work_len(sizes) {
+        Work::of_len(work_len(sizes), work)
+    }
+
+    /// 6 for a buffer of fewer bytes, which stays as it is.
+    pub fn of_len(least: usize, work: &mut [u8]) -> Result<Work<'_>, Refusal> {
+        match work.len() < least {
             true => Err(6),
             false => Ok(Work(work)),
         }

@@ -15,12 +15,17 @@ impl Outcomes {
         self.add(answer.as_ref().err().copied().unwrap_or(0));
     }
 
-    /// Each of these outcomes must have occurred `least` times, and no other.
-    pub fn expect(&self, outcomes: &[u32], least: usize) {
+    /// Each of these outcomes must have occurred `least` times.
+    pub fn expect_some(&self, outcomes: &[u32], least: usize) {
         for outcome in outcomes {
             let times = self.0.get(outcome).copied().unwrap_or(0);
             assert!(times >= least, "outcome {outcome}: {times} of {least}");
         }
+    }
+
+    /// Each of these outcomes must have occurred `least` times, and no other.
+    pub fn expect(&self, outcomes: &[u32], least: usize) {
+        self.expect_some(outcomes, least);
         let other = self.0.keys().find(|key| !outcomes.contains(key));
         assert_eq!(other, None, "an outcome that was not expected");
     }

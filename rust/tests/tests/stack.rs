@@ -12,7 +12,8 @@ use tests::proofs::{longest, Prove};
 use tests::random::Random;
 use tests::stack::{below, used};
 use wivulameno::circuit::{self, from_bristol, upgrade};
-use wivulameno::proof::{check, prove, Counts, Statement};
+use wivulameno::limits::MAX_WORK;
+use wivulameno::proof::{check, prove, Counts, Places, SharedChecker, Statement};
 use wivulameno::{burn_stack, seeds, shelf, Work};
 
 /// The promise of the header and of the README.
@@ -438,6 +439,46 @@ fn proofs() {
     takes("prove, M 512", || {
         len = prove_in_c(&call, &mut proof, &mut work)
     });
+}
+
+/// The shared checker is lent no secret, and its functions do not burn: the largest circuit
+/// for all callers, and the most instances of a small one.
+#[test]
+fn shared_checkers() {
+    let mut random = Random::new(0x580);
+    let setting = largest();
+    let mut work = vec![0x5a; MAX_WORK];
+    let (mut buffer, mut all) = (vec![], vec![]);
+    let small = Setting::of_sizes(&mut random, [9, 3, 12], 16);
+    for (setting, counts) in [(&setting, [2, 1]), (&small, [512, 300])] {
+        let call = Prove::of(&mut random, setting, counts, 4096);
+        let mut proof = vec![0; call.proof_len];
+        let len = prove_in_c(&call, &mut proof, &mut work);
+        let statement = Statement {
+            circuit: &call.circuit,
+            y: &call.y,
+            message: &call.message,
+        };
+        all.push(Places::append(&mut buffer, statement, &proof[..len]));
+    }
+    let mut work = Work::lent(&mut work);
+    let mut checker = SharedChecker::new();
+    takes("shared_start", || checker = SharedChecker::new());
+    for (caller, places) in [(3, all[0]), (4, all[1]), (15, all[0])] {
+        takes("shared_enter", || {
+            assert_eq!(checker.enter(caller, places, &buffer, &mut work), Ok(()));
+        });
+    }
+    for (count, finished) in [
+        (512, vec![(3, Ok(())), (15, Ok(()))]),
+        (4, vec![(4, Ok(()))]),
+    ] {
+        takes("shared_check", || {
+            let checked = checker.check(512, &buffer, &mut work).expect("waiting");
+            assert_eq!(checked.count, count);
+            assert!(checked.finished().eq(finished));
+        });
+    }
 }
 
 /// What must not be found after a proof: for each chosen instance its master, and the

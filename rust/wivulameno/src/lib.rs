@@ -4,7 +4,7 @@
 //! | module | what is there |
 //! | --- | --- |
 //! | [`circuit`] | read a circuit, evaluate it, convert a text or an old file to one, join two, ask for one of several outputs, list the small ones |
-//! | [`proof`] | prove and check; how long a proof is, and how sound |
+//! | [`proof`] | prove and check; one checker for up to 16 callers; how long a proof is, and how sound |
 //! | [`store`] | shelf and log in files, in the order of writes that survives a cut |
 //! | [`shelf`] | shelf pages in memory, for a host with a log of its own |
 //! | [`mpc`], [`seeds`] | the parts that proofs are made of |

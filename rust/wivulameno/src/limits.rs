@@ -70,6 +70,20 @@ pub const MAX_PROOF: usize = {
     longest_proof(sizes, counts).unwrap()
 };
 
+/// A [`SharedChecker`](crate::proof::SharedChecker) has callers 0 to this, less 1.
+pub const MAX_CALLERS: usize = 16;
+
+/// A call to a [`SharedChecker`](crate::proof::SharedChecker) names a quota of 1 to so
+/// many instances.
+pub const MAX_QUOTA: u32 = 512;
+
+/// The bytes of the state of a [`SharedChecker`](crate::proof::SharedChecker).
+pub const SHARED_STATE: usize = 7537;
+
+/// The bytes of the work buffer that a [`SharedChecker`](crate::proof::SharedChecker) asks
+/// for: enough for every circuit.
+pub const SHARED_WORK: usize = MAX_WORK;
+
 /// The bytes of a root, of a master and of a leaf.
 pub const ROOT_LEN: usize = 16;
 

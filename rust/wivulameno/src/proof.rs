@@ -2,11 +2,13 @@
 
 mod counts;
 mod length;
+mod shared;
 mod soundness;
 
 pub use counts::Counts;
 pub(crate) use length::oct;
 pub use length::{longest_proof, most_opened, proof_len};
+pub use shared::{Checked, Place, Places, SharedChecker, Verdict};
 
 use crate::{answer, answer_burned, Refusal, Work};
 

@@ -20,7 +20,7 @@ pub enum Refusal {
     Length = 6,
     /// A bit that must be zero is not.
     UnusedBits = 7,
-    /// M, tau or n is not allowed.
+    /// M, tau, n or a quota is not allowed.
     Counts = 8,
     /// There is no such party or leaf, no leaf is hidden, or the cut is behind the last
     /// gate.
@@ -58,6 +58,12 @@ pub enum Refusal {
     TextLimits = 24,
     /// The two circuits have different numbers of inputs.
     InputCounts = 25,
+    /// There is no such caller of a shared checker.
+    Caller = 26,
+    /// The caller has a proof waiting.
+    Waiting = 27,
+    /// No proof is waiting.
+    NoneWaiting = 28,
     /// The sizes are not those of a small circuit.
     SmallSizes = 29,
     /// The list of outputs is empty or too long.
@@ -65,8 +71,8 @@ pub enum Refusal {
 }
 
 impl Refusal {
-    /// All of them, by their numbers. There is no 4, and none from 26 to 28.
-    pub const ALL: [Refusal; 26] = [
+    /// All of them, by their numbers. There is no 4.
+    pub const ALL: [Refusal; 29] = [
         Refusal::CircuitLength,
         Refusal::CircuitSizes,
         Refusal::Gate,
@@ -91,6 +97,9 @@ impl Refusal {
         Refusal::GateKind,
         Refusal::TextLimits,
         Refusal::InputCounts,
+        Refusal::Caller,
+        Refusal::Waiting,
+        Refusal::NoneWaiting,
         Refusal::SmallSizes,
         Refusal::OutputList,
     ];
@@ -158,6 +167,9 @@ impl Refusal {
                 "the text has more gates, inputs or outputs than allowed, or no input or no output"
             }
             Refusal::InputCounts => "the two circuits have different numbers of inputs",
+            Refusal::Caller => "there is no such caller: they are 0 to 15",
+            Refusal::Waiting => "the caller has a proof waiting",
+            Refusal::NoneWaiting => "no proof is waiting",
             Refusal::SmallSizes => {
                 "the sizes are not those of a small circuit: 1 or 2 inputs, 1 output, at most 2 gates"
             }
@@ -181,13 +193,13 @@ mod tests {
 
     #[test]
     fn numbers_go_both_ways() {
-        let numbers = (1..=3).chain(5..=25).chain([29, 30]);
+        let numbers = (1..=3).chain(5..=30);
         let found = Refusal::ALL.map(Refusal::number);
         assert_eq!(found.to_vec(), numbers.collect::<Vec<_>>());
         for refusal in Refusal::ALL {
             assert_eq!(Refusal::from_number(refusal.number()), Some(refusal));
         }
-        for number in [0, 4, 26, 28, 31, u32::MAX] {
+        for number in [0, 4, 31, 255, u32::MAX] {
             assert_eq!(Refusal::from_number(number), None);
         }
     }
@@ -204,7 +216,7 @@ mod tests {
     #[test]
     fn each_has_a_sentence_of_its_own() {
         let sentences: HashSet<_> = Refusal::ALL.map(Refusal::sentence).into();
-        assert_eq!(sentences.len(), 26);
+        assert_eq!(sentences.len(), 29);
         assert!(sentences.iter().all(|text| !text.ends_with('.')));
     }
 

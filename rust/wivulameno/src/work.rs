@@ -1,18 +1,20 @@
 //! The work buffer.
 
 use crate::circuit::{sizes, Sizes};
+use crate::limits::SHARED_WORK;
 use crate::Refusal;
 use std::fmt;
 
-/// The memory that a call works in. The six functions that are lent it are
+/// The memory that a call works in. Six functions are lent it:
 /// [`prove`](crate::proof::prove), [`check`](crate::proof::check) and those of
-/// [`mpc`](crate::mpc). One can be used for one call after the other, for every
-/// circuit that it is long enough for.
+/// [`mpc`](crate::mpc); and so is a [`SharedChecker`](crate::proof::SharedChecker). One
+/// can be used for one call after the other, for every circuit that it is long enough for.
 ///
 /// A work buffer of fewer than [`Sizes::work_len`] bytes is refused with 6, directly
 /// after the circuit is read. A call that is refused for its circuit or by this test
 /// leaves the buffer as it was; after every other call, refused or not, it is all zero,
-/// so no secret is left in it.
+/// so no secret is left in it. A shared checker asks for [`SHARED_WORK`] bytes, before
+/// it reads a circuit.
 ///
 /// ```
 /// use wivulameno::circuit::Sizes;
@@ -40,6 +42,14 @@ impl Work {
     pub fn for_sizes(sizes: Sizes) -> Work {
         Work {
             bytes: vec![0; sizes.work_len()],
+        }
+    }
+
+    /// A buffer that is long enough for every circuit, and for a
+    /// [`SharedChecker`](crate::proof::SharedChecker).
+    pub fn for_every_circuit() -> Work {
+        Work {
+            bytes: vec![0; SHARED_WORK],
         }
     }
 
@@ -104,6 +114,7 @@ mod tests {
         work.grow_for(Sizes { gates: 2, ..K });
         assert_eq!((work.len(), work.is_empty()), (4352, false));
         assert!(Work::default().is_empty());
+        assert_eq!(Work::for_every_circuit().len(), 6_436_864);
     }
 
     #[test]

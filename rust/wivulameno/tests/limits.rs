@@ -4,7 +4,7 @@
 use wivulameno::circuit::{read, sizes, upgrade, upgrade_to_vec, Sizes};
 use wivulameno::limits::*;
 use wivulameno::proof::{check, longest_proof, most_opened, proof_len, prove};
-use wivulameno::proof::{Counts, Statement};
+use wivulameno::proof::{Counts, Places, SharedChecker, Statement};
 use wivulameno::seeds::{challenge, cover, expand, masters, ChallengeInput};
 use wivulameno::{sha3_256, shelf, Refusal, Work};
 
@@ -194,6 +194,53 @@ fn of_messages() {
     };
     assert!(prove(&[7; MAX_MESSAGE]).is_ok());
     assert_eq!(prove(&[7; MAX_MESSAGE + 1]), Err(Refusal::Length));
+}
+
+/// The last caller, the first and the last quota, and the shortest work buffer; and what is
+/// beyond them.
+#[test]
+fn of_a_shared_checker() {
+    let counts = Counts { m: 4, tau: 1, n: 2 };
+    let mut proof = [0; 233];
+    let made = prove(
+        k(b""),
+        &[3],
+        &[1; ROOT_LEN],
+        counts,
+        &mut proof,
+        &mut work(),
+    );
+    let mut buffer = vec![];
+    let places = Places::append(&mut buffer, k(b""), &proof[..made.expect("proved")]);
+    let mut work = Work::for_every_circuit();
+    let mut short = vec![0x5a; SHARED_WORK - 1];
+    let mut short = Work::lent(&mut short);
+    let mut checker = SharedChecker::new();
+    let last = MAX_CALLERS as u32 - 1;
+    for caller in [last + 1, u32::MAX] {
+        let answer = checker.enter(caller, places, &buffer, &mut work);
+        assert_eq!(answer, Err(Refusal::Caller));
+    }
+    let answer = checker.enter(last, places, &buffer, &mut short);
+    assert_eq!(answer, Err(Refusal::Length));
+    for caller in [0, last] {
+        assert_eq!(checker.enter(caller, places, &buffer, &mut work), Ok(()));
+        let answer = checker.enter(caller, places, &buffer, &mut work);
+        assert_eq!(answer, Err(Refusal::Waiting));
+    }
+    for quota in [0, MAX_QUOTA + 1, u32::MAX] {
+        let answer = checker.check(quota, &buffer, &mut work);
+        assert_eq!(answer, Err(Refusal::Counts), "{quota}");
+    }
+    let answer = checker.check(1, &buffer, &mut short);
+    assert_eq!(answer, Err(Refusal::Length));
+    let counts = [1, MAX_QUOTA].map(|quota| {
+        let checked = checker.check(quota, &buffer, &mut work);
+        checked.expect("no refusal").count
+    });
+    assert_eq!(counts, [1, 7]);
+    let answer = checker.check(1, &buffer, &mut work);
+    assert_eq!(answer, Err(Refusal::NoneWaiting));
 }
 
 /// The chosen instances of a proof, as the challenge is filled: 3 bytes each.

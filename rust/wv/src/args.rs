@@ -34,14 +34,15 @@ impl Args {
                 args.take_place(command, word)?;
             }
         }
-        if args.places.len() < command.places {
+        let given = args.places.len();
+        if given < command.places || !given.is_multiple_of(command.places) {
             return Err(command.misused("an argument is missing"));
         }
         Ok(args)
     }
 
     fn take_place(&mut self, command: &Command, word: OsString) -> Result<(), Failure> {
-        if self.places.len() == command.places {
+        if self.places.len() == command.places * command.times {
             let text = format!("`{}` is one argument too many", shown(word));
             return Err(command.misused(&text));
         }
@@ -71,7 +72,7 @@ impl Args {
         let Some(value) = value.map(OsStr::to_os_string).or_else(|| rest.next()) else {
             return Err(command.misused(&format!("`{name}` needs a value")));
         };
-        if self.option(option).is_some() {
+        if self.option(option).is_some() && !command.repeated.contains(option) {
             return Err(command.misused(&format!("`{name}` stands there twice")));
         }
         self.options.push((option, value));
@@ -83,17 +84,26 @@ impl Args {
         &self.places[place]
     }
 
+    /// All arguments without a name.
+    pub fn places(&self) -> &[OsString] {
+        &self.places
+    }
+
     /// Is this flag there?
     pub fn flag(&self, name: &str) -> bool {
         self.flags.contains(&name)
     }
 
+    /// The values of an option, in their order.
+    pub fn values(&self, name: &str) -> Vec<&OsStr> {
+        let options = self.options.iter();
+        let named = options.filter(|(known, _)| *known == name);
+        named.map(|(_, value)| value.as_os_str()).collect()
+    }
+
     /// The value of an option, if it is there.
     pub fn option(&self, name: &str) -> Option<&OsStr> {
-        let mut options = self.options.iter();
-        options
-            .find(|(known, _)| *known == name)
-            .map(|(_, value)| value.as_os_str())
+        self.values(name).first().copied()
     }
 
     /// The value of an option that has to be there.

@@ -5,7 +5,7 @@ use std::io::{self, Write};
 use wivulameno::Refusal;
 
 /// Why a command did not do its work.
-#[derive(Debug)]
+#[derive(Clone, Debug)]
 pub enum Failure {
     /// The library's refusal, and what it is about.
     Refused(Refusal, String),

@@ -16,6 +16,7 @@ const LIMIT: u64 = 1 << 24;
 const _: () = assert!(MAX_PROOF < LIMIT as usize && MAX_CIRCUIT < MAX_PROOF);
 
 /// What was read, and where.
+#[derive(Clone)]
 pub struct Input {
     /// The bytes themselves.
     pub bytes: Vec<u8>,

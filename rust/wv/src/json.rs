@@ -14,6 +14,8 @@ pub enum Value {
     Text(String),
     /// Keys with their values.
     Object(Vec<(String, Value)>),
+    /// Objects, one after the other.
+    List(Vec<Object>),
 }
 
 impl From<bool> for Value {
@@ -68,7 +70,11 @@ impl Object {
 
     /// The object on a line, with the line's end.
     pub fn line(&self) -> String {
-        object(self.0.iter().map(|(key, value)| (*key, value))) + "\n"
+        self.text() + "\n"
+    }
+
+    fn text(&self) -> String {
+        object(self.0.iter().map(|(key, value)| (*key, value)))
     }
 }
 
@@ -86,6 +92,10 @@ fn text(value: &Value) -> String {
         Value::Number(digits) => digits.clone(),
         Value::Text(text) => quoted(text),
         Value::Object(pairs) => object(pairs.iter().map(|(key, value)| (key.as_str(), value))),
+        Value::List(objects) => {
+            let objects: Vec<String> = objects.iter().map(Object::text).collect();
+            format!("[{}]", objects.join(","))
+        }
     }
 }
 
@@ -109,6 +119,17 @@ fn quoted(text: &str) -> String {
 #[cfg(test)]
 mod tests {
     use super::*;
+
+    #[test]
+    fn a_list_of_objects() {
+        let mut one = Object::default();
+        one.set("accepted", true);
+        let mut all = Object::default();
+        all.set("none", Value::List(vec![]));
+        all.set("two", Value::List(vec![one, Object::default()]));
+        let expected = r#"{"none":[],"two":[{"accepted":true},{}]}"#;
+        assert_eq!(all.line(), format!("{expected}\n"));
+    }
 
     #[test]
     fn an_object_is_one_line() {

@@ -22,6 +22,11 @@ impl Report {
         self.object.set(key, value);
     }
 
+    /// What a program is told.
+    pub fn object(&mut self) -> &mut Object {
+        &mut self.object
+    }
+
     /// A number for both.
     pub fn number(&mut self, name: &str, key: &'static str, number: impl Into<u64>) {
         let number = number.into();

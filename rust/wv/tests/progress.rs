@@ -62,8 +62,10 @@ fn all_from(terminal: &mut File) -> String {
 #[test]
 fn a_line_on_a_terminal_alone() {
     if env::var(CALL).is_ok() {
-        let _progress = Progress::start("proving");
-        thread::sleep(Duration::from_millis(900));
+        let progress = Progress::start("proving");
+        thread::sleep(Duration::from_millis(400));
+        progress.tell("proving, 1 of 2");
+        thread::sleep(Duration::from_millis(500));
         return;
     }
     let (mut ours, theirs) = terminal();
@@ -73,6 +75,7 @@ fn a_line_on_a_terminal_alone() {
     let shown = all_from(&mut ours);
     assert!(shown.starts_with("\rproving: 0."), "{shown:?}");
     assert!(shown.contains(" s\r"), "{shown:?}");
+    assert!(shown.contains("\rproving, 1 of 2: 0."), "{shown:?}");
     assert!(shown.ends_with("\r\x1b[K"), "{shown:?}");
 
     let ended = long_call(Stdio::piped())

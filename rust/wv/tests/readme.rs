@@ -29,6 +29,6 @@ fn every_command_works() {
         let ended = folder.sh(&format!("set -e\n{script}"));
         assert_eq!((ended.status, ended.err.as_str()), (0, ""), "{script}");
         assert!(ended.text().ends_with(" bits\n"), "{script}: {ended:?}");
-        assert!(ended.text().contains("\naccepted, "), "{script}: {ended:?}");
+        assert!(ended.text().contains("accepted, "), "{script}: {ended:?}");
     }
 }

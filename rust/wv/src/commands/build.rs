@@ -35,7 +35,9 @@ on standard error: a field may have too few bits.
 ",
     example: "  wv build covers16.statement --out built.circuit\n",
     places: 1,
+    times: 1,
     options: &["out"],
+    repeated: &[],
     flags: &[],
     run: build,
 };

@@ -3,13 +3,15 @@
 use super::asked::Asked;
 use super::causes;
 use super::circuit::Circuit;
+use super::several;
 use super::Command;
 use crate::args::Args;
 use crate::failure::Failure;
 use crate::input::Input;
-use crate::json::Value;
+use crate::json::{Object, Value};
 use crate::progress::Progress;
 use crate::report::Report;
+use wivulameno::limits::MAX_CALLERS;
 use wivulameno::proof::{self, Counts, Statement};
 use wivulameno::{Refusal, Work};
 
@@ -18,14 +20,19 @@ pub const BITS: f64 = 128.0;
 
 pub const CHECK: Command = Command {
     name: "check",
-    usage: "CIRCUIT PROOF --y Y --message MESSAGE [--statement STATEMENT]
-         [--bits B] [--json]",
-    about: "Check a proof.",
+    usage: "CIRCUIT PROOF [CIRCUIT PROOF ..] --y Y .. --message MESSAGE ..
+         [--statement STATEMENT] [--quota Q] [--bits B] [--json]",
+    about: "Check a proof, or up to 16 side by side.",
     help: "\
 Accepts a proof that its maker has a witness for which the circuit gives y,
 bound to this message. Prints `accepted` with the numbers M, tau and n of the
 proof, and its soundness in bits. The circuit file, y and the message have to be
 the prover's, byte for byte.
+
+Several proofs, each behind its circuit, are checked side by side, one instance
+of each in turn, so that a long one does not hold up the rest. For each proof a
+line with its name and its verdict is printed as soon as there is one. `--y` and
+`--message` are given once for all, or once for each in the order of the proofs.
 
   --y Y              the claimed output
   --message MESSAGE  the message that the proof is bound to
@@ -35,21 +42,29 @@ the prover's, byte for byte.
   --bits B           refuse a proof whose soundness is below B bits, usually
                      128. The maker chooses M, tau and n: with small ones a
                      proof can be guessed. 0 accepts any
+  --quota Q          check side by side, also a single proof, Q instances in a
+                     call: 1 to 512, usually 512. Verdicts are told between two
+                     calls, and every call reads the circuits again
   --json             print an object with the keys accepted, m, tau, n, bits,
                      refused and message; the last two are null when all is
-                     well. With a statement there is the key y, an object
+                     well. With a statement there is the key y, an object (side
+                     by side: a list of these, each with the key proof too,
+                     under the key proofs)
 
 Refused with 1, 2, 3, 5, 19, 20 or 21 for the circuit, without a number if it is
 not the statement's, 6 or 7 for y and the message, 11 for a proof that is none,
 12, 7, 10 or 13 for one that does not hold for this circuit, y and message, and
-without a number for too few bits.
+without a number for too few bits. Side by side the exit status is 1 if one of
+the proofs is refused.
 ",
     example: "  \
   wv check covers16.circuit order.proof --y hex:f50100 \\
       --message 'text:order 4711'
 ",
     places: 2,
-    options: &["y", "message", "statement", "bits"],
+    times: MAX_CALLERS,
+    options: &["y", "message", "statement", "bits", "quota"],
+    repeated: &["y", "message"],
     flags: &["json"],
     run: check,
 };
@@ -58,6 +73,19 @@ fn check(args: &Args, report: &mut Report) -> Result<(), Failure> {
     report.set("accepted", false);
     let [y, message] = [args.needed("y")?, args.needed("message")?];
     let asked = args.decimal("bits")?.unwrap_or(BITS);
+    if args.places().len() > 2 || args.option("quota").is_some() {
+        if args.option("statement").is_some() {
+            let text = "`--statement` is for a single proof, without `--quota`";
+            return Err(Failure::Usage(text.into()));
+        }
+        return several::check(args, asked, report);
+    }
+    for name in ["y", "message"] {
+        if args.values(name).len() > 1 {
+            let text = format!("`--{name}` stands there twice, for one proof");
+            return Err(Failure::Usage(text));
+        }
+    }
     let claim = Claim {
         circuit: Circuit::read(args, args.place(0))?,
         proof: args.input(args.place(1))?,
@@ -65,54 +93,68 @@ fn check(args: &Args, report: &mut Report) -> Result<(), Failure> {
         message: args.input(message)?,
     };
     let statement = Asked::of_circuit(args, &claim.circuit)?;
-    let counts = claim.holds()?;
-    let Counts { m, tau, n } = counts;
-    let bits = counts.soundness_bits().expect("legal counts");
-    let shown = shown_bits(bits);
-    for (key, number) in [("m", m), ("tau", tau), ("n", n)] {
-        report.set(key, number);
-    }
-    report.set("bits", Value::Number(shown.clone()));
-    if bits < asked {
-        return Err(Failure::Unwanted(format!(
-            "{}: the proof holds, but its M {m}, tau {tau}, n {n} have {shown} bits of soundness, \
-             and {asked} are asked for: `--bits {shown}` asks for less",
-            claim.proof.name_or("the typed proof")
-        )));
-    }
-    report.set("accepted", true);
+    let progress = Progress::start("checking");
+    let answer = claim.check();
+    drop(progress);
+    let done = claim.accept(answer, asked, report.object())?;
     if let Some(statement) = statement {
         statement.report(&claim.y.bytes, report);
     }
-    report.line(&format!(
-        "accepted, M {m}, tau {tau}, n {n}, soundness {shown} bits"
-    ));
+    report.line(&done);
     Ok(())
 }
 
 /// What the maker of a proof claims.
-struct Claim {
-    circuit: Circuit,
-    proof: Input,
-    y: Input,
-    message: Input,
+pub struct Claim {
+    pub circuit: Circuit,
+    pub proof: Input,
+    pub y: Input,
+    pub message: Input,
 }
 
 impl Claim {
-    /// Asks the library, and gives the proof's counts.
-    fn holds(&self) -> Result<Counts, Failure> {
-        let statement = Statement {
+    /// What is claimed, for the library.
+    pub fn statement(&self) -> Statement<'_> {
+        Statement {
             circuit: self.circuit.bytes(),
             y: &self.y.bytes,
             message: &self.message.bytes,
-        };
-        let progress = Progress::start("checking");
+        }
+    }
+
+    /// Asks the library.
+    fn check(&self) -> Result<(), Refusal> {
         let mut work = Work::for_sizes(self.circuit.sizes);
-        let answer = proof::check(statement, &self.proof.bytes, &mut work);
-        drop(progress);
-        let failure = |refusal| Failure::Refused(refusal, self.cause(refusal));
-        answer.map_err(failure)?;
-        Ok(Counts::of_proof(&self.proof.bytes).expect("an accepted proof has a header"))
+        proof::check(self.statement(), &self.proof.bytes, &mut work)
+    }
+
+    /// What is told of the library's answer, if so many bits are asked for.
+    pub fn accept(
+        &self,
+        answer: Result<(), Refusal>,
+        asked: f64,
+        told: &mut Object,
+    ) -> Result<String, Failure> {
+        answer.map_err(|refusal| Failure::Refused(refusal, self.cause(refusal)))?;
+        let counts = Counts::of_proof(&self.proof.bytes).expect("an accepted proof has a header");
+        let Counts { m, tau, n } = counts;
+        let bits = counts.soundness_bits().expect("legal counts");
+        let shown = shown_bits(bits);
+        for (key, number) in [("m", m), ("tau", tau), ("n", n)] {
+            told.set(key, number);
+        }
+        told.set("bits", Value::Number(shown.clone()));
+        if bits < asked {
+            return Err(Failure::Unwanted(format!(
+                "{}: the proof holds, but its M {m}, tau {tau}, n {n} have {shown} bits of \
+                 soundness, and {asked} are asked for: `--bits {shown}` asks for less",
+                self.proof.name_or("the typed proof")
+            )));
+        }
+        told.set("accepted", true);
+        Ok(format!(
+            "accepted, M {m}, tau {tau}, n {n}, soundness {shown} bits"
+        ))
     }
 
     /// What is likely to be the reason.

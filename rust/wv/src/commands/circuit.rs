@@ -34,7 +34,9 @@ A file of the old form is refused with 1 or 2: `wv upgrade` converts it.
 ",
     example: "  wv circuit covers16.circuit\n",
     places: 1,
+    times: 1,
     options: &[],
+    repeated: &[],
     flags: &["json"],
     run: sizes,
 };
@@ -159,7 +161,9 @@ last byte.
 ",
     example: "  wv evaluate covers16.circuit covers16.row\n",
     places: 2,
+    times: 1,
     options: &["out", "statement"],
+    repeated: &[],
     flags: &["raw"],
     run: evaluate,
 };

@@ -38,7 +38,9 @@ text's end.
 ",
     example: "  wv convert and.txt --out and.circuit\n",
     places: 1,
+    times: 1,
     options: &["out"],
+    repeated: &[],
     flags: &["tidy"],
     run: convert,
 };

@@ -38,7 +38,9 @@ no M up to 512 has so many bits.
 ",
     example: "  wv cost covers16.circuit --bits 128\n",
     places: 1,
+    times: 1,
     options: &["bits"],
+    repeated: &[],
     flags: &[],
     run: cost,
 };

@@ -30,7 +30,9 @@ second, then:
 ",
     example: "  wv join enough.circuit indate.circuit --out both.circuit\n",
     places: 2,
+    times: 1,
     options: &["out"],
+    repeated: &[],
     flags: &[],
     run: join,
 };

@@ -13,6 +13,7 @@ mod join;
 mod one_of;
 mod prove;
 mod row;
+mod several;
 mod shelf;
 mod small;
 mod upgrade;
@@ -35,8 +36,12 @@ pub struct Command {
     pub example: &'static str,
     /// How many arguments have no name.
     pub places: usize,
+    /// How often these can be given, one group after the other.
+    pub times: usize,
     /// The options that take a value.
     pub options: &'static [&'static str],
+    /// Those of them that can be given once for each group.
+    pub repeated: &'static [&'static str],
     /// The options that take none.
     pub flags: &'static [&'static str],
     /// Does the work, and reports what is to be printed.

@@ -35,7 +35,9 @@ Refused with 1, 2, 3, 5, 19, 20 or 21 for the circuit, then:
 ",
     example: "  wv one-of grade.circuit --outputs hex:151e21 --out graded.circuit\n",
     places: 1,
+    times: 1,
     options: &["outputs", "out"],
+    repeated: &[],
     flags: &[],
     run: one_of,
 };

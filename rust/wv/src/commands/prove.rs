@@ -57,6 +57,7 @@ stocking or proof that meets a page ahead writes that into the log, for good.
       --out order.proof
 ",
     places: 2,
+    times: 1,
     options: &[
         "shelf",
         "log",
@@ -68,6 +69,7 @@ stocking or proof that meets a page ahead writes that into the log, for good.
         "parties",
         "wait",
     ],
+    repeated: &[],
     flags: &[],
     run: prove,
 };

@@ -28,7 +28,9 @@ The witness holds the whole row: it is for those who may read the row.
 ",
     example: "  wv row covers16.statement values.txt --out covers16.row\n",
     places: 2,
+    times: 1,
     options: &["out"],
+    repeated: &[],
     flags: &[],
     run: |args, report| pack(args, report, |asked| &asked.built.row),
 };
@@ -47,7 +49,9 @@ told with its line and column. `wv check` takes the y.
 ",
     example: "  wv claim covers16.statement 'text:covered=yes order=250' --out order.y\n",
     places: 2,
+    times: 1,
     options: &["out"],
+    repeated: &[],
     flags: &[],
     run: |args, report| pack(args, report, |asked| &asked.built.y),
 };

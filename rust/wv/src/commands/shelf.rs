@@ -29,7 +29,9 @@ reaches it, and never delete it or put an older copy in its place.
 ",
     example: "  wv shelf new shelf.page --log /var/lib/depot/shelf.log --slots 255\n",
     places: 1,
+    times: 1,
     options: &["log", "slots", "wait"],
+    repeated: &[],
     flags: &["lost"],
     run: new,
 };
@@ -74,7 +76,9 @@ stocking or proof that meets a page ahead writes that into the log, for good.
 ",
     example: "  wv shelf stock shelf.page --log /var/lib/depot/shelf.log --fresh 16\n",
     places: 1,
+    times: 1,
     options: &["log", "fresh", "root", "wait"],
+    repeated: &[],
     flags: &[],
     run: stock,
 };
@@ -145,7 +149,9 @@ status does not.
 ",
     example: "  wv shelf status shelf.page --log /var/lib/depot/shelf.log\n",
     places: 1,
+    times: 1,
     options: &["log", "wait"],
+    repeated: &[],
     flags: &["json"],
     run: status,
 };

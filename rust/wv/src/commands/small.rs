@@ -30,7 +30,9 @@ last circuit.
 ",
     example: "  wv small --inputs 2 --gates 1 --place 4 --out small.circuit\n",
     places: 0,
+    times: 1,
     options: &["inputs", "gates", "place", "out"],
+    repeated: &[],
     flags: &["count"],
     run: small,
 };

@@ -28,7 +28,9 @@ the slot that holds the wrong link.
 ",
     example: "  wv upgrade old.circuit --out new.circuit\n",
     places: 1,
+    times: 1,
     options: &["out"],
+    repeated: &[],
     flags: &[],
     run: upgrade,
 };

@@ -2,7 +2,7 @@
 -- Assumes nothing.
 use borrow.Author.Needs.{needs}
 use mathlib.Core.Path.{refl, sym, ap, _∙_}
-use Rattle.shared.specs.Answers.{lookedOf}
+use Rattle.shared.specs.Steps.{lookedOf}
 use Rattle.shared.specs.Service.{entryAt, jobAt}
 use Rattle.shared.specs.States.{stateOf}
 use Rattle.shared.specs.Steps.{seated}

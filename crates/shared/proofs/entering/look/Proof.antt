@@ -3,7 +3,7 @@
 use borrow.Author.Needs.{needs}
 use mathlib.Core.Path.{_≡_, _∙_}
 use Rattle.mpc.proofs.Opened.{opened, opened-legal, opened-refused}
-use Rattle.shared.proofs.Entries.{fits-circuit, fits-y, fits-message, fits-proof, look-read, look-refused, look-taken, look-ready}
+use Rattle.shared.proofs.Entries.{fits-circuit, fits-y, fits-message, fits-proof, number-small, look-read, look-refused, look-taken, look-ready}
 use Rattle.shared.proofs.entering.look.Statement.{statement}
 use Rattle.shared.proofs.entering.look.Tie as tie
 
@@ -36,12 +36,12 @@ test-lent-requires c κs =
 returns : tie.Need-returns
 returns c =
     let x = c .before .before .before .before .before .before .before .before .before .before .before .before .args in
-    (look-read (x .buffer .now) (x .p) (c .before .before .before .before .before .before .before .before .before .before .before .before .pre .0) _ _ _ _ (c .before .before .before .before .before .before .before .before .part .ensures) (c .before .before .before .before .before .before .before .part2 .ensures) (c .before .before .before .before .before .before .part3 .ensures) (c .before .before .before .before .before .part4 .ensures) _ _ _ (c .number .ensures) (opened-refused _ _ _ (c .before .before .answer .given .1) (c .before .before .before .before .read .ensures)), tt)
+    (look-read (x .buffer .now) (x .p) (c .before .before .before .before .before .before .before .before .before .before .before .before .pre .0) _ _ _ _ (c .before .before .before .before .before .before .before .before .part .ensures) (c .before .before .before .before .before .before .before .part2 .ensures) (c .before .before .before .before .before .before .part3 .ensures) (c .before .before .before .before .before .part4 .ensures) _ _ _ (c .number .ensures) (opened-refused _ _ _ (c .before .before .answer .given .1) (c .before .before .before .before .read .ensures)), number-small (c .before .before .answer .given .0 .0) _ (c .number .ensures))
 
 returns-2 : tie.Need-returns-2
 returns-2 c =
     let x = c .before .before .before .before .before .before .before .before .before .before .before .before .before .before .before .before .before .before .before .before .before .before .args in
-    (look-refused (x .buffer .now) (x .p) (c .before .before .before .before .before .before .before .before .before .before .before .before .before .before .before .before .before .before .before .before .before .before .pre .0) _ _ _ _ (c .before .before .before .before .before .before .before .before .before .before .before .before .before .before .before .before .before .before .part .ensures) (c .before .before .before .before .before .before .before .before .before .before .before .before .before .before .before .before .before .part2 .ensures) (c .before .before .before .before .before .before .before .before .before .before .before .before .before .before .before .before .part3 .ensures) (c .before .before .before .before .before .before .before .before .before .before .before .before .before .before .before .part4 .ensures) (opened-legal _ _ _ (c .before .before .before .before .before .before .before .before .before .before .before .before .answer2 .given .1) (c .before .before .before .before .before .before .before .before .before .before .before .before .before .before .read .ensures)) _ (c .before .before .before .before .before .before .before .before .test-lent .ensures .0) _ _ (c .number2 .ensures) (c .before .before .entry .given .1), tt)
+    (look-refused (x .buffer .now) (x .p) (c .before .before .before .before .before .before .before .before .before .before .before .before .before .before .before .before .before .before .before .before .before .before .pre .0) _ _ _ _ (c .before .before .before .before .before .before .before .before .before .before .before .before .before .before .before .before .before .before .part .ensures) (c .before .before .before .before .before .before .before .before .before .before .before .before .before .before .before .before .before .part2 .ensures) (c .before .before .before .before .before .before .before .before .before .before .before .before .before .before .before .before .part3 .ensures) (c .before .before .before .before .before .before .before .before .before .before .before .before .before .before .before .part4 .ensures) (opened-legal _ _ _ (c .before .before .before .before .before .before .before .before .before .before .before .before .answer2 .given .1) (c .before .before .before .before .before .before .before .before .before .before .before .before .before .before .read .ensures)) _ (c .before .before .before .before .before .before .before .before .test-lent .ensures .0) _ _ (c .number2 .ensures) (c .before .before .entry .given .1), number-small (c .before .before .entry .given .0 .0) _ (c .number2 .ensures))
 
 returns-3 : tie.Need-returns-3
 returns-3 c =

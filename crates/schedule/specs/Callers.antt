@@ -1,5 +1,4 @@
--- What only the contracts of steps use: no definition of the paper stands here.
--- The schedule of 16 callers over flags: who waits, and with whom to begin.
+-- The 16 callers of order 9, as the code keeps them: who waits, by flags, and who was served last, by the caller to begin with.
 -- Assumes nothing.
 use mathlib.Core.Bool.{Bool, false, cond}
 use mathlib.Core.List.{List}
@@ -7,7 +6,6 @@ use mathlib.Core.Option.{Option, none, some}
 use Prim.Native.Nat.{ℕ, zero, suc}
 use lib.Dec.{ltb}
 use lib.ListN.{getD}
-use Rattle.schedule.specs.Schedule.{next}
 
 -- "A caller number 0..15"
 abbrev pub callers : ℕ
@@ -21,12 +19,3 @@ flagged flags c = getD flags c false
 unfoldable pub lastServed : ℕ → Option ℕ
 lastServed zero = none
 lastServed (suc c) = cond (ltb c callers) (some c) none
-
--- a caller's number, 16 for none
-abbrev pub numberOf : Option ℕ → ℕ
-numberOf none = callers
-numberOf (some c) = c
-
--- the caller to be served next
-unfoldable pub nextCaller : ℕ → List Bool → ℕ
-nextCaller begin flags = numberOf (next callers (lastServed begin) (flagged flags))

@@ -1,6 +1,5 @@
--- What only the contracts of steps use: no definition of the paper stands here.
--- The digests over the instances so far: "9: h over (9, all h_j). 10: h' over (10, all h'_j). 11: h* over (11, h, h')" (document 01),
--- taken in one instance at a time.
+-- The digests over the instances so far, taken in one instance at a time: "9: h over (9, all h_j). 10: h' over (10, all h'_j). 11: h*
+-- over (11, h, h')" (document 01).
 -- Assumes nothing.
 use mathlib.Core.List.{List, []}
 use Prim.Native.Nat.{ℕ}
