@@ -32,6 +32,7 @@ static uint8_t y[(OUTPUTS + 7) / 8];
 static uint8_t page[PAGE_LEN];
 static uint8_t old_page[PAGE_LEN];
 static uint8_t root[WV_ROOT_LEN];
+static uint8_t salt[WV_SALT_LEN];
 static uint8_t work[WORK_LEN];
 
 static void must(const char *what, uint32_t answer, uint32_t expected)
@@ -183,26 +184,29 @@ static void new_page(uint32_t draws)
         put_u16(place + 18 * (slot - 1), slot == SLOTS ? 0 : slot + 1);
 }
 
-/* Roots are random, and each is stocked once. */
-static void stock_shelf(unsigned count)
+static void fill_random(uint8_t *bytes, size_t len)
 {
     FILE *source = fopen("/dev/urandom", "rb");
 
-    if (source == NULL) {
+    if (source == NULL || fread(bytes, 1, len, source) != len) {
         printf("no random source\n");
         exit(1);
     }
+    fclose(source);
+}
+
+/* Roots are random, and each is stocked once. */
+static void stock_shelf(unsigned count)
+{
     while (count-- > 0) {
         uint32_t answer;
 
-        if (fread(root, 1, sizeof root, source) != sizeof root)
-            exit(1);
+        fill_random(root, sizeof root);
         answer = wv_stock(page, sizeof page, root, sizeof root);
         burn_stack();
         must("stock a root", answer, WV_ACCEPTED);
         memset(root, 0, sizeof root);
     }
-    fclose(source);
 }
 
 /*
@@ -235,18 +239,33 @@ static uint8_t proof[16 * 1024];
 static const uint8_t message[] = "order 4711";
 static const size_t message_len = sizeof message - 1;
 
+/* The salt of a proof: new random bytes, which are no secret. */
+static void draw_salt(void)
+{
+    FILE *source = fopen("/dev/urandom", "rb");
+
+    if (source == NULL || fread(salt, 1, sizeof salt, source) != sizeof salt) {
+        printf("no random source\n");
+        exit(1);
+    }
+    fclose(source);
+}
+
 /*
  * One root, one call of wv_prove: the root is dropped whatever the answer is.
- * Two proofs from one root can show the row.
+ * Two proofs from one root can show the row. The salt is random, too, a new one for
+ * each proof; it is no secret.
  */
 static uint32_t prove(size_t proof_len, size_t work_len, uint64_t *written)
 {
     uint32_t answer;
 
+    draw_salt();
     draw_root();
+    fill_random(salt, sizeof salt);
     answer = wv_prove(circuit, sizeof circuit, witness, sizeof witness,
                       y, sizeof y, message, message_len, root, sizeof root,
-                      M, TAU, N, proof, proof_len, written,
+                      salt, sizeof salt, M, TAU, N, proof, proof_len, written,
                       work, work_len);
     burn_stack();
     memset(root, 0, sizeof root);
@@ -283,6 +302,9 @@ static void prove_and_check(void)
                   work, sizeof work),
          WV_ACCEPTED);
     must_be_clear();
+    /* The salt stands at the end of the header. */
+    if (memcmp(proof + WV_PROOF_HEADER_LEN - sizeof salt, salt, sizeof salt) != 0)
+        exit(1);
     /* The proof is bound to the circuit, to y and to the message. */
     claimed[0] ^= 2;
     must_not_hold("check for another order",

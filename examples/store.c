@@ -62,7 +62,7 @@ static wv_store *open_shelf(const char *page, const char *log)
     return store;
 }
 
-/* New random bytes. */
+/* New random bytes, for a root or a salt. */
 static void fresh(uint8_t *bytes, size_t len)
 {
     FILE *source = fopen("/dev/urandom", "rb");
@@ -101,18 +101,22 @@ static void refill(wv_store *store)
 static uint8_t proof[16 * 1024];
 static uint8_t work[64 * (2 + 1) + 4096];
 
-/* One root, one call of wv_prove: the root is dropped whatever the answer is. */
+/*
+ * One root, one call of wv_prove: the root is dropped whatever the answer is. The
+ * salt is new for each proof, and no secret.
+ */
 static void prove_and_check(wv_store *store)
 {
     static const uint8_t witness[1] = {3}, y[1] = {1};
-    uint8_t root[WV_ROOT_LEN];
+    uint8_t root[WV_ROOT_LEN], salt[WV_SALT_LEN];
     uint64_t written = 0;
     uint32_t answer;
 
+    fresh(salt, sizeof salt);
     must("draw a root", wv_store_draw(store, root));
     answer = wv_prove(circuit, sizeof circuit, witness, sizeof witness,
                       y, sizeof y, message, sizeof message - 1,
-                      root, sizeof root, M, TAU, N,
+                      root, sizeof root, salt, sizeof salt, M, TAU, N,
                       proof, wv_proof_len(2, 1, 1, M, TAU, N), &written,
                       work, sizeof work);
     clear(root, sizeof root);

@@ -149,13 +149,14 @@ enum wv_answer {
 #define WV_MAX_INSTANCES 512     /* a proof has 2 to 512 instances */
 #define WV_MAX_INSTANCE_NUMBER 65535
 #define WV_MAX_MESSAGE 4096      /* the longest message */
-#define WV_PROOF_HEADER_LEN 38
-#define WV_MAX_PROOF 12873198    /* room for every proof; see wv_proof_len */
+#define WV_PROOF_HEADER_LEN 70
+#define WV_MAX_PROOF 12873230    /* room for every proof; see wv_proof_len */
 #define WV_MAX_CALLERS 16        /* a shared checker has callers 0 to 15 */
 #define WV_MAX_QUOTA 512         /* and checks 1 to 512 instances in a call; */
 #define WV_SHARED_STATE 7537     /* its state */
 #define WV_SHARED_WORK 6436864   /* and its work buffer */
 #define WV_ROOT_LEN 16           /* also of a master and of a leaf */
+#define WV_SALT_LEN 32
 #define WV_DIGEST_LEN 32
 #define WV_MAX_SLOTS 255         /* a shelf page has 1 to 255 slots */
 #define WV_MAX_DRAWS 4294967295u /* a shelf counts so many draws */
@@ -580,17 +581,27 @@ uint32_t wv_draw(uint8_t *page, size_t page_len, uint64_t count,
  * A tree of seeds has n leaves, one for each party; n is 2, 4, 8 or 16. The
  * number j of an instance is 0 to 65535. A wider number is refused, not cut
  * down. Never use 65535 for an instance: it is the number of the tree over the
- * masters (wv_masters), and wv_expand(65535, n, root, ..) gives the masters of n
- * instances. The instances of a proof have 0 to m - 1.
+ * masters (wv_masters), and wv_expand(65535, n, salt, root, ..) gives the masters
+ * of n instances. The instances of a proof have 0 to m - 1.
+ *
+ * The salt of a proof is 32 bytes. It stands in every hash that makes nodes,
+ * seeds, tapes and commitments, straight after its first byte, so that one search
+ * cannot serve against the proofs of two salts. It is no secret: it stands in the
+ * proof. Take random bytes, new ones for each proof.
+ *
+ * Node 1 of a tree is its master. Nodes 2 k and 2 k + 1 are the two halves of the
+ * 32 bytes SHAKE128(2, salt, j, k, value of node k): a byte 2, the salt, and two
+ * numbers of 16 bits, little-endian. Leaf i is node n + i.
  */
 
 /*
  * Writes the n leaves of the tree of instance j over the master (16 bytes) to
  * leaves: 16 n bytes, party 0 first. Refuses in this order:
  *   8  j is above 65535, or n is not 2, 4, 8 or 16
- *   6  the length of the master or of leaves is not that
+ *   6  the length of the salt (32), of the master or of leaves is not that
  */
 uint32_t wv_expand(uint32_t j, uint32_t n,
+                   const uint8_t *salt, size_t salt_len,
                    const uint8_t *master, size_t master_len,
                    uint8_t *leaves, size_t leaves_len);
 
@@ -601,21 +612,22 @@ uint32_t wv_expand(uint32_t j, uint32_t n,
  * order:
  *   8  j is above 65535, or n is not 2, 4, 8 or 16
  *   9  p is not below n
- *   6  the length of the master (16) or of siblings is not that
+ *   6  the length of the salt (32), of the master (16) or of siblings is not that
  */
 uint32_t wv_open(uint32_t j, uint32_t n, uint32_t p,
+                 const uint8_t *salt, size_t salt_len,
                  const uint8_t *master, size_t master_len,
                  uint8_t *siblings, size_t siblings_len);
 
 /*
  * The masters of the m instances of a proof (2 to 512) are the leaves of one
  * tree over the root (16 bytes). Its nodes have numbers: node 1 is the root, and
- * nodes 2 k and 2 k + 1 are the two halves of the 32 bytes SHAKE128(2, 65535, k,
- * value of node k), a byte 2 and two numbers of 16 bits, little-endian. With N
- * for the least power of two that is at least m, the master of instance j is
- * leaf j, which is node N + j; leaves from m on are spare. The number 65535 is
- * this tree's: with it wv_expand and wv_open give its leaves and nodes, so no
- * instance has it.
+ * nodes 2 k and 2 k + 1 are the two halves of the 32 bytes SHAKE128(2, salt,
+ * 65535, k, value of node k): a byte 2, the salt, and two numbers of 16 bits,
+ * little-endian. With N for the least power of two that is at least m, the master
+ * of instance j is leaf j, which is node N + j; leaves from m on are spare. The
+ * number 65535 is this tree's: with it wv_expand and wv_open give its leaves and
+ * nodes, so no instance has it.
  *
  * To hide some of the m leaves, nodes are opened instead of the root: each node
  * that has a leaf numbered under m and no hidden leaf at or below it while its
@@ -627,9 +639,10 @@ uint32_t wv_open(uint32_t j, uint32_t n, uint32_t p,
  * Writes the m masters to masters: 16 m bytes, instance 0 first. Refuses in this
  * order:
  *   8  m is not 2 to 512
- *   6  the length of the root or of masters is not that
+ *   6  the length of the salt (32), of the root or of masters is not that
  */
-uint32_t wv_masters(uint32_t m, const uint8_t *root, size_t root_len,
+uint32_t wv_masters(uint32_t m, const uint8_t *salt, size_t salt_len,
+                    const uint8_t *root, size_t root_len,
                     uint8_t *masters, size_t masters_len);
 
 /*
@@ -640,29 +653,32 @@ uint32_t wv_masters(uint32_t m, const uint8_t *root, size_t root_len,
  * bytes. Refuses in this order:
  *   8  m is not 2 to 512
  *   9  hidden has no leaf (0 bytes or 1), or one numbered m or above
- *   6  the root is not of 16 bytes, nodes is not of 16 bytes for each opened
- *      node, or hidden has an odd number of bytes
+ *   6  the salt is not of 32 bytes, the root is not of 16 bytes, nodes is not
+ *      of 16 bytes for each opened node, or hidden has an odd number of bytes
  */
 uint32_t wv_cover(uint32_t m, const uint8_t *hidden, size_t hidden_len,
+                  const uint8_t *salt, size_t salt_len,
                   const uint8_t *root, size_t root_len,
                   uint8_t *nodes, size_t nodes_len);
 
 /*
  * Derives the challenge of a proof: tau of m instances, each with its hidden
- * party. It covers hstar (32 bytes), the three numbers and the whole statement:
- * the SHA3-256 digest of the circuit file (32 bytes), y (1 to 32 bytes, packed;
- * unused bits are not tested) and the message (0 to 4096 bytes). It is drawn
- * from SHAKE256 of: a byte 6, hstar, m and tau (16 bits each, little-endian), n
- * (one byte), the digest, y, the length of the message (16 bits), the message.
+ * party. It covers hstar (32 bytes), the salt (32 bytes), the three numbers and
+ * the whole statement: the SHA3-256 digest of the circuit file (32 bytes), y (1 to
+ * 32 bytes, packed; unused bits are not tested) and the message (0 to 4096 bytes).
+ * It is drawn from SHAKE256 of: a byte 6, hstar, the salt, m and tau (16 bits
+ * each, little-endian), n (one byte), the digest, y, the length of the message
+ * (16 bits), the message.
  * Writes 3 bytes to out for each chosen instance, in ascending order: its
  * number (16 bits, little-endian) and its hidden party (one byte). Refuses in
  * this order:
  *   8  m is not 2 to 512, tau is not 1 to m - 1, or n is not 2, 4, 8 or 16
- *   6  hstar or the digest is not of 32 bytes, y is not of 1 to 32 bytes, the
- *      message is longer than 4096 bytes, or out is not of 3 tau bytes
+ *   6  hstar, the salt or the digest is not of 32 bytes, y is not of 1 to 32
+ *      bytes, the message is longer than 4096 bytes, or out is not of 3 tau bytes
  */
 uint32_t wv_challenge(uint32_t m, uint32_t tau, uint32_t n,
                       const uint8_t *hstar, size_t hstar_len,
+                      const uint8_t *salt, size_t salt_len,
                       const uint8_t *digest, size_t digest_len,
                       const uint8_t *y, size_t y_len,
                       const uint8_t *message, size_t message_len,
@@ -676,19 +692,19 @@ uint32_t wv_challenge(uint32_t m, uint32_t tau, uint32_t n,
  * stays hidden.
  *
  * All numbers are little-endian. A proof starts with m and tau (16 bits each),
- * n and a zero (one byte each) and h* (32 bytes). Then come the nodes of the
- * masters' tree that are opened (wv_cover) when the masters of the chosen
- * instances are hidden, 16 bytes each, in ascending order of their numbers. Then
- * the instances follow in ascending order. One that is not chosen has the digest
- * of its masked inputs and broadcasts (32 bytes). A chosen one has the siblings
- * of its tree (16 bytes for each level, top first), the corrections unless the
- * last party is hidden, the commitment of the hidden party (32), the masked
+ * n and a zero (one byte each), h* (32 bytes) and the salt (32). Then come the
+ * nodes of the masters' tree that are opened (wv_cover) when the masters of the
+ * chosen instances are hidden, 16 bytes each, in ascending order of their numbers.
+ * Then the instances follow in ascending order. One that is not chosen has the
+ * digest of its masked inputs and broadcasts (32 bytes). A chosen one has the
+ * siblings of its tree (16 bytes for each level, top first), the corrections unless
+ * the last party is hidden, the commitment of the hidden party (32), the masked
  * inputs, and the broadcast row of the hidden party.
  *
  * With oct(k) for k / 8, rounded up, and A for the number of AND gates, a proof
  * with c opened nodes has
  *
- *   38 + 16 c + 32 (m - tau)
+ *   70 + 16 c + 32 (m - tau)
  *      + tau (16 log2 n + oct(A) + 32 + oct(I) + oct(A + O))
  *
  * bytes, less oct(A) for each chosen instance that hides the last party. There
@@ -720,15 +736,16 @@ static inline size_t wv_proof_len(uint32_t inputs, uint32_t outputs,
 /*
  * Proves that the circuit gives y for the witness. The root is 16 random bytes,
  * drawn from a shelf: a new root for each call, also after a refused one. Two
- * proofs from one root can show the witness. Writes the proof to the start of
- * proof, and its length to written; the bytes of proof beyond that length stay
- * as they were. The work buffer is as the top of this file says. Refuses a
- * circuit as above, then:
+ * proofs from one root can show the witness. The salt is 32 bytes, as
+ * above, and is written into the proof. Writes the proof to the start of proof, and
+ * its length to written; the bytes of proof beyond that length stay as they were.
+ * The work buffer is as the top of this file says. Refuses a circuit as above,
+ * then:
  *    6  the work buffer is shorter than wv_work_len says
  *    8  m is not 2 to 512, tau is not 1 to m - 1, or n is not 2, 4, 8 or 16
  *    6  the witness is not of I bits or y not of O bits, the message is longer
- *       than 4096 bytes, the root is not of 16 bytes, or proof has fewer bytes
- *       than wv_proof_len says
+ *       than 4096 bytes, the root is not of 16 bytes, the salt not of 32, or
+ *       proof has fewer bytes than wv_proof_len says
  *    7  an unused bit of the witness or of y is not zero
  *   10  the circuit does not give y for the witness
  */
@@ -737,6 +754,7 @@ uint32_t wv_prove(const uint8_t *circuit, size_t circuit_len,
                   const uint8_t *y, size_t y_len,
                   const uint8_t *message, size_t message_len,
                   const uint8_t *root, size_t root_len,
+                  const uint8_t *salt, size_t salt_len,
                   uint32_t m, uint32_t tau, uint32_t n,
                   uint8_t *proof, size_t proof_len, uint64_t *written,
                   uint8_t *work, size_t work_len);
@@ -753,7 +771,7 @@ uint32_t wv_prove(const uint8_t *circuit, size_t circuit_len,
  *    6  the work buffer is shorter than wv_work_len says
  *    6  y is not of O bits, or the message is longer than 4096 bytes
  *    7  an unused bit of y is not zero
- *   11  the proof is shorter than 38 bytes, its m, tau or n is out of the
+ *   11  the proof is shorter than 70 bytes, its m, tau or n is out of the
  *       limits, or its zero byte is not zero
  *   12  its length is not that of the opened nodes and the parts that the
  *       challenge asks for

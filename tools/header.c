@@ -24,13 +24,13 @@ static void equal(const char *what, size_t found, size_t expected)
  */
 static void proof_lengths(void)
 {
-    equal("K", wv_proof_len(2, 1, 1, 4, 1, 2), 233);
-    equal("covers16, n 2", wv_proof_len(32, 17, 16, 69, 44, 2), 3834);
-    equal("covers16, n 4", wv_proof_len(32, 17, 16, 163, 80, 4), 10022);
-    equal("covers16, n 8", wv_proof_len(32, 17, 16, 145, 66, 8), 9836);
-    equal("covers16, n 16", wv_proof_len(32, 17, 16, 142, 56, 16), 10158);
-    equal("worst", wv_proof_len(512, 1, 4096, 220, 141, 2), 164147);
-    equal("the shortest", wv_proof_len(1, 1, 0, 2, 1, 2), 136);
+    equal("K", wv_proof_len(2, 1, 1, 4, 1, 2), 265);
+    equal("covers16, n 2", wv_proof_len(32, 17, 16, 69, 44, 2), 3866);
+    equal("covers16, n 4", wv_proof_len(32, 17, 16, 163, 80, 4), 10054);
+    equal("covers16, n 8", wv_proof_len(32, 17, 16, 145, 66, 8), 9868);
+    equal("covers16, n 16", wv_proof_len(32, 17, 16, 142, 56, 16), 10190);
+    equal("worst", wv_proof_len(512, 1, 4096, 220, 141, 2), 164179);
+    equal("the shortest", wv_proof_len(1, 1, 0, 2, 1, 2), 168);
     equal("the longest",
           wv_proof_len(WV_MAX_INPUTS, WV_MAX_OUTPUTS, WV_MAX_GATES,
                        WV_MAX_INSTANCES, WV_MAX_INSTANCES - 1, WV_MAX_PARTIES),
@@ -92,24 +92,27 @@ static size_t work_is(uint8_t byte)
 
 /*
  * The room that wv_prove asks for is what wv_proof_len says, and no less. The
- * proof has 217 bytes if party 0 is hidden, 216 if party 1 is.
+ * proof has 249 bytes if party 0 is hidden, 248 if party 1 is. The salt is the
+ * end of its header.
  */
-static void prove_in(size_t proof_len, uint32_t expected)
+static void prove_in(size_t proof_len, size_t salt_len, uint32_t expected)
 {
-    static uint8_t proof[233];
-    static const uint8_t root[WV_ROOT_LEN] = {1};
+    static uint8_t proof[265];
+    static const uint8_t root[WV_ROOT_LEN] = {1}, salt[WV_SALT_LEN + 1] = {2, 3};
     const uint8_t witness = 3, y = 1, message = 'a';
     uint64_t written = 0;
     uint32_t answer;
 
     memset(work, 0xee, sizeof work);
     answer = wv_prove(k, sizeof k, &witness, 1, &y, 1, &message, 1,
-                      root, sizeof root, 4, 1, 2,
+                      root, sizeof root, salt, salt_len, 4, 1, 2,
                       proof, proof_len, &written, work, sizeof work);
     equal("prove", answer, expected);
     equal("its work buffer", work_is(0), 1);
     if (answer == WV_ACCEPTED) {
-        equal("its length", written == 216 || written == 217, 1);
+        equal("its length", written == 248 || written == 249, 1);
+        equal("its salt", memcmp(proof + WV_PROOF_HEADER_LEN - WV_SALT_LEN, salt,
+                                 WV_SALT_LEN) == 0, 1);
         memset(work, 0xee, sizeof work);
         equal("check", wv_check(k, sizeof k, &y, 1, &message, 1,
                                 proof, (size_t)written, work, sizeof work),
@@ -148,57 +151,73 @@ static void work_buffers(void)
 
 /*
  * The masters' tree as the header says: the children of node k are SHAKE128 of
- * a byte 2, 65535, k and its value. Five masters are leaves of a tree of eight.
+ * a byte 2, the salt, 65535, k and its value. Five masters are leaves of a tree of eight.
  * With leaf 2 hidden, nodes 3, 4 and 11 are opened.
  */
 static void masters_and_cover(void)
 {
     static const uint8_t root[WV_ROOT_LEN] = {3};
-    uint8_t values[16 * 16], input[21] = {2, 255, 255};
+    uint8_t values[16 * 16], input[53] = {2};
+    const uint8_t *salt = input + 1;
     uint8_t masters[5 * 16], nodes[3 * 16];
     const uint8_t hidden[7] = {2, 0, 2, 0, 2, 0, 0}, beyond[2] = {5, 0};
     uint8_t node;
 
+    memset(input + 1, 's', 32);
+    memset(input + 33, 255, 2);
     memcpy(values + 16, root, 16);
     for (node = 1; node < 8; node++) {
-        input[3] = node;
-        memcpy(input + 5, values + 16 * node, 16);
+        input[35] = node;
+        memcpy(input + 37, values + 16 * node, 16);
         wv_shake128(input, sizeof input, values + 32 * node, 32);
     }
-    equal("masters", wv_masters(5, root, sizeof root, masters, sizeof masters),
+    equal("masters", wv_masters(5, salt, 32, root, sizeof root,
+                                masters, sizeof masters),
           WV_ACCEPTED);
     equal("their bytes", memcmp(masters, values + 16 * 8, 16 * 5) == 0, 1);
-    equal("cover", wv_cover(5, hidden, 6, root, sizeof root, nodes, 48),
+    equal("cover", wv_cover(5, hidden, 6, salt, 32, root, sizeof root, nodes, 48),
           WV_ACCEPTED);
     equal("node 3", memcmp(nodes, values + 16 * 3, 16) == 0, 1);
     equal("node 4", memcmp(nodes + 16, values + 16 * 4, 16) == 0, 1);
     equal("node 11", memcmp(nodes + 32, values + 16 * 11, 16) == 0, 1);
     equal("masters of one instance",
-          wv_masters(1, root, sizeof root, masters, 16), WV_REFUSED_COUNTS);
-    equal("a short buffer", wv_masters(5, root, sizeof root, masters, 79),
+          wv_masters(1, salt, 32, root, sizeof root, masters, 16),
+          WV_REFUSED_COUNTS);
+    equal("a short buffer",
+          wv_masters(5, salt, 32, root, sizeof root, masters, 79),
           WV_REFUSED_LENGTH);
-    equal("no leaf", wv_cover(5, hidden, 1, root, sizeof root, nodes, 48),
-          WV_REFUSED_PARTY);
-    equal("leaf 5 of 5", wv_cover(5, beyond, 2, root, sizeof root, nodes, 48),
-          WV_REFUSED_PARTY);
-    equal("an odd byte", wv_cover(5, hidden, 7, root, sizeof root, nodes, 48),
+    equal("a short salt",
+          wv_masters(5, salt, 31, root, sizeof root, masters, 80),
           WV_REFUSED_LENGTH);
-    equal("two nodes", wv_cover(5, hidden, 6, root, sizeof root, nodes, 32),
+    equal("no leaf",
+          wv_cover(5, hidden, 1, salt, 32, root, sizeof root, nodes, 48),
+          WV_REFUSED_PARTY);
+    equal("leaf 5 of 5",
+          wv_cover(5, beyond, 2, salt, 32, root, sizeof root, nodes, 48),
+          WV_REFUSED_PARTY);
+    equal("an odd byte",
+          wv_cover(5, hidden, 7, salt, 32, root, sizeof root, nodes, 48),
+          WV_REFUSED_LENGTH);
+    equal("two nodes",
+          wv_cover(5, hidden, 6, salt, 32, root, sizeof root, nodes, 32),
+          WV_REFUSED_LENGTH);
+    equal("a long salt",
+          wv_cover(5, hidden, 6, salt, 33, root, sizeof root, nodes, 48),
           WV_REFUSED_LENGTH);
 }
 
 /* Buffers that are only read may overlap: k[4] is 1, which is y here. */
 static void read_buffers_overlap(void)
 {
-    static uint8_t proof[233];
+    static uint8_t proof[265];
     static const uint8_t root[WV_ROOT_LEN] = {2};
     const uint8_t witness = 3;
     uint64_t written = 0;
 
     equal("prove from one buffer",
           wv_prove(k, sizeof k, &witness, 1, k + 4, 1, k, sizeof k,
-                   root, sizeof root, 4, 1, 2, proof, sizeof proof, &written,
-                   work, sizeof work),
+                   root, sizeof root, k, WV_SALT_LEN, 4, 1, 2,
+                   proof, sizeof proof, &written, work, sizeof work),
           WV_ACCEPTED);
     equal("check from one buffer",
           wv_check(k, sizeof k, k + 4, 1, k, sizeof k, proof, (size_t)written,
@@ -320,29 +339,37 @@ static void shared_checker(void)
  */
 static void challenge_input(void)
 {
-    uint8_t input[77] = {6};
+    uint8_t input[109] = {6};
     uint8_t stream[9], out[3] = {0xee, 0xee, 0xee};
 
     memset(input + 1, 'h', 32);
-    input[34] = 1; /* m is 256 */
-    input[35] = 1; /* tau */
-    input[37] = 16; /* n */
-    memset(input + 38, 'd', 32);
-    memset(input + 70, 'y', 3);
-    input[73] = 2; /* the message's length */
-    memset(input + 75, 'm', 2);
+    memset(input + 33, 's', 32);
+    input[66] = 1; /* m is 256 */
+    input[67] = 1; /* tau */
+    input[69] = 16; /* n */
+    memset(input + 70, 'd', 32);
+    memset(input + 102, 'y', 3);
+    input[105] = 2; /* the message's length */
+    memset(input + 107, 'm', 2);
     equal("the stream", wv_shake256(input, sizeof input, stream, sizeof stream),
           WV_ACCEPTED);
     equal("challenge",
-          wv_challenge(256, 1, 16, input + 1, 32, input + 38, 32,
-                       input + 70, 3, input + 75, 2, out, sizeof out),
+          wv_challenge(256, 1, 16, input + 1, 32, input + 33, 32,
+                       input + 70, 32, input + 102, 3, input + 107, 2,
+                       out, sizeof out),
           WV_ACCEPTED);
     equal("the instance", out[0], stream[0]);
     equal("its upper byte", out[1], 0);
     equal("its party", out[2], stream[8] % 16u);
     equal("challenge without y",
-          wv_challenge(256, 1, 16, input + 1, 32, input + 38, 32,
-                       input + 70, 0, input + 75, 2, out, sizeof out),
+          wv_challenge(256, 1, 16, input + 1, 32, input + 33, 32,
+                       input + 70, 32, input + 102, 0, input + 107, 2,
+                       out, sizeof out),
+          WV_REFUSED_LENGTH);
+    equal("challenge without a salt",
+          wv_challenge(256, 1, 16, input + 1, 32, input + 33, 0,
+                       input + 70, 32, input + 102, 3, input + 107, 2,
+                       out, sizeof out),
           WV_REFUSED_LENGTH);
 }
 
@@ -574,8 +601,10 @@ int main(void)
     equal("read a part", wv_read(k, 15, sizes), WV_REFUSED_CIRCUIT_LENGTH);
     equal("read the old form", wv_read(old_k, sizeof old_k, sizes),
           WV_REFUSED_CIRCUIT_SIZES);
-    prove_in(wv_proof_len(2, 1, 1, 4, 1, 2), WV_ACCEPTED);
-    prove_in(wv_proof_len(2, 1, 1, 4, 1, 2) - 1, WV_REFUSED_LENGTH);
+    prove_in(wv_proof_len(2, 1, 1, 4, 1, 2), WV_SALT_LEN, WV_ACCEPTED);
+    prove_in(wv_proof_len(2, 1, 1, 4, 1, 2) - 1, WV_SALT_LEN, WV_REFUSED_LENGTH);
+    prove_in(wv_proof_len(2, 1, 1, 4, 1, 2), WV_SALT_LEN - 1, WV_REFUSED_LENGTH);
+    prove_in(wv_proof_len(2, 1, 1, 4, 1, 2), WV_SALT_LEN + 1, WV_REFUSED_LENGTH);
     work_buffers();
     old_files();
     read_buffers_overlap();

@@ -216,14 +216,19 @@ static void test_hashes(void)
     follows("what a SHAKE gives", out, sizeof out);
 }
 
+/* The salt is no secret: it stands in the proof. */
+static const uint8_t salt[WV_SALT_LEN] = {5};
+
 static void test_tree(void)
 {
     uint8_t master[16], leaves[16 * PARTIES_MOST], siblings[64];
 
     hide_bits(master, 128);
-    accepted("expand", wv_expand(7, 16, master, 16, leaves, sizeof leaves));
+    accepted("expand", wv_expand(7, 16, salt, sizeof salt, master, 16,
+                                 leaves, sizeof leaves));
     follows("leaves", leaves, sizeof leaves);
-    accepted("open", wv_open(7, 16, 5, master, 16, siblings, sizeof siblings));
+    accepted("open", wv_open(7, 16, 5, salt, sizeof salt, master, 16,
+                             siblings, sizeof siblings));
     follows("siblings", siblings, sizeof siblings);
 }
 
@@ -237,10 +242,11 @@ static void test_masters(void)
     uint8_t root[16], masters[16 * 9], nodes[16 * 4];
 
     hide_bits(root, 128);
-    accepted("masters", wv_masters(9, root, 16, masters, sizeof masters));
+    accepted("masters", wv_masters(9, salt, sizeof salt, root, 16,
+                                   masters, sizeof masters));
     follows("masters", masters, sizeof masters);
-    accepted("cover", wv_cover(9, leaves, sizeof leaves, root, 16,
-                               nodes, sizeof nodes));
+    accepted("cover", wv_cover(9, leaves, sizeof leaves, salt, sizeof salt,
+                               root, 16, nodes, sizeof nodes));
     follows("nodes", nodes, sizeof nodes);
 }
 
@@ -305,7 +311,7 @@ static uint32_t challenge(unsigned declared)
     permutations = 0;
     declared_at = declared;
     answer = wv_challenge(40, 20, 16, hstar, sizeof hstar,
-                          digest, sizeof digest, claimed, sizeof claimed,
+                          salt, sizeof salt, digest, sizeof digest, claimed, sizeof claimed,
                           message, sizeof message, out, sizeof out);
     declared_at = 0;
     return answer;
@@ -314,7 +320,7 @@ static uint32_t challenge(unsigned declared)
 #define M 10
 #define TAU 4
 #define PROOF_MOST \
-    (38 + 48 * M + TAU * (64 + OCT(WV_MAX_GATES) + 32 + 64 + ROW_MOST))
+    (70 + 48 * M + TAU * (64 + OCT(WV_MAX_GATES) + 32 + 64 + ROW_MOST))
 
 static uint8_t proof[PROOF_MOST];
 
@@ -325,7 +331,7 @@ static uint32_t prove(uint32_t n, const uint8_t *root)
     permutations = 0;
     return wv_prove(circuit, circuit_len, witness, OCT(sizes[0]),
                     y, OCT(sizes[1]), message, sizeof message, root, 16,
-                    M, TAU, n, proof, sizeof proof, &written,
+                    salt, sizeof salt, M, TAU, n, proof, sizeof proof, &written,
                     work, work_len());
 }
 

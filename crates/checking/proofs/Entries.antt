@@ -12,7 +12,7 @@ use Rattle.circuit.specs.declared.Sizes.{Sizes}
 use Rattle.masks.specs.Steps.{wireCount}
 use Rattle.instance.specs.Instance.{Asked}
 use Rattle.proof.specs.Protocol.{statementOf, challenged}
-use Rattle.proof.specs.File.{headerM, headerTau, headerN, headerHstar}
+use Rattle.proof.specs.File.{headerM, headerTau, headerN, headerHstar, headerSalt}
 use Rattle.proof.specs.Check.{checkLegal}
 use Rattle.proof.specs.Steps.{asksIn}
 use Rattle.checking.specs.declared.entering.Shape.{Shape}
@@ -42,6 +42,6 @@ module _ (s y message proof : List ℕ) (r : Entry) (e : entered r ≡ legalTest
         let h = lent-taken .1 .headed in
         d
         ∙ (ap (judged (circuitOf s) y proof (f .counts .instances) (f .counts .parties)) (lent-taken .1 .asks)
-        ∙ (ap (λ (m : ℕ). judged (circuitOf s) y proof m (f .counts .parties) (challenged m (f .counts .chosen) (f .counts .parties) (headerHstar proof) (statementOf m (f .counts .chosen) (f .counts .parties) s y message))) (h .is-M)
-        ∙ (ap₂ (λ (u p : ℕ). judged (circuitOf s) y proof (headerM proof) p (challenged (headerM proof) u p (headerHstar proof) (statementOf (headerM proof) u p s y message))) (h .is-tau) (h .is-n)
+        ∙ (ap (λ (m : ℕ). judged (circuitOf s) y proof m (f .counts .parties) (challenged m (f .counts .chosen) (f .counts .parties) (headerHstar proof) (statementOf (headerSalt proof) m (f .counts .chosen) (f .counts .parties) s y message))) (h .is-M)
+        ∙ (ap₂ (λ (u p : ℕ). judged (circuitOf s) y proof (headerM proof) p (challenged (headerM proof) u p (headerHstar proof) (statementOf (headerSalt proof) (headerM proof) u p s y message))) (h .is-tau) (h .is-n)
         ∙ (tests-accept s y message proof (circuitOf s) _ (sym (ap entered q) ∙ e) ∙ sym (check-tests s y message proof (circuitOf s))))))

@@ -5,6 +5,7 @@ use Prim.Native.Nat.{ℕ, zero, suc, _+_}
 use native.Mathlib.Omega.{arith}
 use lib.ListN.{drop}
 use lib.Seq.{getD-drop}
+use Rattle.hashing.specs.declared.Context.{Context}
 use Rattle.bits.specs.Bits.{tabulate}
 use Rattle.keccak.proofs.Absorbing.{Bytes}
 use Rattle.circuit.specs.Circuit.{Circuit}
@@ -28,17 +29,17 @@ rows-bytes zero f h k = omega arith
 rows-bytes (suc n) f h k = bytes-append (f 0) (flatten (tabulate n (λ i. f (suc i)))) (h 0) (rows-bytes n (λ i. f (suc i)) (λ i. h (suc i))) k
 
 -- h_j
-pub commitments-bytes : (c : Circuit) (n j : ℕ) (master part : List ℕ) (a : Asked) → Bytes (stretchCommitments c n j master part a)
+pub commitments-bytes : (c : Circuit) (n : ℕ) (j : Context) (master part : List ℕ) (a : Asked) → Bytes (stretchCommitments c n j master part a)
 unfolding stretchCommitments masterCommitments commitmentsDigest
 commitments-bytes c n j master part opened =
-    sha3-bytes (commitmentsInput j (commitmentsOf n j (masterSeeds n j master) (masterCorrections c n j master)))
-commitments-bytes c n j master part (hiding p) = sha3-bytes (commitmentsInput j (openedCommitments c n j p part))
+    sha3-bytes (commitmentsInput (j .number) (commitmentsOf n j (masterSeeds n j master) (masterCorrections c n j master)))
+commitments-bytes c n j master part (hiding p) = sha3-bytes (commitmentsInput (j .number) (openedCommitments c n j p part))
 
 -- h'_j
-pub online-bytes : (c : Circuit) (n j : ℕ) (part : List ℕ) → Bytes part → (a : Asked) → Bytes (stretchOnline c n j part a)
+pub online-bytes : (c : Circuit) (n : ℕ) (j : Context) (part : List ℕ) → Bytes part → (a : Asked) → Bytes (stretchOnline c n j part a)
 unfolding stretchOnline onlineDigest
 online-bytes c n j part h opened = h
-online-bytes c n j part h (hiding p) = sha3-bytes (onlineInput j (maskedPart c n p part) (rowsOf n (openedRun c n j p part)))
+online-bytes c n j part h (hiding p) = sha3-bytes (onlineInput (j .number) (maskedPart c n p part) (rowsOf n (openedRun c n j p part)))
 
 -- a stretch
 pub stretch-bytes : (c : Circuit) (M n : ℕ) (ask : ℕ → Asked) (proof : List ℕ) → Bytes proof → (j : ℕ) → Bytes (stretchAt c M n ask proof j)

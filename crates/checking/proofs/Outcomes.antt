@@ -28,7 +28,7 @@ use Rattle.circuit.proofs.Answered.{fell, held}
 use Rattle.mpc.proofs.Opened.{sized, circuit-outputs}
 use Rattle.mpc.proofs.Lent.{work-refused, work-short, work-left}
 use Rattle.proof.specs.Protocol.{statementOf, challenged}
-use Rattle.proof.specs.File.{headerM, headerTau, headerN, headerHstar, goodHeader, proofBytes}
+use Rattle.proof.specs.File.{headerM, headerTau, headerN, headerHstar, headerSalt, goodHeader, proofBytes}
 use Rattle.proof.specs.Check.{checkProof, checkLegal, checkOp}
 use Rattle.proof.proofs.Works.{output-bytes}
 use Rattle.checking.specs.Steps.{allUnused, tested, judged, legalTests, Headed}
@@ -84,13 +84,13 @@ module _ (s : List ℕ) (i o g a : ℕ) (k : Known s (sized i o g a)) (y message
         legal-tree h e = record { parties = ap isPartyCount f3 ∙ header-parties proof (held _ b4 e4 t4); height = e }
 
         -- the proof is looked into
-        pub legal-done : (r : Outcome) → r ≡ tested (circuitOf s) proof M n (challenged M tau n (headerHstar proof) (statementOf M tau n s y message)) (done [])
+        pub legal-done : (r : Outcome) → r ≡ tested (circuitOf s) proof M n (challenged M tau n (headerHstar proof) (statementOf (headerSalt proof) M tau n s y message)) (done [])
             → r ≡ legalTests s y message proof (circuitOf s) (done [])
         unfolding legalTests
         legal-done r e =
             e
-            ∙ ap (λ (m : ℕ). tested (circuitOf s) proof m n (challenged m tau n (headerHstar proof) (statementOf m tau n s y message)) (done [])) f1
-            ∙ ap₂ (λ (t p : ℕ). tested (circuitOf s) proof (headerM proof) p (challenged (headerM proof) t p (headerHstar proof) (statementOf (headerM proof) t p s y message)) (done [])) f2 f3
+            ∙ ap (λ (m : ℕ). tested (circuitOf s) proof m n (challenged m tau n (headerHstar proof) (statementOf (headerSalt proof) m tau n s y message)) (done [])) f1
+            ∙ ap₂ (λ (t p : ℕ). tested (circuitOf s) proof (headerM proof) p (challenged (headerM proof) t p (headerHstar proof) (statementOf (headerSalt proof) (headerM proof) t p s y message)) (done [])) f2 f3
             ∙ rw (held _ b2 lengths-right t2, held _ b3 unused-right t3, held _ b4 e4 t4)
 
 -- a refusal is not a success
@@ -126,7 +126,7 @@ module _ (s y message proof : List ℕ) (c : Circuit) where
   abbrev asks : ℕ → Asked
   asks =
       challenged (headerM proof) (headerTau proof) (headerN proof) (headerHstar proof)
-      (statementOf (headerM proof) (headerTau proof) (headerN proof) s y message)
+      (statementOf (headerSalt proof) (headerM proof) (headerTau proof) (headerN proof) s y message)
 
   -- the tests that need no run
   abbrev legal-tests : List (Bool × ℕ)

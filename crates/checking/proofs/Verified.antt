@@ -7,6 +7,7 @@ use Prim.Native.Nat.{ℕ, _+_, _-_, _≤_, _<_}
 use native.Mathlib.Numerals.{add-one}
 use native.Mathlib.Omega.{arith}
 use lib.ListN.{length, take, drop}
+use Rattle.hashing.specs.declared.Context.{Context}
 use Rattle.bits.specs.Bits.{tabulate}
 use Rattle.bits.proofs.Rows.{flatten-more}
 use Rattle.keccak.specs.declared.sponge.Sponge.{Sponge}
@@ -15,7 +16,7 @@ use Rattle.keccak.specs.Sponge.{sha3-256}
 use Rattle.keccak.proofs.Absorbing.{Bytes}
 use Rattle.keccak.proofs.Steps.{squeezes-length}
 use Rattle.circuit.specs.Circuit.{Circuit}
-use Rattle.hashing.specs.Inputs.{allCommitmentsInput, allOnlineInput}
+use Rattle.hashing.specs.Inputs.{contextOf, allCommitmentsInput, allOnlineInput}
 use Rattle.hashing.specs.Digest.{transcriptOf}
 use Rattle.hashing.specs.Steps.{taken, given}
 use Rattle.hashing.proofs.Digests.{taken-more, taken-room, given-taken}
@@ -25,16 +26,16 @@ use Rattle.instance.specs.Stretch.{stretchBytes}
 use Rattle.instance.specs.Opened.{openedCommitments, stretchCommitments, stretchOnline, stretchUnused, stretchOutput}
 use Rattle.proof.specs.Steps.{askOf, masterIn}
 use Rattle.proof.specs.Protocol.{hstarOf}
-use Rattle.proof.specs.File.{hides, masterAt, stretchStart, proofBytes, stretchAt}
+use Rattle.proof.specs.File.{headerSalt, contextAt, hides, masterAt, stretchStart, proofBytes, stretchAt}
 use Rattle.proof.specs.Check.{every}
 use Rattle.proof.proofs.Sizes.{ask-opened, ask-hiding, start-more}
 use Rattle.proof.proofs.Inside.{stretch-inside, length-stretchAt}
 use Rattle.proof.proofs.Passing.{every-at}
-use Rattle.checking.specs.Steps.{commitmentsAt, onlineAt}
+use Rattle.checking.specs.Steps.{commitmentsAt, onlineAt, outputAt}
 use Rattle.checking.proofs.Hashed.{rows-bytes, commitments-bytes, online-bytes, stretch-bytes}
 
 -- the stretch of an instance, of which p is asked
-module _ (c : Circuit) (n j p : ℕ) (y master part : List ℕ) where
+module _ (c : Circuit) (n : ℕ) (j : Context) (p : ℕ) (y master part : List ℕ) where
   -- the instance is not chosen
   module _ (e : p ≡ n) where
     -- its stretch is 32 bytes
@@ -74,7 +75,7 @@ module _ (c : Circuit) (n j p : ℕ) (y master part : List ℕ) where
     -- its answers
     pub hidden-answer : (b : Bool) (h o : List ℕ)
         → (b ≡ stretchOutput c n j y part (hiding p))
-        × ((h ≡ commitmentsDigest j (openedCommitments c n j p part)) × (o ≡ stretchOnline c n j part (hiding p)))
+        × ((h ≡ commitmentsDigest (j .number) (openedCommitments c n j p part)) × (o ≡ stretchOnline c n j part (hiding p)))
         → (b ≡ stretchOutput c n j y part (askOf n p))
         × ((h ≡ stretchCommitments c n j master part (askOf n p)) × (o ≡ stretchOnline c n j part (askOf n p)))
     unfolding stretchCommitments
@@ -101,7 +102,7 @@ pub every-end : (f : ℕ → Bool) (j m : ℕ) (r : Bool) → j ≡ m → r ≡ 
 every-end f j m r e q = q ∙ ap (λ (k : ℕ). every k f) e
 
 -- the master of a chosen instance is not looked at
-pub master-unseen : (c : Circuit) (n j : ℕ) (m m′ part : List ℕ) (a : Asked) → (isChosen a ≡ false → m ≡ m′)
+pub master-unseen : (c : Circuit) (n : ℕ) (j : Context) (m m′ part : List ℕ) (a : Asked) → (isChosen a ≡ false → m ≡ m′)
     → stretchCommitments c n j m part a ≡ stretchCommitments c n j m′ part a
 unfolding stretchCommitments isChosen
 master-unseen c n j m m′ part opened h = ap (masterCommitments c n j) (h refl)
@@ -149,16 +150,32 @@ module _ (c : Circuit) (n M : ℕ) (ask : ℕ → Asked) (proof : List ℕ) (siz
   pub turn-digest : (f : List ℕ → Asked → List ℕ) (r : List ℕ) → r ≡ f (take (k + b - k) (drop k proof)) a → r ≡ f (stretchAt c M n ask proof j) (ask j)
   turn-digest f r e = e ∙ ap₂ f turn-part is
 
-  -- its h_j, from its master, which is not looked at where it is chosen
-  pub turn-made : (master r : List ℕ) → (hides ask j ≡ false → master ≡ masterAt M ask proof j)
-      → r ≡ stretchCommitments c n j master (take (k + b - k) (drop k proof)) a → r ≡ commitmentsAt c M n ask proof j
-  turn-made master r seen e =
-      turn-digest (stretchCommitments c n j master) r e ∙ master-unseen c n j master (masterAt M ask proof j) (stretchAt c M n ask proof j) (ask j) seen
+  -- its output and its digests, with the header's salt
+  module _ (salt : List ℕ) (es : salt ≡ headerSalt proof) where
+    pub turn-output : (y : List ℕ) (r : Bool) → r ≡ stretchOutput c n (contextOf salt j) y (take (k + b - k) (drop k proof)) a
+        → r ≡ outputAt c M n ask proof y j
+    turn-output y r e =
+        turn-test (stretchOutput c n (contextOf salt j) y) r e
+        ∙ ap (λ (t : List ℕ). stretchOutput c n (contextOf t j) y (stretchAt c M n ask proof j) (ask j)) es
 
-  -- its h_j, from the master in its row
-  pub turn-commitments : (nodes master r : List ℕ) → ((i : ℕ) → i < M → hides ask i ≡ false → masterIn nodes i ≡ masterAt M ask proof i)
-      → master ≡ masterIn nodes j → r ≡ stretchCommitments c n j master (take (k + b - k) (drop k proof)) a → r ≡ commitmentsAt c M n ask proof j
-  turn-commitments nodes master r rebuilt q e = turn-made master r (λ t. q ∙ rebuilt j low t) e
+    pub turn-online : (r : List ℕ) → r ≡ stretchOnline c n (contextOf salt j) (take (k + b - k) (drop k proof)) a → r ≡ onlineAt c M n ask proof j
+    turn-online r e =
+        turn-digest (stretchOnline c n (contextOf salt j)) r e
+        ∙ ap (λ (t : List ℕ). stretchOnline c n (contextOf t j) (stretchAt c M n ask proof j) (ask j)) es
+
+    -- its h_j, from its master, which is not looked at where it is chosen
+    pub turn-made : (master r : List ℕ) → (hides ask j ≡ false → master ≡ masterAt M ask proof j)
+        → r ≡ stretchCommitments c n (contextOf salt j) master (take (k + b - k) (drop k proof)) a → r ≡ commitmentsAt c M n ask proof j
+    turn-made master r seen e =
+        turn-digest (stretchCommitments c n (contextOf salt j) master) r e
+        ∙ ap (λ (t : List ℕ). stretchCommitments c n (contextOf t j) master (stretchAt c M n ask proof j) (ask j)) es
+        ∙ master-unseen c n (contextAt proof j) master (masterAt M ask proof j) (stretchAt c M n ask proof j) (ask j) seen
+
+    -- its h_j, from the master in its row
+    pub turn-commitments : (nodes master r : List ℕ) → ((i : ℕ) → i < M → hides ask i ≡ false → masterIn nodes i ≡ masterAt M ask proof i)
+        → master ≡ masterIn nodes j → r ≡ stretchCommitments c n (contextOf salt j) master (take (k + b - k) (drop k proof)) a
+        → r ≡ commitmentsAt c M n ask proof j
+    turn-commitments nodes master r rebuilt q e = turn-made master r (λ t. q ∙ rebuilt j low t) e
 
 -- a sponge that has taken in anything has room for the next byte
 pub sponge-room : (N : List ℕ) (s : Sponge) → s ≡ taken N → s .fill < 136
@@ -235,5 +252,5 @@ module _ (c : Circuit) (M n : ℕ) (ask : ℕ → Asked) (proof : List ℕ) (byt
   unfolding hstarOf
   hstar-made i m s o h g r e p q a b d =
       d ∙ ap₂ transcriptOf
-      (commitments-end (commitmentsAt c M n ask proof) i m s h (λ k. commitments-bytes c n k (masterAt M ask proof k) (stretchAt c M n ask proof k) (ask k)) e p a)
-      (online-end (onlineAt c M n ask proof) i m o g (λ k. online-bytes c n k (stretchAt c M n ask proof k) (stretch-bytes c M n ask proof bytes k) (ask k)) e q b)
+      (commitments-end (commitmentsAt c M n ask proof) i m s h (λ k. commitments-bytes c n (contextAt proof k) (masterAt M ask proof k) (stretchAt c M n ask proof k) (ask k)) e p a)
+      (online-end (onlineAt c M n ask proof) i m o g (λ k. online-bytes c n (contextAt proof k) (stretchAt c M n ask proof k) (stretch-bytes c M n ask proof bytes k) (ask k)) e q b)

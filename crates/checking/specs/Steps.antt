@@ -23,7 +23,7 @@ use Rattle.instance.specs.Instance.{Asked}
 use Rattle.instance.specs.Steps.{Tree}
 use Rattle.instance.specs.Opened.{stretchCommitments, stretchOnline, stretchUnused, stretchOutput}
 use Rattle.proof.specs.Protocol.{hstarOf, statementOf, challenged}
-use Rattle.proof.specs.File.{headerM, headerTau, headerN, headerHstar, goodHeader, hides, proofBytes, masterAt, stretchAt}
+use Rattle.proof.specs.File.{headerM, headerTau, headerN, headerHstar, headerSalt, contextAt, goodHeader, hides, proofBytes, masterAt, stretchAt}
 use Rattle.proof.specs.Check.{every}
 use Rattle.proof.specs.Steps.{asksIn, Asking, marksIn, masterIn}
 use Rattle.checking.specs.declared.entering.Shape.{Shape}
@@ -32,13 +32,13 @@ use Rattle.checking.specs.declared.entering.Entry.the-variants.{Refused,
 
 -- whether the replay of instance i gives y, and its digests
 abbrev pub outputAt : Circuit → ℕ → ℕ → (ℕ → Asked) → List ℕ → List ℕ → ℕ → Bool
-outputAt c M n ask proof y i = stretchOutput c n i y (stretchAt c M n ask proof i) (ask i)
+outputAt c M n ask proof y i = stretchOutput c n (contextAt proof i) y (stretchAt c M n ask proof i) (ask i)
 
 abbrev pub commitmentsAt : Circuit → ℕ → ℕ → (ℕ → Asked) → List ℕ → ℕ → List ℕ
-commitmentsAt c M n ask proof i = stretchCommitments c n i (masterAt M ask proof i) (stretchAt c M n ask proof i) (ask i)
+commitmentsAt c M n ask proof i = stretchCommitments c n (contextAt proof i) (masterAt M ask proof i) (stretchAt c M n ask proof i) (ask i)
 
 abbrev pub onlineAt : Circuit → ℕ → ℕ → (ℕ → Asked) → List ℕ → ℕ → List ℕ
-onlineAt c M n ask proof i = stretchOnline c n i (stretchAt c M n ask proof i) (ask i)
+onlineAt c M n ask proof i = stretchOnline c n (contextAt proof i) (stretchAt c M n ask proof i) (ask i)
 
 -- refusal 7: the unused bits of all chosen stretches
 abbrev pub allUnused : Circuit → ℕ → ℕ → (ℕ → Asked) → List ℕ → Bool
@@ -46,12 +46,12 @@ allUnused c M n ask proof = every M (λ j. stretchUnused c n (stretchAt c M n as
 
 -- refusal 10: the outputs of all replays
 abbrev pub allOutputs : Circuit → ℕ → ℕ → (ℕ → Asked) → List ℕ → List ℕ → Bool
-allOutputs c M n ask y proof = every M (λ j. stretchOutput c n j y (stretchAt c M n ask proof j) (ask j))
+allOutputs c M n ask y proof = every M (λ j. stretchOutput c n (contextAt proof j) y (stretchAt c M n ask proof j) (ask j))
 
 -- refusal 13: the recomputed h*
 abbrev pub recomputed : Circuit → ℕ → ℕ → (ℕ → Asked) → List ℕ → List ℕ
 recomputed c M n ask proof =
-    hstarOf M (λ j. stretchCommitments c n j (masterAt M ask proof j) (stretchAt c M n ask proof j) (ask j)) (λ j. stretchOnline c n j (stretchAt c M n ask proof j) (ask j))
+    hstarOf M (λ j. stretchCommitments c n (contextAt proof j) (masterAt M ask proof j) (stretchAt c M n ask proof j) (ask j)) (λ j. stretchOnline c n (contextAt proof j) (stretchAt c M n ask proof j) (ask j))
 
 -- the tests of a proof with a good header that need no run, then the rest
 unfoldable pub tested : Circuit → List ℕ → ℕ → ℕ → (ℕ → Asked) → Outcome → Outcome
@@ -71,7 +71,7 @@ legalTests s y message proof c rest =
     (unless (goodHeader proof) 11 []
     (tested c proof (headerM proof) (headerN proof)
     (challenged (headerM proof) (headerTau proof) (headerN proof) (headerHstar proof)
-    (statementOf (headerM proof) (headerTau proof) (headerN proof) s y message))
+    (statementOf (headerSalt proof) (headerM proof) (headerTau proof) (headerN proof) s y message))
     rest)))
 
 -- the table of a challenge to M instances, and a proof of the length that it implies
@@ -112,7 +112,7 @@ pub record Ready (s : List ℕ) (f : Shape) (y message proof table marks : List 
   pub headed : Headed (f .counts .instances) (f .counts .chosen) (f .counts .parties) y message proof
   pub asks : asksIn (f .counts .parties) table
       ≡ challenged (f .counts .instances) (f .counts .chosen) (f .counts .parties) (headerHstar proof)
-      (statementOf (f .counts .instances) (f .counts .chosen) (f .counts .parties) s y message)
+      (statementOf (headerSalt proof) (f .counts .instances) (f .counts .chosen) (f .counts .parties) s y message)
 
 -- the answer of the tests
 abbrev pub entered : Entry → Outcome

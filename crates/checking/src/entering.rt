@@ -9,7 +9,7 @@ ghost use Rattle.mpc.specs.Steps.{Known};
 ghost use Rattle.cover.specs.Masters.{height as «height-of»};
 ghost use Rattle.instance.specs.Steps.{Tree};
 ghost use Rattle.proof.specs.Protocol.{statementOf, challenged};
-ghost use Rattle.proof.specs.File.{headerHstar, goodHeader};
+ghost use Rattle.proof.specs.File.{headerHstar, headerSalt, goodHeader};
 ghost use Rattle.checking.specs.Steps.{Headed, tested, legalTests, entered, Took, inTable, inMarks};
 use crate::unused_bits::all_unused;
 use circuit::Sizes;
@@ -51,7 +51,7 @@ fn good_header(proof: &[u8]) -> bool
     both(counts(m, tau), both(h != 0, proof[5] == 0))
 }
 
-// Tests a proof with a good header. The challenge, drawn from the header's h*, goes into the table, and from it come the marks of the
+// Tests a proof with a good header. The challenge, drawn from the header's h* and salt, goes into the table, and from it come the marks of the
 // masters' tree.
 fn test_proof(
     s: &[u8],
@@ -64,10 +64,18 @@ fn test_proof(
     marks: &mut [u8],
 ) -> Entry
     requires { ⌜ Known (now s) z × (Tree (k .parties) (k .height) × (Headed (k .instances) (k .chosen) (k .parties) (now y) (now message) (now proof) × ((length (now table) ≡ k .instances) × (length (now marks) ≡ 2 ^ suc («height-of» (k .instances)))))) ⌝ }
-    ensures { λ r. ⌜ entered r ≡ tested (circuitOf (now (s .entry))) (now (proof .entry)) (k .instances) (k .parties) (challenged (k .instances) (k .chosen) (k .parties) (headerHstar (now (proof .entry))) (statementOf (k .instances) (k .chosen) (k .parties) (now (s .entry)) (now (y .entry)) (now (message .entry)))) (done []) ⌝ }
+    ensures { λ r. ⌜ entered r ≡ tested (circuitOf (now (s .entry))) (now (proof .entry)) (k .instances) (k .parties) (challenged (k .instances) (k .chosen) (k .parties) (headerHstar (now (proof .entry))) (statementOf (headerSalt (now (proof .entry))) (k .instances) (k .chosen) (k .parties) (now (s .entry)) (now (y .entry)) (now (message .entry)))) (done []) ⌝ }
     ensures { λ r. ⌜ Took r (now (s .entry)) z (now (y .entry)) (now (message .entry)) (now (proof .entry)) (λ _. now (table .exit)) (λ _. now (marks .exit)) ⌝ }
 {
-    draw_challenge(s, k, &proof[6..HEADER_BYTES], y, message, table);
+    draw_challenge(
+        s,
+        k,
+        &proof[6..38],
+        &proof[38..HEADER_BYTES],
+        y,
+        message,
+        table,
+    );
     let opened = mark_nodes(k, table, marks);
     if proof.len() != proof_bytes(s, z, k, table, opened) {
         return Entry::Refused(Refusal::ProofLength);

@@ -22,10 +22,12 @@ use circuit::ReadAnswer;
 use circuit::Sizes;
 use circuit::reading::read;
 use cover::height;
+use cover::masters_tree;
 use cover::regrow;
 use entering::Entry;
 use entering::Shape;
 use entering::test_lent;
+use masters::header_salt;
 use mpc::lending::work_bytes;
 use proof::HEADER_BYTES;
 use proof::nodes::row_count;
@@ -60,7 +62,7 @@ fn verify(
     let mut nodes = [0u8; 16384];
     let e = 16 * row_count(m);
     regrow(
-        65535,
+        masters_tree(header_salt(proof)),
         height(m),
         marks,
         &proof[HEADER_BYTES..first],
@@ -70,7 +72,7 @@ fn verify(
     if !v.agrees {
         return Answer::Refused(Refusal::Output);
     }
-    if !bits::same(&v.hstar, &proof[6..HEADER_BYTES]) {
+    if !bits::same(&v.hstar, &proof[6..38]) {
         return Answer::Refused(Refusal::Digest);
     }
     Answer::Accepted

@@ -1,4 +1,4 @@
-// The master of one instance, by the path from the opened node above its leaf.
+// The salt of a proof, and the master of one instance, by the path from the opened node above its leaf.
 ghost use mathlib.Core.Path.{_≡_};
 ghost use mathlib.Core.Bool.{cond};
 ghost use Prim.Native.Nat.{suc, _+_, _*_, _^_, _≤_, _<_};
@@ -6,31 +6,42 @@ ghost use lib.Dec.{eqb};
 ghost use lib.ListN.{length, replicate};
 ghost use Rattle.cover.specs.Masters.{height as «height-of», childOf, fromAbove};
 ghost use Rattle.cover.specs.Steps.{openedBy, coverBy};
+ghost use Rattle.proof.specs.File.{headerBytes, headerSalt};
 use bits::copy;
 use bits::row;
-use cover::MASTERS;
 use cover::height;
 use cover::is_opened;
 use cover::leaves;
 use cover::opened_before;
+use hashing::Context;
+use hashing::salt_in;
+use proof::HEADER_BYTES;
 use tree::children;
 
-// Node x of the masters' tree, from its parent's value.
-fn child(x: usize, value: [u8; 16]) -> [u8; 16]
+// The salt in a header.
+pub(crate) fn header_salt(proof: &[u8]) -> [u8; 32]
+    requires { ⌜ headerBytes ≤ length (now proof) ⌝ }
+    ensures { λ r. ⌜ r ≡ headerSalt (now (proof .entry)) ⌝ }
+{
+    salt_in(&proof[38..HEADER_BYTES])
+}
+
+// Node x of a tree, from its parent's value.
+fn child(x: usize, value: [u8; 16], tree: Context) -> [u8; 16]
     requires { ⌜ x < 65536 ⌝ }
-    ensures { λ r. ⌜ r ≡ childOf 65535 x value ⌝ }
+    ensures { λ r. ⌜ r ≡ childOf tree x value ⌝ }
 {
     let mut pair = [0u8; 32];
-    children(MASTERS, (x / 2) as u32, &value, &mut pair);
+    children(tree, (x / 2) as u32, &value, &mut pair);
     let mut out = [0u8; 16];
     copy(row(&pair, 16, x % 2), &mut out);
     out
 }
 
 // Node x from the values of the opened nodes, of which one stands at or above it, less than d levels up; zeros where none does.
-fn from_above(marks: &[u8], values: &[u8], d: u32, x: usize) -> [u8; 16]
+fn from_above(marks: &[u8], values: &[u8], d: u32, x: usize, tree: Context) -> [u8; 16]
     requires { ⌜ (length (now values) ≡ 16 * length (coverBy (now marks))) × ((x < length (now marks)) × (length (now marks) ≤ 1024)) ⌝ }
-    ensures { λ r. ⌜ r ≡ fromAbove (openedBy (now (marks .entry))) (childOf 65535) (now (values .entry)) d x ⌝ }
+    ensures { λ r. ⌜ r ≡ fromAbove (openedBy (now (marks .entry))) (childOf tree) (now (values .entry)) d x ⌝ }
 {
     let mut out = [0u8; 16];
     if d == 0 {
@@ -42,18 +53,25 @@ fn from_above(marks: &[u8], values: &[u8], d: u32, x: usize) -> [u8; 16]
         copy(row(values, 16, n), &mut out);
         return out;
     }
-    child(x, from_above(marks, values, d - 1, x / 2))
+    child(x, from_above(marks, values, d - 1, x / 2, tree), tree)
 }
 
 // The master of instance j of m, from the values of the opened nodes; zeros where it is chosen.
-pub(crate) fn master_of(m: u32, marks: &[u8], values: &[u8], j: u32, chosen: bool) -> [u8; 16]
+pub(crate) fn master_of(
+    m: u32,
+    marks: &[u8],
+    values: &[u8],
+    j: u32,
+    chosen: bool,
+    tree: Context,
+) -> [u8; 16]
     requires { ⌜ (m ≤ 512) × ((j < m) × ((length (now marks) ≡ 2 ^ suc («height-of» m)) × (length (now values) ≡ 16 * length (coverBy (now marks))))) ⌝ }
-    ensures { λ r. ⌜ r ≡ cond chosen (replicate 16 0) (fromAbove (openedBy (now (marks .entry))) (childOf 65535) (now (values .entry)) (suc («height-of» m)) (2 ^ «height-of» m + j)) ⌝ }
+    ensures { λ r. ⌜ r ≡ cond chosen (replicate 16 0) (fromAbove (openedBy (now (marks .entry))) (childOf tree) (now (values .entry)) (suc («height-of» m)) (2 ^ «height-of» m + j)) ⌝ }
 {
     if chosen {
         return [0u8; 16];
     }
     let h = height(m);
     let x = leaves(h) + j as usize;
-    from_above(marks, values, h + 1, x)
+    from_above(marks, values, h + 1, x, tree)
 }

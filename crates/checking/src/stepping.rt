@@ -5,13 +5,16 @@ ghost use lib.ListN.{length};
 ghost use Rattle.bits.specs.Bytes.{sameBytes};
 ghost use Rattle.circuit.specs.File.{circuitOf};
 ghost use Rattle.masks.specs.Steps.{wireCount};
-ghost use Rattle.proof.specs.File.{headerHstar, stretchStart};
+ghost use Rattle.proof.specs.File.{headerBytes, headerHstar, stretchStart};
 ghost use Rattle.proof.specs.Steps.{asksIn};
 ghost use Rattle.checking.specs.RunningDigests.{started, more, hstarIn};
 ghost use Rattle.checking.specs.Steps.{Tested, outputAt, commitmentsAt, onlineAt};
 use crate::entering::Shape;
+use crate::masters::header_salt;
 use crate::masters::master_of;
 use crate::verifying::check_instance;
+use cover::masters_tree;
+use hashing::Context;
 use hashing::finish;
 use hashing::start_all_commitments;
 use hashing::start_all_online;
@@ -67,11 +70,19 @@ pub fn check_one(
     let h = k.height;
     let p = asked(table, n, j);
     let first = HEADER_BYTES + f.opened;
-    let seed = master_of(k.instances, marks, &proof[HEADER_BYTES..first], j, p != n);
+    let salt = header_salt(proof);
+    let seed = master_of(
+        k.instances,
+        marks,
+        &proof[HEADER_BYTES..first],
+        j,
+        p != n,
+        masters_tree(salt),
+    );
     let at = stretch_start(s, f, table, proof, marks, j);
     let end = at + stretch_bytes(s, z, n, h, p);
     let inst = Instance {
-        number: j,
+        context: Context { salt, number: j },
         parties: n,
         height: h,
     };
@@ -103,9 +114,9 @@ pub fn take_digests(d: Running, r: Replayed) -> Running
 
 // Whether the h* that the sponges give is the header's.
 pub fn same_hstar(d: Running, proof: &[u8]) -> bool
-    requires { ⌜ ((d .commitments .fill < 136) × (d .online .fill < 136)) × (38 ≤ length (now proof)) ⌝ }
+    requires { ⌜ ((d .commitments .fill < 136) × (d .online .fill < 136)) × (headerBytes ≤ length (now proof)) ⌝ }
     ensures { λ r. ⌜ r ≡ sameBytes (hstarIn d) (headerHstar (now (proof .entry))) ⌝ }
 {
     let hstar = transcript(&finish(d.commitments), &finish(d.online));
-    bits::same(&hstar, &proof[6..HEADER_BYTES])
+    bits::same(&hstar, &proof[6..38])
 }

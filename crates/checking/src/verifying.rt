@@ -11,8 +11,10 @@ ghost use Rattle.instance.specs.Steps.{Lent};
 ghost use Rattle.proof.specs.File.{hides};
 ghost use Rattle.proof.specs.Steps.{askOf, asksIn};
 ghost use Rattle.checking.specs.Steps.{allUnused, allOutputs, recomputed, Sized, Rebuilt};
+use crate::masters::header_salt;
 use bits::copy;
 use circuit::Sizes;
+use hashing::Context;
 use hashing::finish;
 use hashing::start_all_commitments;
 use hashing::start_all_online;
@@ -47,7 +49,7 @@ pub(crate) fn check_instance(
     memory: &mut [u8],
 ) -> Replayed
     requires { ⌜ Lent (now s) z (inst .parties) (inst .height) (now memory) × ((p ≤ inst .parties) × ((length (now master) ≡ 16) × ((length (now part) ≡ stretchBytes (circuitOf (now s)) (inst .parties) (askOf (inst .parties) p)) × (stretchUnused (circuitOf (now s)) (inst .parties) (now part) (askOf (inst .parties) p) ≡ true)))) ⌝ }
-    ensures { λ r. ⌜ (r .agrees ≡ stretchOutput (circuitOf (now (s .entry))) (inst .parties) (inst .number) (now (y .entry)) (now (part .entry)) (askOf (inst .parties) p)) × ((r .commitments ≡ stretchCommitments (circuitOf (now (s .entry))) (inst .parties) (inst .number) (now (master .entry)) (now (part .entry)) (askOf (inst .parties) p)) × (r .online ≡ stretchOnline (circuitOf (now (s .entry))) (inst .parties) (inst .number) (now (part .entry)) (askOf (inst .parties) p))) ⌝ }
+    ensures { λ r. ⌜ (r .agrees ≡ stretchOutput (circuitOf (now (s .entry))) (inst .parties) (inst .context) (now (y .entry)) (now (part .entry)) (askOf (inst .parties) p)) × ((r .commitments ≡ stretchCommitments (circuitOf (now (s .entry))) (inst .parties) (inst .context) (now (master .entry)) (now (part .entry)) (askOf (inst .parties) p)) × (r .online ≡ stretchOnline (circuitOf (now (s .entry))) (inst .parties) (inst .context) (now (part .entry)) (askOf (inst .parties) p))) ⌝ }
 {
     let n = inst.parties;
     if p == n {
@@ -81,6 +83,7 @@ pub(crate) fn recompute(
     let m = k.instances;
     let n = k.parties;
     let h = k.height;
+    let salt = header_salt(proof);
     let mut agrees = true;
     let mut all = start_all_commitments();
     let mut online = start_all_online();
@@ -90,7 +93,7 @@ pub(crate) fn recompute(
         let p = asked(table, n, j);
         let end = at + stretch_bytes(s, z, n, h, p);
         let inst = Instance {
-            number: j,
+            context: Context { salt, number: j },
             parties: n,
             height: h,
         };

@@ -278,15 +278,16 @@ unfolding challengeInput
 bytes-challenge h g p q = bytes-append ((6 ∷ []) ++ h) g (bytes-append (6 ∷ []) h (bytes-one 6 (omega arith)) p) q
 
 -- and so is what it is bound to
-pub bytes-bound : (M tau n : ℕ) (d y m : List ℕ) → Bytes d → Bytes y → Bytes m → Bytes (boundOf M tau n d y m)
+pub bytes-bound : (s : List ℕ) (M tau n : ℕ) (d y m : List ℕ) → Bytes s → Bytes d → Bytes y → Bytes m → Bytes (boundOf s M tau n d y m)
 unfolding boundOf
-bytes-bound M tau n d y m p q r =
+bytes-bound s M tau n d y m o p q r =
     let a = bytes-append (leBytes 2 M) (leBytes 2 tau) (leBytes-lt 2 M) (leBytes-lt 2 tau) in
     let b = bytes-append (leBytes 2 M ++ leBytes 2 tau) (leBytes 1 n) a (leBytes-lt 1 n) in
-    let e = bytes-append (leBytes 2 M ++ leBytes 2 tau ++ leBytes 1 n) d b p in
-    let f = bytes-append (leBytes 2 M ++ leBytes 2 tau ++ leBytes 1 n ++ d) y e q in
-    let g = bytes-append (leBytes 2 M ++ leBytes 2 tau ++ leBytes 1 n ++ d ++ y) (leBytes 2 (length m)) f (leBytes-lt 2 (length m)) in
-    bytes-append (leBytes 2 M ++ leBytes 2 tau ++ leBytes 1 n ++ d ++ y ++ leBytes 2 (length m)) m g r
+    let front : List ℕ = s ++ (leBytes 2 M ++ leBytes 2 tau ++ leBytes 1 n) in
+    let e = bytes-append front d (bytes-append s (leBytes 2 M ++ leBytes 2 tau ++ leBytes 1 n) o b) p in
+    let f = bytes-append (front ++ d) y e q in
+    let g = bytes-append (front ++ d ++ y) (leBytes 2 (length m)) f (leBytes-lt 2 (length m)) in
+    bytes-append (front ++ d ++ y ++ leBytes 2 (length m)) m g r
 
 -- the challenge, from the sponge that has taken in its input
 pub challenge-is : (M tau n : ℕ) (h g : List ℕ) (s : Sponge) (o : List ℕ) → Bytes h → Bytes g → s ≡ ready (challengeInput h g)

@@ -18,9 +18,10 @@ use keccak::sponge::Sponge;
 // The limit on the instances of a proof.
 pub const MAX_INSTANCES: usize = 512;
 
-// Takes in what the challenge is bound to: M, τ and n, the digest of the circuit file, y, and the message behind its length.
+// Takes in what the challenge is bound to: the salt, M, τ and n, the digest of the circuit file, y, and the message behind its length.
 fn absorb_bound(
     sponge: Sponge,
+    salt: &[u8],
     m: usize,
     tau: usize,
     n: u8,
@@ -29,7 +30,7 @@ fn absorb_bound(
     message: &[u8],
 ) -> Sponge
     requires { ⌜ sponge .fill < 136 ⌝ }
-    ensures { λ r. ⌜ r ≡ absorbs 136 sponge (boundOf m tau n (now (digest .entry)) (now (y .entry)) (now (message .entry))) ⌝ }
+    ensures { λ r. ⌜ r ≡ absorbs 136 sponge (boundOf (now (salt .entry)) m tau n (now (digest .entry)) (now (y .entry)) (now (message .entry))) ⌝ }
 {
     let counts = [
         (m % 256) as u8,
@@ -41,6 +42,7 @@ fn absorb_bound(
     let k = message.len();
     let size = [(k % 256) as u8, (k / 256 % 256) as u8];
     sponge
+        .absorb(SHAKE256_RATE, salt)
         .absorb(SHAKE256_RATE, &counts)
         .absorb(SHAKE256_RATE, digest)
         .absorb(SHAKE256_RATE, y)
@@ -54,16 +56,17 @@ fn stream(
     tau: usize,
     n: u8,
     hstar: &[u8],
+    salt: &[u8],
     digest: &[u8],
     y: &[u8],
     message: &[u8],
 ) -> Sponge
-    ensures { λ r. ⌜ r ≡ ready (challengeInput (now (hstar .entry)) (boundOf m tau n (now (digest .entry)) (now (y .entry)) (now (message .entry)))) ⌝ }
+    ensures { λ r. ⌜ r ≡ ready (challengeInput (now (hstar .entry)) (boundOf (now (salt .entry)) m tau n (now (digest .entry)) (now (y .entry)) (now (message .entry)))) ⌝ }
 {
     let s = Sponge::new()
         .absorb_byte(SHAKE256_RATE, 6)
         .absorb(SHAKE256_RATE, hstar);
-    absorb_bound(s, m, tau, n, digest, y, message).pad(SHAKE256_RATE, SHAKE_FIRST)
+    absorb_bound(s, salt, m, tau, n, digest, y, message).pad(SHAKE256_RATE, SHAKE_FIRST)
 }
 
 // Chooses the instance at place x among those not yet chosen, ascending.
@@ -140,21 +143,22 @@ fn choose_with(tau: usize, n: u8, sponge: Sponge, flags: &mut [bool], out: &mut 
     write_chosen(flags, n, s, out);
 }
 
-// The challenge of tau among m instances and n parties, bound to the digest of the circuit file, y and the message.
+// The challenge of tau among m instances and n parties, bound to the salt, the digest of the circuit file, y and the message.
 pub fn derive(
     m: usize,
     tau: usize,
     n: u8,
     hstar: &[u8],
+    salt: &[u8],
     digest: &[u8],
     y: &[u8],
     message: &[u8],
     out: &mut [u8],
 )
     requires { ⌜ (m ≤ maxInstances) × ((tau < m) × ((0 < n) × (length (now out) ≡ 3 * tau))) ⌝ }
-    ensures { λ _. ⌜ now (out .exit) ≡ challengeOf m tau n (now (hstar .entry)) (boundOf m tau n (now (digest .entry)) (now (y .entry)) (now (message .entry))) ⌝ }
+    ensures { λ _. ⌜ now (out .exit) ≡ challengeOf m tau n (now (hstar .entry)) (boundOf (now (salt .entry)) m tau n (now (digest .entry)) (now (y .entry)) (now (message .entry))) ⌝ }
 {
-    let s = stream(m, tau, n, hstar, digest, y, message);
+    let s = stream(m, tau, n, hstar, salt, digest, y, message);
     let mut flags = [false; MAX_INSTANCES];
     choose_with(tau, n, s, &mut flags[..m], out);
 }

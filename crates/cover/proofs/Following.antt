@@ -11,6 +11,7 @@ use borrow.Author.Tests.{eq-eqb, ne-eqb, eqb-true}
 use borrow.Rule.Slice.PartMut.{putMid}
 use lib.Dec.{eqb}
 use lib.ListN.{length, getD, drop, replicate, length-replicate, List·getD-eq-default}
+use Rattle.hashing.specs.declared.Context.{Context}
 use Rattle.bits.specs.Bits.{bitVal}
 use Rattle.bits.specs.Bytes.{rowOf}
 use Rattle.bits.proofs.Numbers.{lt-or-le}
@@ -19,7 +20,7 @@ use Rattle.bits.proofs.Tabulate.{getD-tabulate}
 use Rattle.tree.specs.Tree.{children}
 use Rattle.tree.proofs.Nodes.{both-parts}
 use Rattle.cover.specs.Cover.{those, up, hasLeaf, hidden, unhidden, opened, cover}
-use Rattle.cover.specs.Masters.{height, valueOf, childOf, given, fromAbove, leafFrom, coverBytes, masterFrom}
+use Rattle.cover.specs.Masters.{height, valueOf, childOf, mastersContext, given, fromAbove, leafFrom, coverBytes, masterFrom}
 use Rattle.cover.specs.Steps.{markOf, marksOf, openedBy, coverBy, nodesOf, givenBy, followOf}
 use Rattle.cover.proofs.Search.{and-first, clash, not-so, length-those}
 use Rattle.cover.proofs.Levels.{up-zero, up-suc, up-le, levels, has-node, has-up, at-leaf}
@@ -49,7 +50,7 @@ unfolding givenBy
 given-other marks values r x m t e q = rw t (q ∙ ap (λ (k : ℕ). replicate k 0) e)
 
 -- the two nodes below node k
-module _ (j k : ℕ) (marks values value : List ℕ) where
+module _ (j : Context) (k : ℕ) (marks values value : List ℕ) where
   below-even : 2 * k / 2 ≡ k
   below-even = omega arith
 
@@ -106,7 +107,7 @@ module _ (marks values : List ℕ) (l : length values ≡ 16 * length (coverBy m
       go true t = row-length values 16 (length (those x (openedBy marks))) (value-inside marks values x _ refl (opened-inside marks x t) l t)
       go false t = length-replicate {A = ℕ} 16 0
 
-  pub length-follow : (j x : ℕ) (v : List ℕ) → length (followOf j marks values x v) ≡ 16
+  pub length-follow : (j : Context) (x : ℕ) (v : List ℕ) → length (followOf j marks values x v) ≡ 16
   unfolding followOf
   length-follow j x v = go (eqb (getD marks (x / 2) 0) 1)
     where
@@ -114,11 +115,11 @@ module _ (marks values : List ℕ) (l : length values ≡ 16 * length (coverBy m
       go true = length-child j x v
       go false = length-given x
 
-  pub length-regrown : (j h : ℕ) → length (nodesOf (followOf j marks values) (replicate 16 0) h) ≡ 16 * 2 ^ suc h
+  pub length-regrown : (j : Context) (h : ℕ) → length (nodesOf (followOf j marks values) (replicate 16 0) h) ≡ 16 * 2 ^ suc h
   length-regrown j h = length-nodes (followOf j marks values) (replicate 16 0) (length-follow j) (length-replicate {A = ℕ} 16 0) h
 
 -- with the marks of the nodes
-module _ (j h M : ℕ) (hides : ℕ → Bool) (values : List ℕ) (l : length values ≡ 16 * length (cover h M hides)) where
+module _ (j : Context) (h M : ℕ) (hides : ℕ → Bool) (values : List ℕ) (l : length values ≡ 16 * length (cover h M hides)) where
   fits-marks : length values ≡ 16 * length (coverBy (marksOf h M hides))
   fits-marks = l ∙ sym (ap (λ (s : List ℕ). 16 * length s) (cover-marked h M hides))
 
@@ -183,8 +184,8 @@ module _ (j h M : ℕ) (hides : ℕ → Bool) (values : List ℕ) (l : length va
       ∙ follow-value (suc h) (s .0) (2 ^ h + i) u (omega (arith, s .1)) a (ap (opened h M hides) (s .2) ∙ r .1)
 
 -- the masters that follow, each in its row
-pub regrow-master : (M : ℕ) (hides : ℕ → Bool) (values : List ℕ) (p i : ℕ) → length values ≡ coverBytes M hides → p < M → hides p ≡ true → i < M
+pub regrow-master : (M : ℕ) (hides : ℕ → Bool) (salt values : List ℕ) (p i : ℕ) → length values ≡ coverBytes M hides → p < M → hides p ≡ true → i < M
     → hides i ≡ false
-    → rowOf (nodesOf (followOf 65535 (marksOf (height M) M hides) values) (replicate 16 0) (height M)) 16 (2 ^ height M + i) ≡ masterFrom M hides values i
+    → rowOf (nodesOf (followOf (mastersContext salt) (marksOf (height M) M hides) values) (replicate 16 0) (height M)) 16 (2 ^ height M + i) ≡ masterFrom M hides salt values i
 unfolding coverBytes masterFrom
-regrow-master M hides values p i l = regrow-leaf 65535 (height M) M hides values l p i (least-height .fits M)
+regrow-master M hides salt values p i l = regrow-leaf (mastersContext salt) (height M) M hides values l p i (least-height .fits M)

@@ -13,13 +13,14 @@ use lib.Dec.{eqb}
 use lib.ListN.{length, take, drop, replicate, length-append, length-drop, length-replicate, take-append-drop}
 use lib.Pow.{pow-pos, pow-mono}
 use lib.Seq.{take-all, take-at, drop-at, drop-drop, take-append-le, drop-append-le, length-take-le}
+use Rattle.hashing.specs.declared.Context.{Context}
 use Rattle.bits.specs.Bits.{tabulate}
 use Rattle.bits.specs.Bytes.{rowOf}
 use Rattle.bits.proofs.Rows.{row-inside, row-tabulate, length-flatten, flatten-more, rows-turn}
 use Rattle.bits.proofs.Tabulate.{length-tabulate, getD-tabulate, tabulate-cong}
 use Rattle.tree.specs.Tree.{children, leftChild, rightChild}
 use Rattle.cover.specs.Cover.{those, unhidden, opened, cover}
-use Rattle.cover.specs.Masters.{height, valueOf, childOf, opening, masterOf, coverOf}
+use Rattle.cover.specs.Masters.{height, valueOf, childOf, mastersContext, opening, masterOf, coverOf}
 use Rattle.cover.specs.Steps.{marksOf, coverBy, nodeRow, nodesOf, putRow}
 use Rattle.cover.proofs.Levels.{has-node}
 use Rattle.cover.proofs.Covering.{opened-unhidden}
@@ -62,7 +63,7 @@ pub few-leaves : (h : ℕ) → h ≤ 15 → 2 ^ h ≤ 32768
 few-leaves h w = pow-mono {i = h} {j = 15} w
 
 -- nodes 2k and 2k + 1 are the two halves of one hash
-pub children-pair : (j k : ℕ) (v : List ℕ) → children j k v ≡ childOf j (2 * k) v ++ childOf j (2 * k + 1) v
+pub children-pair : (j : Context) (k : ℕ) (v : List ℕ) → children j k v ≡ childOf j (2 * k) v ++ childOf j (2 * k + 1) v
 unfolding childOf leftChild rightChild
 children-pair j k v =
     let a : 2 * k / 2 ≡ k = omega arith in
@@ -215,7 +216,7 @@ map-those p f g (suc n) same =
     last false t = refl
 
 -- the tree of instance j
-module _ (j : ℕ) (root : List ℕ) (l : length root ≡ 16) where
+module _ (j : Context) (root : List ℕ) (l : length root ≡ 16) where
   -- row k of the grown nodes is node k
   pub grow-row : (h k : ℕ) → 1 ≤ k → k < 2 ^ suc h → rowOf (nodesOf (childOf j) root h) 16 k ≡ valueOf (childOf j) root h k
   grow-row h = node-row (childOf j) root (length-child j) l h
@@ -233,25 +234,25 @@ module _ (j : ℕ) (root : List ℕ) (l : length root ≡ 16) where
       (λ x w o. grow-row h x (has-node h (unhidden M hides) x (opened-unhidden h M hides x o)) w))
 
 -- the bytes of the cover, gathered from the nodes of the masters' tree
-pub gather-cover : (M : ℕ) (hides : ℕ → Bool) (root : List ℕ) → length root ≡ 16
-    → flatten (map (rowOf (nodesOf (childOf 65535) root (height M)) 16) (coverBy (marksOf (height M) M hides))) ≡ coverOf M hides root
+pub gather-cover : (M : ℕ) (hides : ℕ → Bool) (salt root : List ℕ) → length root ≡ 16
+    → flatten (map (rowOf (nodesOf (childOf (mastersContext salt)) root (height M)) 16) (coverBy (marksOf (height M) M hides))) ≡ coverOf M hides salt root
 unfolding coverOf
-gather-cover M hides root l = gather-opening 65535 root l (height M) M hides
+gather-cover M hides salt root l = gather-opening (mastersContext salt) root l (height M) M hides
 
 -- the masters among them
-pub grow-master : (M : ℕ) (root : List ℕ) (i : ℕ) → length root ≡ 16 → i < M
-    → rowOf (nodesOf (childOf 65535) root (height M)) 16 (2 ^ height M + i) ≡ masterOf M root i
+pub grow-master : (M : ℕ) (salt root : List ℕ) (i : ℕ) → length root ≡ 16 → i < M
+    → rowOf (nodesOf (childOf (mastersContext salt)) root (height M)) 16 (2 ^ height M + i) ≡ masterOf M salt root i
 unfolding masterOf
-grow-master M root i l w =
-    grow-row 65535 root l (height M) (2 ^ height M + i) (omega (arith, pow-pos (height M))) (omega (arith, pow-succ' 2 (height M), least-height .fits M))
+grow-master M salt root i l w =
+    grow-row (mastersContext salt) root l (height M) (2 ^ height M + i) (omega (arith, pow-pos (height M))) (omega (arith, pow-succ' 2 (height M), least-height .fits M))
 
 -- all of them, one after the other
-pub masters-part : (M : ℕ) (root : List ℕ) → length root ≡ 16
-    → take (M * 16) (drop (2 ^ height M * 16) (nodesOf (childOf 65535) root (height M))) ≡ flatten (tabulate M (masterOf M root))
+pub masters-part : (M : ℕ) (salt root : List ℕ) → length root ≡ 16
+    → take (M * 16) (drop (2 ^ height M * 16) (nodesOf (childOf (mastersContext salt)) root (height M))) ≡ flatten (tabulate M (masterOf M salt root))
 unfolding masterOf nodesOf
-masters-part M root l =
+masters-part M salt root l =
     let h : ℕ = height M in
-    let f : ℕ → List ℕ = nodeRow (childOf 65535) root h in
-    rows-part 16 f (length-row (childOf 65535) root (length-child 65535) l h) (2 ^ suc h) (2 ^ h) M (omega (arith, pow-succ' 2 h, least-height .fits M))
-    ∙ ap flatten (tabulate-cong M (λ i. f (2 ^ h + i)) (λ i. valueOf (childOf 65535) root h (2 ^ h + i))
-    (λ i w. row-node (childOf 65535) root (length-child 65535) l h (2 ^ h + i) (omega (arith, pow-pos h))))
+    let f : ℕ → List ℕ = nodeRow (childOf (mastersContext salt)) root h in
+    rows-part 16 f (length-row (childOf (mastersContext salt)) root (length-child (mastersContext salt)) l h) (2 ^ suc h) (2 ^ h) M (omega (arith, pow-succ' 2 h, least-height .fits M))
+    ∙ ap flatten (tabulate-cong M (λ i. f (2 ^ h + i)) (λ i. valueOf (childOf (mastersContext salt)) root h (2 ^ h + i))
+    (λ i w. row-node (childOf (mastersContext salt)) root (length-child (mastersContext salt)) l h (2 ^ h + i) (omega (arith, pow-pos h))))

@@ -11,6 +11,7 @@ use borrow.Author.Tests.{lt-ltb, le-ltb}
 use lib.Dec.{eqb, ltb}
 use lib.ListN.{length, getD, length-map, List·getD-append}
 use lib.Seq.{getD-append-seam}
+use Rattle.hashing.specs.declared.Context.{Context}
 use Rattle.bits.specs.Bits.{bitVal}
 use Rattle.bits.specs.Bytes.{rowOf}
 use Rattle.bits.proofs.Numbers.{lt-or-le}
@@ -19,7 +20,7 @@ use Rattle.tree.specs.Tree.{leftChild, rightChild, nodeValue, leavesBelow}
 use Rattle.tree.proofs.Lengths.{length-left, length-right}
 use Rattle.tree.proofs.Numbering.{leaf-node}
 use Rattle.cover.specs.Cover.{those, up, unhidden, opened, cover}
-use Rattle.cover.specs.Masters.{height, valueOf, childOf, opening, given, fromAbove, leafFrom, masterOf, coverOf, masterFrom, MastersFollow, MastersAreLeaves}
+use Rattle.cover.specs.Masters.{height, valueOf, childOf, mastersContext, opening, given, fromAbove, leafFrom, masterOf, coverOf, masterFrom, MastersFollow, MastersAreLeaves}
 use Rattle.cover.proofs.Search.{length-those}
 use Rattle.cover.proofs.Levels.{up-zero, up-suc, up-le, levels, has-node}
 use Rattle.cover.proofs.Covering.{opened-unhidden, opened-node, one-opened}
@@ -125,7 +126,7 @@ module _ (rule : ℕ → List ℕ → List ℕ) (root : List ℕ) (sized : (x : 
         below-opened (suc h) (s .0) (2 ^ h + i) (omega (arith, pow-succ' 2 h)) (omega (arith, s .1)) (ap (opened h M hides) (s .2) ∙ r .1)
 
 -- the tree of instance j
-pub length-child : (j x : ℕ) (v : List ℕ) → length (childOf j x v) ≡ 16
+pub length-child : (j : Context) (x : ℕ) (v : List ℕ) → length (childOf j x v) ≡ 16
 unfolding childOf
 length-child j x v = go (eqb (x % 2) 0)
   where
@@ -133,7 +134,7 @@ length-child j x v = go (eqb (x % 2) 0)
     go true = length-left j (x / 2) v
     go false = length-right j (x / 2) v
 
-node-value : (j : ℕ) (root : List ℕ) (h d x : ℕ) → d ≤ h → 2 ^ d ≤ x → x < 2 ^ suc d → valueOf (childOf j) root h x ≡ nodeValue j root d x
+node-value : (j : Context) (root : List ℕ) (h d x : ℕ) → d ≤ h → 2 ^ d ≤ x → x < 2 ^ suc d → valueOf (childOf j) root h x ≡ nodeValue j root d x
 unfolding valueOf nodeValue childOf
 node-value j root zero zero x w a b = refl
 node-value j root (suc h) zero x w a b = rw (lt-ltb x 2 (omega arith))
@@ -143,15 +144,15 @@ node-value j root (suc h) (suc d) x w a b =
     (ap (childOf j x) (node-value j root h d (x / 2) (omega arith) (omega (arith, pow-succ' 2 d)) (omega (arith, pow-succ' 2 (suc d)))))
 
 -- its leaves, by the rule from parent to child, are those of document 01
-leaf-value : (j h i : ℕ) (root : List ℕ) → length root ≡ 16 → i < 2 ^ h → valueOf (childOf j) root h (2 ^ h + i) ≡ rowOf (leavesBelow j h 1 root) 16 i
+leaf-value : (j : Context) (h i : ℕ) (root : List ℕ) → length root ≡ 16 → i < 2 ^ h → valueOf (childOf j) root h (2 ^ h + i) ≡ rowOf (leavesBelow j h 1 root) 16 i
 leaf-value j h i root l w =
     node-value j root h h (2 ^ h + i) (omega arith) (omega arith) (omega (arith, pow-succ' 2 h)) ∙ sym (leaf-node j h i root l w)
 
 pub masters-follow : MastersFollow
 unfolding masterFrom coverOf masterOf
-masters-follow M hides root p i l lp tp li ti =
-    leaf-follows (childOf 65535) root (length-child 65535) l (height M) M hides (least-height .fits M) p i lp tp li ti
+masters-follow M hides salt root p i l lp tp li ti =
+    leaf-follows (childOf (mastersContext salt)) root (length-child (mastersContext salt)) l (height M) M hides (least-height .fits M) p i lp tp li ti
 
 pub masters-are-leaves : MastersAreLeaves
 unfolding masterOf
-masters-are-leaves M root i l w = leaf-value 65535 (height M) i root l (omega (arith, least-height .fits M))
+masters-are-leaves M salt root i l w = leaf-value (mastersContext salt) (height M) i root l (omega (arith, least-height .fits M))

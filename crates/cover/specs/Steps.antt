@@ -8,6 +8,7 @@ use lib.Bits.{bitOr}
 use lib.Dec.{eqb, leb, ltb}
 use lib.ListN.{length, getD, take, drop, replicate}
 use Rattle.bits.specs.Bits.{bitVal, tabulate}
+use Rattle.hashing.specs.declared.Context.{Context}
 use Rattle.cover.specs.Cover.{those, hasLeaf, hidden, unhidden}
 use Rattle.cover.specs.Masters.{valueOf, childOf, given}
 
@@ -57,5 +58,5 @@ unfoldable pub givenBy : List ℕ → List ℕ → ℕ → List ℕ
 givenBy marks values x = cond (openedBy marks x) (given (openedBy marks) values x) (replicate 16 0)
 
 -- node x from its parent's value, where the parent has unhidden leaves alone; else from the values of the opened nodes
-unfoldable pub followOf : ℕ → List ℕ → List ℕ → ℕ → List ℕ → List ℕ
+unfoldable pub followOf : Context → List ℕ → List ℕ → ℕ → List ℕ → List ℕ
 followOf j marks values x value = cond (eqb (getD marks (x / 2) 0) 1) (childOf j x value) (givenBy marks values x)

@@ -6,15 +6,26 @@ ghost use lib.ListN.{length, replicate};
 ghost use Rattle.bits.specs.Bytes.{rowOf};
 ghost use Rattle.tree.specs.Tree.{children as «children-of»};
 ghost use Rattle.cover.specs.Cover.{those};
-ghost use Rattle.cover.specs.Masters.{height as «height-of», childOf};
+ghost use Rattle.cover.specs.Masters.{height as «height-of», childOf, mastersContext};
 ghost use Rattle.cover.specs.Steps.{hiddenBy, marksOf, leafMark, nodeMark, openedBy, coverBy, nodesOf, putRow, givenBy, followOf};
 use bits::clear;
 use bits::copy;
 use bits::row;
+use hashing::Context;
 use tree::children;
 
 // What stands for an instance in the node rule of the tree over the masters.
-pub const MASTERS: u32 = 65535;
+const MASTERS: u32 = 65535;
+
+// The tree over the masters, as its hashes name it.
+pub fn masters_tree(salt: [u8; 32]) -> Context
+    ensures { λ r. ⌜ r ≡ mastersContext salt ⌝ }
+{
+    Context {
+        salt,
+        number: MASTERS,
+    }
+}
 
 // The height of the tree over m masters.
 pub fn height(m: u32) -> u32
@@ -110,7 +121,7 @@ fn put_root(root: &[u8], nodes: &mut [u8])
 }
 
 // The two nodes below node k, in their rows.
-fn spread(j: u32, k: usize, nodes: &mut [u8])
+fn spread(j: Context, k: usize, nodes: &mut [u8])
     requires { ⌜ (1 ≤ k) × ((k < 32768) × (k * 32 + 32 ≤ length (now nodes))) ⌝ }
     ensures { λ _. ⌜ now (nodes .exit) ≡ putRow 32 (now (nodes .entry)) k («children-of» j k (rowOf (now (nodes .entry)) 16 k)) ⌝ }
 {
@@ -122,7 +133,7 @@ fn spread(j: u32, k: usize, nodes: &mut [u8])
 }
 
 // The nodes of a tree of height h, each in its row.
-pub fn grow(j: u32, h: u32, root: &[u8], nodes: &mut [u8])
+pub fn grow(j: Context, h: u32, root: &[u8], nodes: &mut [u8])
     requires { ⌜ (h ≤ 15) × ((length (now root) ≡ 16) × (length (now nodes) ≡ 16 * 2 ^ suc h)) ⌝ }
     ensures { λ _. ⌜ now (nodes .exit) ≡ nodesOf (childOf j) (now (root .entry)) h ⌝ }
 {
@@ -170,7 +181,7 @@ fn take_value(marks: &[u8], x: usize, values: &[u8], n: usize, out: &mut [u8]) -
 // The two nodes below node k: by the node rule where it has unhidden leaves alone, else from the values of the opened nodes, of which n
 // came before. The number of the next value.
 fn follow_pair(
-    j: u32,
+    j: Context,
     k: usize,
     marks: &[u8],
     value: &[u8],
@@ -190,7 +201,7 @@ fn follow_pair(
 }
 
 // The two nodes below node k, in their rows. The number of the next value.
-fn follow(j: u32, k: usize, marks: &[u8], values: &[u8], n: usize, nodes: &mut [u8]) -> usize
+fn follow(j: Context, k: usize, marks: &[u8], values: &[u8], n: usize, nodes: &mut [u8]) -> usize
     requires { ⌜ ((1 ≤ k) × ((k < 32768) × (2 * k + 1 < length (now marks)))) × ((length (now values) ≡ 16 * length (coverBy (now marks))) × ((n ≡ length (those (2 * k) (openedBy (now marks)))) × (k * 32 + 32 ≤ length (now nodes)))) ⌝ }
     ensures { λ r. ⌜ (r ≡ length (those (2 * k + 2) (openedBy (now (marks .entry))))) × (now (nodes .exit) ≡ putRow 32 (now (nodes .entry)) k (followOf j (now (marks .entry)) (now (values .entry)) (2 * k) (rowOf (now (nodes .entry)) 16 k) ++ followOf j (now (marks .entry)) (now (values .entry)) (2 * k + 1) (rowOf (now (nodes .entry)) 16 k))) ⌝ }
 {
@@ -202,7 +213,7 @@ fn follow(j: u32, k: usize, marks: &[u8], values: &[u8], n: usize, nodes: &mut [
 }
 
 // The nodes that follow from the values of the opened nodes, each in its row, with zeros in the others.
-pub fn regrow(j: u32, h: u32, marks: &[u8], values: &[u8], nodes: &mut [u8])
+pub fn regrow(j: Context, h: u32, marks: &[u8], values: &[u8], nodes: &mut [u8])
     requires { ⌜ ((h ≤ 15) × (length (now marks) ≡ 2 ^ suc h)) × ((length (now values) ≡ 16 * length (coverBy (now marks))) × (length (now nodes) ≡ 16 * 2 ^ suc h)) ⌝ }
     ensures { λ _. ⌜ now (nodes .exit) ≡ nodesOf (followOf j (now (marks .entry)) (now (values .entry))) (replicate 16 0) h ⌝ }
 {

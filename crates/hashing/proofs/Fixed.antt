@@ -11,7 +11,7 @@ use Rattle.hashing.specs.Inputs.{boundOf, challengeInput}
 use Rattle.hashing.specs.Statement.{Statement, inputOf, Fits, Same, StatementFixed}
 
 -- equal strings whose first parts are equally long have equal parts
-parts : (a a′ b b′ : List ℕ) → length a ≡ length a′ → a ++ b ≡ a′ ++ b′ → (a ≡ a′) × (b ≡ b′)
+pub parts : (a a′ b b′ : List ℕ) → length a ≡ length a′ → a ++ b ≡ a′ ++ b′ → (a ≡ a′) × (b ≡ b′)
 parts a a′ b b′ l e = (
   sym (take-at a b (length a) refl) ∙ ap (take (length a)) e ∙ take-at a′ b′ (length a) (sym l),
   sym (drop-at a b (length a) refl) ∙ ap (drop (length a)) e ∙ drop-at a′ b′ (length a) (sym l),
@@ -38,30 +38,36 @@ counts-fixed M M′ tau tau′ n n′ a a′ b b′ c c′ e =
     let last : n % 256 ≡ n′ % 256 = at 4 in
     (two-bytes M M′ a a′ (at 0) (at 1), (two-bytes tau tau′ b b′ (at 2) (at 3), omega arith))
 
--- the bound: counts and digest, then y, then the message behind its length
-bound-parts : (M tau n : ℕ) (digest y message : List ℕ)
-    → boundOf M tau n digest y message ≡ (counts M tau n ++ digest) ++ (y ++ (leBytes 2 (length message) ++ message))
+-- the bound: the salt, then counts and digest, then y, then the message behind its length
+bound-parts : (salt : List ℕ) (M tau n : ℕ) (digest y message : List ℕ)
+    → boundOf salt M tau n digest y message ≡ salt ++ ((counts M tau n ++ digest) ++ (y ++ (leBytes 2 (length message) ++ message)))
 unfolding boundOf counts
-bound-parts M tau n digest y message =
+bound-parts salt M tau n digest y message =
     let front : List ℕ = counts M tau n ++ digest in
-    append-assoc (front ++ y) (leBytes 2 (length message)) message ∙ append-assoc front y (leBytes 2 (length message) ++ message)
+    let size : List ℕ = leBytes 2 (length message) in
+    append-assoc ((salt ++ counts M tau n ++ digest) ++ y) size message
+    ∙ append-assoc (salt ++ counts M tau n ++ digest) y (size ++ message)
+    ∙ ap (λ (t : List ℕ). t ++ (y ++ (size ++ message))) (append-assoc salt (counts M tau n) digest)
+    ∙ append-assoc salt front (y ++ (size ++ message))
 
 pub statement-fixed : StatementFixed
 unfolding challengeInput
 statement-fixed a b f g e =
     let head = parts (a .hstar) (b .hstar) _ _ (f .hstar ∙ sym (g .hstar)) (ap (drop 1) e) in
-    let bound = sym (bound-parts (a .M) (a .tau) (a .n) (a .digest) (a .y) (a .message)) ∙ head .1
-    ∙ bound-parts (b .M) (b .tau) (b .n) (b .digest) (b .y) (b .message) in
+    let bound = sym (bound-parts (a .salt) (a .M) (a .tau) (a .n) (a .digest) (a .y) (a .message)) ∙ head .1
+    ∙ bound-parts (b .salt) (b .M) (b .tau) (b .n) (b .digest) (b .y) (b .message) in
+    let salts = parts (a .salt) (b .salt) _ _ (f .salt ∙ sym (g .salt)) bound in
     let la : length (counts (a .M) (a .tau) (a .n)) ≡ 5 = length-counts (a .M) (a .tau) (a .n) in
     let lb : length (counts (b .M) (b .tau) (b .n)) ≡ 5 = length-counts (b .M) (b .tau) (b .n) in
     let fronts = parts (counts (a .M) (a .tau) (a .n) ++ a .digest) (counts (b .M) (b .tau) (b .n) ++ b .digest) _ _
     (length-append (counts (a .M) (a .tau) (a .n)) (a .digest)
-    ∙ omega (arith, la, lb, f .digest, g .digest, length-append (counts (b .M) (b .tau) (b .n)) (b .digest))) bound in
+    ∙ omega (arith, la, lb, f .digest, g .digest, length-append (counts (b .M) (b .tau) (b .n)) (b .digest))) (salts .1) in
     let front = parts (counts (a .M) (a .tau) (a .n)) (counts (b .M) (b .tau) (b .n)) (a .digest) (b .digest) (la ∙ sym lb) (fronts .0) in
     let numbers = counts-fixed (a .M) (b .M) (a .tau) (b .tau) (a .n) (b .n) (f .M) (g .M) (f .tau) (g .tau) (f .n) (g .n) (front .0) in
     let rest = parts (a .y) (b .y) (leBytes 2 (length (a .message)) ++ a .message) (leBytes 2 (length (b .message)) ++ b .message) in
     record {
       hstar = head .0;
+      salt = salts .0;
       M = numbers .0;
       tau = numbers .1 .0;
       n = numbers .1 .1;

@@ -1,3 +1,4 @@
 pub mod Hashes
 pub mod Digests
 pub mod Fixed
+pub mod Apart

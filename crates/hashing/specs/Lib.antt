@@ -1,4 +1,5 @@
 pub mod Inputs
 pub mod Digest
 pub mod Statement
+pub mod Salts
 pub mod Steps

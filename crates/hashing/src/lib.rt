@@ -1,29 +1,61 @@
-// The hashes of document 01: SHAKE128 of a tagged input, and the digests of a transcript. Every input's tag is taken in as one byte.
+// The hashes of document 01: SHAKE128 of a tagged and salted input, and the digests of a transcript. Every input's tag is taken in as one
+// byte.
 // A caller starts a digest, lends its parts to `absorb` at the rate of SHA3-256, and finishes it.
 ghost use mathlib.Core.Path.{_≡_};
 ghost use mathlib.Core.List.{[], _∷_, _++_};
 ghost use Prim.Native.Nat.{_<_};
 ghost use lib.ListN.{length};
-ghost use Rattle.keccak.specs.Sponge.{shake128 as «shake128-of»};
+ghost use Rattle.keccak.specs.Sponge.{shake128 as «shake128-of», sha3-256 as «sha3-of»};
 ghost use Rattle.hashing.specs.Inputs.{commitmentsInput, onlineInput, allCommitmentsInput, allOnlineInput};
 ghost use Rattle.hashing.specs.Digest.{transcriptOf};
 ghost use Rattle.hashing.specs.Steps.{taken, given};
+use bits::copy;
 use keccak::SHA3_256_RATE;
 use keccak::SHA3_FIRST;
 use keccak::SHAKE_FIRST;
 use keccak::SHAKE128_RATE;
 use keccak::sponge::Sponge;
 
-// SHAKE128 of the tag, the head and the body, as long as the lent output.
-pub fn shake128(tag: u8, head: &[u8], body: &[u8], out: &mut [u8])
-    ensures { λ _. ⌜ now (out .exit) ≡ «shake128-of» (tag ∷ (now (head .entry) ++ now (body .entry))) (length (now (out .entry))) ⌝ }
+// An instance of a proof, as its hashes name it: the salt of the proof, and the instance's number j.
+pub struct Context {
+    pub salt: [u8; 32],
+    pub number: u32,
+}
+
+// A lent salt as a value.
+pub fn salt_in(bytes: &[u8]) -> [u8; 32]
+    requires { ⌜ length (now bytes) ≡ 32 ⌝ }
+    ensures { λ r. ⌜ r ≡ now (bytes .entry) ⌝ }
+{
+    let mut salt = [0u8; 32];
+    copy(bytes, &mut salt);
+    salt
+}
+
+// SHAKE128 of the tag, the salt, the head and the body, as long as the lent output.
+pub fn shake128(tag: u8, salt: &[u8], head: &[u8], body: &[u8], out: &mut [u8])
+    ensures { λ _. ⌜ now (out .exit) ≡ «shake128-of» (tag ∷ (now (salt .entry) ++ now (head .entry) ++ now (body .entry))) (length (now (out .entry))) ⌝ }
 {
     let s = Sponge::new()
         .absorb_byte(SHAKE128_RATE, tag)
+        .absorb(SHAKE128_RATE, salt)
         .absorb(SHAKE128_RATE, head)
         .absorb(SHAKE128_RATE, body);
     let _ = s.pad(SHAKE128_RATE, SHAKE_FIRST)
         .squeeze(SHAKE128_RATE, out);
+}
+
+// SHA3-256 of the tag 1, the salt and four parts: a commitment.
+pub fn commit(salt: &[u8], head: &[u8], seed: &[u8], corrections: &[u8], r: &[u8]) -> [u8; 32]
+    ensures { λ out. ⌜ out ≡ «sha3-of» (1 ∷ (now (salt .entry) ++ now (head .entry) ++ now (seed .entry) ++ now (corrections .entry) ++ now (r .entry))) ⌝ }
+{
+    let s = Sponge::new()
+        .absorb_byte(SHA3_256_RATE, 1)
+        .absorb(SHA3_256_RATE, salt)
+        .absorb(SHA3_256_RATE, head)
+        .absorb(SHA3_256_RATE, seed)
+        .absorb(SHA3_256_RATE, corrections);
+    finish(s.absorb(SHA3_256_RATE, r))
 }
 
 // Starts h_j, which takes in all commitments of instance j.

@@ -25,6 +25,7 @@ unfoldable drawnFrom : List ℕ → List ℕ → List ℕ → List ℕ → State
 drawnFrom s y message proof =
     record {
       hstar = decodeHeader proof .hstar;
+      salt = decodeHeader proof .salt;
       M = decodeHeader proof .M;
       tau = decodeHeader proof .tau;
       n = decodeHeader proof .n;
@@ -41,6 +42,15 @@ hstar-size proof g =
     let b = length-drop 2 (drop 2 proof) in
     length-take-le 32 (drop 2 (drop 2 (drop 2 proof))) (omega (arith, a, b, length-drop 2 (drop 2 (drop 2 proof)), g .size))
 
+-- and so has the salt
+salt-size : (proof : List ℕ) → GoodHeader proof (decodeHeader proof) → length (decodeHeader proof .salt) ≡ 32
+unfolding decodeHeader
+salt-size proof g =
+    let a = length-drop 2 proof in
+    let b = length-drop 2 (drop 2 proof) in
+    let d = length-drop 2 (drop 2 (drop 2 proof)) in
+    length-take-le 32 (drop 32 (drop 2 (drop 2 (drop 2 proof)))) (omega (arith, a, b, d, length-drop 32 (drop 2 (drop 2 (drop 2 proof))), g .size))
+
 -- with a good header it fits
 drawn-fits : (s y message proof : List ℕ) → GoodHeader proof (decodeHeader proof) → Fits (drawnFrom s y message proof)
 unfolding drawnFrom
@@ -48,6 +58,7 @@ drawn-fits s y message proof g =
     let z : Sizes (decodeHeader proof .n) = sizes (decodeHeader proof .n) (has-height (decodeHeader proof .n) (g .parties)) in
     record {
       hstar = hstar-size proof g;
+      salt = salt-size proof g;
       M = omega (arith, g .M-most);
       tau = omega (arith, g .M-most, g .tau-most);
       n = omega (arith, z .few);
@@ -70,6 +81,7 @@ statement-covered s y message proof work s′ y′ message′ proof′ work′ c
     = λ o. y-size s y message proof c r a ∙ o ∙ sym (y-size s′ y′ message′ proof′ c′ r′ a′) in
     record {
       hstar = k .hstar;
+      salt = k .salt;
       M = k .M;
       tau = k .tau;
       n = k .n;

@@ -15,7 +15,7 @@ use Rattle.circuit.specs.Circuit.{Circuit}
 use Rattle.plain.specs.Tapes.{andsOf}
 use Rattle.instance.specs.Instance.{Asked, opened, hiding}
 use Rattle.instance.specs.Stretch.{correctionBytes, stretchBytes, siblingsPart, correctionsPart, commitmentPart, maskedPart, rowPart}
-use Rattle.proof.specs.File.{headerBytes, headerM, headerTau, headerN, headerHstar, stretchStart, stretchAt}
+use Rattle.proof.specs.File.{headerBytes, headerM, headerTau, headerN, headerHstar, headerSalt, stretchStart, stretchAt}
 use Rattle.honest.specs.Response.{Sent, unchosen, chosen, decodeHeader, auxBytes, decodeSent, bytesFrom, nodesBytes, sentBytes, allBytes}
 
 -- what is dropped of the first n + m is dropped of all
@@ -55,14 +55,16 @@ module _ (a b d e : ℕ) (s : List ℕ) where
 
 -- the header is the one that check reads
 pub header-is : (proof : List ℕ)
-    → decodeHeader proof ≡ record { M = headerM proof; tau = headerTau proof; n = headerN proof; hstar = headerHstar proof }
+    → decodeHeader proof ≡ record { M = headerM proof; tau = headerTau proof; n = headerN proof; hstar = headerHstar proof; salt = headerSalt proof }
 unfolding decodeHeader
 header-is proof =
     let t : leAt 2 (drop 2 proof) 0 ≡ headerTau proof = leAt-cong 2 (drop 2 proof) proof 0 2 (λ i l. getD-drop 2 proof (0 + i) 0 ∙ ap (λ (z : ℕ). getD proof (2 + z) 0) (zero-add i)) in
     let n : getD (drop 2 (drop 2 proof)) 0 0 ≡ headerN proof = getD-drop 2 (drop 2 proof) 0 0 ∙ getD-drop 2 proof 2 0 in
     let h : take 32 (drop 2 (drop 2 (drop 2 proof))) ≡ headerHstar proof =
     ap (take 32) (drop-drop 2 2 (drop 2 proof) ∙ drop-drop 4 2 proof) in
-    λ k. record { M = headerM proof; tau = t k; n = n k; hstar = h k }
+    let z : take 32 (drop 32 (drop 2 (drop 2 (drop 2 proof)))) ≡ headerSalt proof =
+    ap (λ (r : List ℕ). take 32 (drop 32 r)) (drop-drop 2 2 (drop 2 proof) ∙ drop-drop 4 2 proof) ∙ ap (take 32) (drop-drop 32 6 proof) in
+    λ k. record { M = headerM proof; tau = t k; n = n k; hstar = h k; salt = z k }
 
 -- an instance of n parties
 module _ (c : Circuit) (n : ℕ) where

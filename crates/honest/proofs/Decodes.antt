@@ -20,7 +20,7 @@ use Rattle.proof.specs.File.{headerBytes, headerOf, stretchStart, stretchAt}
 use Rattle.honest.specs.Response.{Sent, unchosen, chosen, Response, answered, Header, HeaderFits, encodeHeader, encodeSent, encode, decodeHeader, auxBytes, decodeSent, bytesFrom, nodesBytes, decode, Lengths}
 use Rattle.honest.specs.Theorems.{EncodingDecodes}
 use Rattle.proof.proofs.Places.{middle, part-at}
-use Rattle.proof.proofs.Header.{length-header, header-M, header-tau, header-n, header-hstar}
+use Rattle.proof.proofs.Header.{length-header, header-M, header-tau, header-n, header-hstar, header-salt}
 use Rattle.proof.proofs.Parts.{length-five, first-back, second-back, third-back, fourth-back, last-back}
 use Rattle.honest.proofs.Decoded.{header-is, partsOf, decoded-parts}
 
@@ -58,16 +58,17 @@ header-back h r fits =
     let rest : List ℕ = r .nodes ++ flatten (tabulate (h .M) (λ j. encodeSent (r .sent j))) in
     ap decodeHeader (in-order h r) ∙ header-is (encodeHeader h ++ rest)
     ∙ (λ k. record {
-      M = header-M (h .M) (h .tau) (h .n) (h .hstar) rest (fits .2) (fits .0) k;
-      tau = header-tau (h .M) (h .tau) (h .n) (h .hstar) rest (fits .2) (fits .1) k;
-      n = header-n (h .M) (h .tau) (h .n) (h .hstar) rest (fits .2) k;
-      hstar = header-hstar (h .M) (h .tau) (h .n) (h .hstar) rest (fits .2) k;
+      M = header-M (h .M) (h .tau) (h .n) (h .hstar) (h .salt) rest (fits .2) (fits .3) (fits .0) k;
+      tau = header-tau (h .M) (h .tau) (h .n) (h .hstar) (h .salt) rest (fits .2) (fits .3) (fits .1) k;
+      n = header-n (h .M) (h .tau) (h .n) (h .hstar) (h .salt) rest (fits .2) (fits .3) k;
+      hstar = header-hstar (h .M) (h .tau) (h .n) (h .hstar) (h .salt) rest (fits .2) (fits .3) k;
+      salt = header-salt (h .M) (h .tau) (h .n) (h .hstar) (h .salt) rest (fits .2) (fits .3) k;
     })
 
--- it has 38 bytes
+-- it has 70 bytes
 header-size : (h : Header) → HeaderFits h → length (encodeHeader h) ≡ headerBytes
 unfolding encodeHeader headerOf
-header-size h fits = length-header (h .M) (h .tau) (h .n) (h .hstar) (h .hstar) (fits .2)
+header-size h fits = length-header (h .M) (h .tau) (h .n) (h .hstar) (h .salt) (h .hstar) (fits .2) (fits .3)
 
 -- what the challenge of a header asks of each instance
 abbrev asks : List ℕ → Header → ℕ → Asked

@@ -11,6 +11,7 @@ use borrow.Author.Tests.{ne-eqb}
 use lib.Dec.{eqb}
 use lib.ListN.{length, replicate, length-replicate}
 use lib.Pow.{pow-pos, pow-mono}
+use Rattle.hashing.specs.declared.Context.{Context}
 use Rattle.bits.specs.Bits.{tabulate}
 use Rattle.bits.specs.Bytes.{rowOf}
 use Rattle.bits.proofs.Rows.{row-tabulate}
@@ -43,34 +44,34 @@ clear-bytes k (x ∷ s) zero =
 clear-bytes k (x ∷ s) (suc m) = clear-bytes (k - 8) s m
 
 -- a tape is bytes
-tape-bytes : (j i : ℕ) (seed : List ℕ) (k len : ℕ) → Bytes (derive.tapeRow j i seed k len)
+tape-bytes : (j : Context) (i : ℕ) (seed : List ℕ) (k len : ℕ) → Bytes (derive.tapeRow j i seed k len)
 unfolding derive.tapeRow
 tape-bytes j i seed k len = clear-bytes k _
 
 -- a row of seeds has 32 bytes
-length-seeds : (j i : ℕ) (leaf : List ℕ) → length (seedRow j i leaf) ≡ 32
+length-seeds : (j : Context) (i : ℕ) (leaf : List ℕ) → length (seedRow j i leaf) ≡ 32
 unfolding seedRow
 length-seeds j i leaf = length-shake128 _ 32
 
 -- and so has a zero row in its place
-length-but : (b : Bool) (j i : ℕ) (leaf : List ℕ) → length (cond b (replicate 32 0) (seedRow j i leaf)) ≡ 32
+length-but : (b : Bool) (j : Context) (i : ℕ) (leaf : List ℕ) → length (cond b (replicate 32 0) (seedRow j i leaf)) ≡ 32
 length-but true j i leaf = length-replicate {A = ℕ} 32 0
 length-but false j i leaf = length-seeds j i leaf
 
 -- party i's row of seeds follows from its leaf
-pub seeds-row : (n j : ℕ) (leaves : List ℕ) (i : ℕ) → i < n → rowOf (seedsOf n j leaves) 32 i ≡ seedRow j i (rowOf leaves 16 i)
+pub seeds-row : (n : ℕ) (j : Context) (leaves : List ℕ) (i : ℕ) → i < n → rowOf (seedsOf n j leaves) 32 i ≡ seedRow j i (rowOf leaves 16 i)
 unfolding seedsOf
 seeds-row n j leaves i h = row-tabulate 32 n (λ k. seedRow j k (rowOf leaves 16 k)) (λ k l. length-seeds j k _) i h
 
 -- also where that of another party p is zero
-pub but-row : (n p j : ℕ) (leaves : List ℕ) (i : ℕ) → i < n → i ≢ p → rowOf (seedsBut n p j leaves) 32 i ≡ seedRow j i (rowOf leaves 16 i)
+pub but-row : (n p : ℕ) (j : Context) (leaves : List ℕ) (i : ℕ) → i < n → i ≢ p → rowOf (seedsBut n p j leaves) 32 i ≡ seedRow j i (rowOf leaves 16 i)
 unfolding seedsBut
 but-row n p j leaves i h m =
     row-tabulate 32 n (λ k. cond (eqb k p) (replicate 32 0) (seedRow j k (rowOf leaves 16 k))) (λ k l. length-but (eqb k p) j k _) i h
     ∙ rw (ne-eqb i p m) refl
 
 -- the tapes that follow from rows of seeds
-module _ (c : Circuit) (n j : ℕ) (seeds : List ℕ) where
+module _ (c : Circuit) (n : ℕ) (j : Context) (seeds : List ℕ) where
   -- party i's tape
   abbrev made : ℕ → List ℕ
   made i = derive.tapeRow j i (seedOf seeds i) (usedBits c n i) (rowBytes c)

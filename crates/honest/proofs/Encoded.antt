@@ -30,15 +30,17 @@ two-bytes [] h e = absurd (omega arith)
 two-bytes (x ∷ []) h e = absurd (omega arith)
 two-bytes (x ∷ y ∷ s) h e = ap (λ (z : ℕ). x ∷ z ∷ []) (sym e)
 
--- the header of a file of bytes is its first 38 bytes
-header-encoded : (file : List ℕ) → AllBytes file → 38 ≤ length file → getD file 5 0 ≡ 0 → encodeHeader (decodeHeader file) ≡ take 38 file
+-- the header of a file of bytes is its first 70 bytes
+header-encoded : (file : List ℕ) → AllBytes file → 70 ≤ length file → getD file 5 0 ≡ 0 → encodeHeader (decodeHeader file) ≡ take 70 file
 unfolding encodeHeader decodeHeader
 header-encoded file b h z =
     let s₁ : List ℕ = drop 2 file in
     let s₂ : List ℕ = drop 2 s₁ in
     let s₃ : List ℕ = drop 2 s₂ in
     let d₂ : s₂ ≡ drop 4 file = drop-drop 2 2 file in
+    let s₄ : List ℕ = drop 32 s₃ in
     let d₃ : s₃ ≡ drop 6 file = ap (drop 2) d₂ ∙ drop-drop 2 4 file in
+    let d₄ : s₄ ≡ drop 38 file = ap (drop 32) d₃ ∙ drop-drop 32 6 file in
     let l₁ : length s₁ ≡ length file - 2 = length-drop 2 file in
     let l₂ : length s₂ ≡ length s₁ - 2 = length-drop 2 s₁ in
     let b₁ : AllBytes s₁ = λ k. rw (getD-drop 2 file k 0) (b (2 + k)) in
@@ -49,7 +51,9 @@ header-encoded file b h z =
     let j₁ : leBytes 2 (leAt 2 file 0) ++ leBytes 2 (leAt 2 s₁ 0) ≡ take 4 file = ap₂ (λ (x y : List ℕ). x ++ y) e₀ e₁ ∙ joined 2 2 file s₁ refl in
     let j₂ : leBytes 2 (leAt 2 file 0) ++ leBytes 2 (leAt 2 s₁ 0) ++ (getD s₂ 0 0 ∷ 0 ∷ []) ≡ take 6 file =
     ap₂ (λ (x y : List ℕ). x ++ y) j₁ e₂ ∙ joined 4 2 file s₂ d₂ in
-    ap (λ (x : List ℕ). x ++ take 32 s₃) j₂ ∙ joined 6 32 file s₃ d₃
+    let j₃ : leBytes 2 (leAt 2 file 0) ++ leBytes 2 (leAt 2 s₁ 0) ++ (getD s₂ 0 0 ∷ 0 ∷ []) ++ take 32 s₃ ≡ take 38 file =
+    ap (λ (x : List ℕ). x ++ take 32 s₃) j₂ ∙ joined 6 32 file s₃ d₃ in
+    ap (λ (x : List ℕ). x ++ take 32 s₄) j₃ ∙ joined 38 32 file s₄ d₄
 
 -- an instance of n parties
 module _ (c : Circuit) (n : ℕ) where

@@ -22,14 +22,14 @@ pub record Kept (buffer left : List ℕ) (k : ℕ) : Type 0 where
   pub beyond : drop k left ≡ drop k buffer
 
 -- a prove that succeeds writes inside its buffer alone: "bytes beyond it stay"
-pub prove-keeps : (s witness y message root buffer work left : List ℕ) (M tau n k : ℕ) → Proves s witness y message root M tau n buffer work k left
+pub prove-keeps : (s witness y message root salt buffer work left : List ℕ) (M tau n k : ℕ) → Proves s witness y message root salt M tau n buffer work k left
     → Kept buffer left k
-prove-keeps s witness y message root buffer work left M tau n k e =
-    let p = proved s witness y message root buffer left M tau n k work e in
+prove-keeps s witness y message root salt buffer work left M tau n k e =
+    let p = proved s witness y message root salt buffer left M tau n k work e in
     let c : Circuit = p .circuit in
-    let proof : List ℕ = proofOf c M tau n witness (statementOf M tau n s y message) root in
+    let proof : List ℕ = proofOf c M tau n salt witness (statementOf salt M tau n s y message) root in
     let size : length proof ≡ k = p .size in
-    let fits : length proof ≤ proofRoom c M tau n = proof-fits c M tau n witness (statementOf M tau n s y message) root (eqb-true (length root) 16 (p .root-size)) (p .counts) (p .parties) in
+    let fits : length proof ≤ proofRoom c M tau n = proof-fits c M tau n salt witness (statementOf salt M tau n s y message) root (eqb-true (length salt) 32 (p .salt-size)) (eqb-true (length root) 16 (p .root-size)) (p .counts) (p .parties) in
     let room : proofRoom c M tau n ≤ length buffer = leb-true (proofRoom c M tau n) (length buffer) (p .room) in
     record {
       inside = omega arith;

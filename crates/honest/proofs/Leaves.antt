@@ -11,6 +11,7 @@ use borrow.Author.Tests.{eq-eqb, ne-eqb, lt-ltb, le-ltb}
 use lib.Dec.{eqb}
 use lib.ListN.{length, take, drop, length-drop}
 use lib.Seq.{length-take-le, drop-drop}
+use Rattle.hashing.specs.declared.Context.{Context}
 use Rattle.bits.specs.Bytes.{rowOf}
 use Rattle.bits.proofs.Numbers.{lt-or-le, eq-or-ne}
 use Rattle.bits.proofs.Rows.{row-inside}
@@ -60,7 +61,7 @@ under-other h c c′ x x′ m a b e =
     (lt-or-le c c′)
 
 -- an instance j
-module _ (j : ℕ) where
+module _ (j : Context) where
   -- a node beside the path, and not a sibling on it, is a child of the node above it
   step-down : (S : List ℕ) (d q x : ℕ) → x / 2 ≢ q / 2
       → valueBeside j S (suc d) q x

@@ -8,6 +8,8 @@ use Prim.Native.Nat.{ℕ, _+_, _*_, _<_, _≤_}
 use native.Mathlib.Omega.{arith}
 use lib.ListN.{length, take, drop, length-take, length-drop, List·getD-eq-default}
 use lib.Seq.{getD-take, getD-drop}
+use Rattle.hashing.specs.Inputs.{contextOf}
+use Rattle.hashing.specs.declared.Context.{Context}
 use Rattle.bits.specs.Bits.{oct, pack, unusedZero}
 use Rattle.bits.proofs.Numbers.{lt-or-le}
 use Rattle.bits.proofs.Packing.{length-pack}
@@ -45,7 +47,7 @@ bytes-stretch c M n ask proof b j =
     bytes-take (stretchBytes c n (ask j)) (drop start proof) (bytes-drop start proof b)
 
 -- a row of A + O bits, unused bits zero, is the one that p sends in the simulation
-msgs-kept : (c : Circuit) (n j p : ℕ) (x : Chosen) → p < n → length (x .msgs-p) ≡ oct (andsOf c + length (c .outputs)) → AllBytes (x .msgs-p)
+msgs-kept : (c : Circuit) (n : ℕ) (j : Context) (p : ℕ) (x : Chosen) → p < n → length (x .msgs-p) ≡ oct (andsOf c + length (c .outputs)) → AllBytes (x .msgs-p)
     → unusedZero (andsOf c + length (c .outputs)) (x .msgs-p) ≡ true → msgs c n j p x p ≡ x .msgs-p
 unfolding msgs simulation rowsOf replayOf runWith
 msgs-kept c n j p x l size small unused =
@@ -96,4 +98,4 @@ messages-as-sent s y message proof work c b r e j p x l f =
     (all-below (boundIn s y message proof) proof (h .header) j) p x (sym (decoded-parts c n ask M proof j) ∙ f) in
     let u : UnusedZero (h .circuit) x = h .unused j p x l (ap (λ (z : Circuit). decode z (boundIn s y message proof) proof .sent j) q ∙ f) in
     let v : UnusedZero c x = subst (λ (z : Circuit). UnusedZero z x) q u in
-    msgs-kept c n j p x (t .party) (t .size) (t .bytes) (v .msgs)
+    msgs-kept c n (contextOf (decodeHeader proof .salt) j) p x (t .party) (t .size) (t .bytes) (v .msgs)

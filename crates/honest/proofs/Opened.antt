@@ -9,6 +9,7 @@ use native.Mathlib.Omega.{arith}
 use borrow.Author.Tests.{eq-eqb, ne-eqb, eqb-true, eqb-false}
 use lib.Dec.{eqb}
 use lib.ListN.{length, take, replicate, length-replicate}
+use Rattle.hashing.specs.declared.Context.{Context}
 use Rattle.bits.specs.Bits.{tabulate, oct, pack, bitAt, unusedZero}
 use Rattle.bits.specs.Bytes.{rowOf}
 use Rattle.bits.proofs.Numbers.{eq-or-ne}
@@ -51,13 +52,13 @@ hidden-same c n p l a b la lb h =
     (eq-or-ne i p))
 
 -- a commitment depends on the party's row of seeds, and on its own corrections
-pub commitment-same : (j n i : ℕ) (rows rows′ cs cs′ : List ℕ) → rowOf rows 32 i ≡ rowOf rows′ 32 i → ownCorrections n i cs ≡ ownCorrections n i cs′
+pub commitment-same : (j : Context) (n i : ℕ) (rows rows′ cs cs′ : List ℕ) → rowOf rows 32 i ≡ rowOf rows′ 32 i → ownCorrections n i cs ≡ ownCorrections n i cs′
     → commitmentOf j n i rows cs ≡ commitmentOf j n i rows′ cs′
 unfolding commitmentOf commitmentInput
 commitment-same j n i rows rows′ cs cs′ e f = rw (e, f)
 
 -- instance j of n parties with p hidden
-module _ (c : Circuit) (n j p : ℕ) (count : heightOf n ≡ 0 → ⊥) (l : p < n) (witness master : List ℕ) (size : length master ≡ 16) where
+module _ (c : Circuit) (n : ℕ) (j : Context) (p : ℕ) (count : heightOf n ≡ 0 → ⊥) (l : p < n) (witness master : List ℕ) (size : length master ≡ 16) where
   -- its stretch
   abbrev part : List ℕ
   part = stretchOf c n j witness master (hiding p)
@@ -169,17 +170,17 @@ module _ (c : Circuit) (n j p : ℕ) (count : heightOf n ≡ 0 → ⊥) (l : p <
       (rw (row-back c n j witness master p, ← length-rowBits c n j witness master p) (unused-pack (rowBits (masterRun c n j witness master) p))))
 
   -- h_j
-  pub opened-commitments : commitmentsDigest j (openedCommitments c n j p part) ≡ masterCommitments c n j master
+  pub opened-commitments : commitmentsDigest (j .number) (openedCommitments c n j p part) ≡ masterCommitments c n j master
   unfolding masterCommitments
-  opened-commitments = ap (commitmentsDigest j) commitments-back
+  opened-commitments = ap (commitmentsDigest (j .number)) commitments-back
 
   -- a witness
   module _ (hw : Witness c witness) where
     -- h'_j
-    pub opened-online : onlineDigest j (maskedPart c n p part) (rowsOf n (openedRun c n j p part)) ≡ masterOnline c n j witness master
+    pub opened-online : onlineDigest (j .number) (maskedPart c n p part) (rowsOf n (openedRun c n j p part)) ≡ masterOnline c n j witness master
     unfolding masterOnline openedRun masterMasked masterRun
     opened-online =
-        ap₂ (onlineDigest j) masked-shown
+        ap₂ (onlineDigest (j .number)) masked-shown
         (ap (λ (x : Showing). rowsOf n (replayOf c n p x)) showing-back ∙ replay-runs .rows c n p l (masterTapes c n j master) witness made hw)
 
     -- the output

@@ -8,6 +8,7 @@ use native.Mathlib.Omega.{arith}
 use borrow.Author.Tests.{eq-eqb, eqb-true, le-leb, leb-true, lt-ltb}
 use lib.Dec.{eqb, leb}
 use lib.ListN.{length, take, drop}
+use Rattle.hashing.specs.declared.Context.{Context}
 use Rattle.bits.specs.Bits.{pack, unusedZero}
 use Rattle.bits.proofs.Tabulate.{tabulate-cong}
 use Rattle.bits.proofs.Tests.{and-true-left, and-true-right}
@@ -19,7 +20,7 @@ use Rattle.circuit.specs.File.{legal, readCircuit}
 use Rattle.circuit.specs.Operations.{workBytes}
 use Rattle.plain.specs.Run.{Transcript}
 use Rattle.plain.specs.Tapes.{andsOf}
-use Rattle.hashing.specs.Inputs.{commitmentsInput, onlineInput, allCommitmentsInput, allOnlineInput}
+use Rattle.hashing.specs.Inputs.{contextOf, commitmentsInput, onlineInput, allCommitmentsInput, allOnlineInput}
 use Rattle.hashing.specs.Digest.{transcriptOf}
 use Rattle.seeds.specs.Operations.{areCounts}
 use Rattle.seeds.proofs.Instances.{Fit, counts-fit}
@@ -27,14 +28,15 @@ use Rattle.instance.specs.Instance.{Asked, opened, hiding}
 use Rattle.instance.specs.Stretch.{stretchBytes, correctionsPart, maskedPart, rowPart}
 use Rattle.instance.specs.Opened.{openedRun, stretchCommitments, stretchOnline, stretchUnused}
 use Rattle.proof.specs.Protocol.{hstarOf, statementOf, challenged}
-use Rattle.proof.specs.File.{headerM, headerTau, headerN, headerZero, headerHstar, headerBytes, nodesAt, masterAt, goodHeader, proofBytes, stretchAt}
+use Rattle.proof.specs.File.{headerM, headerTau, headerN, headerZero, headerHstar, headerBytes, nodesAt, masterAt, goodHeader, proofBytes, stretchAt, headerSalt, hides}
+use Rattle.cover.proofs.Masters.{length-master-from}
 use Rattle.honest.specs.Response.{Unchosen, Chosen, Sent, unchosen, chosen, Response, answered, Header, decodeHeader, boundIn, challengeIn, decodeSent, bytesFrom, nodesBytes, decode, impliedLength, UnusedZero}
 use Rattle.honest.specs.Verification.{all, seed*, honestCom, openedCom, simulation, msgs, Verified}
 use Rattle.honest.specs.Theorems.{Accepted, GoodHeader, Accepts, CheckIsPublished, AcceptedLength}
 use Rattle.proof.proofs.Passing.{and-true}
-use Rattle.honest.proofs.Tests.{ProofTests, CheckTests, passed, accepted}
+use Rattle.honest.proofs.Tests.{masterWith, ProofTests, CheckTests, passed, accepted}
 use Rattle.honest.proofs.Asking.{Below, challenged-below}
-use Rattle.proof.proofs.Inside.{length-masterAt, length-stretchAt}
+use Rattle.proof.proofs.Inside.{length-stretchAt, length-nodesAt}
 use Rattle.proof.proofs.Passing.{has-height}
 use Rattle.honest.proofs.Decoded.{header-is, partsOf, decoded-parts, all-bytes}
 use Rattle.honest.proofs.Verifies.{unchosen-hj, chosen-hj, simulation-is, chosen-h′j}
@@ -47,7 +49,7 @@ pub chosen-sent : (p q : ℕ) (x z : Chosen) → chosen p x ≡ chosen q z → x
 chosen-sent p q x z e = cc
 
 -- what is sent of instance j, by its stretch s
-module _ (c : Circuit) (n j : ℕ) (count : heightOf n ≡ 0 → ⊥) where
+module _ (c : Circuit) (n : ℕ) (j : Context) (count : heightOf n ≡ 0 → ⊥) where
   -- it answers what is asked
   parts-answer : (a : Asked) (s : List ℕ) → answered (partsOf c n a s) ≡ a
   unfolding answered
@@ -56,13 +58,13 @@ module _ (c : Circuit) (n j : ℕ) (count : heightOf n ≡ 0 → ⊥) where
 
   -- the digests of step 1, 2 and 3, and the output of step 3
   abbrev hj-chosen : ℕ → Chosen → List ℕ
-  hj-chosen p x = sha3-256 (commitmentsInput j (all n (openedCom n j p x)))
+  hj-chosen p x = sha3-256 (commitmentsInput (j .number) (all n (openedCom n j p x)))
 
   abbrev hj-unchosen : List ℕ → List ℕ
-  hj-unchosen seed = sha3-256 (commitmentsInput j (all n (honestCom c n j seed)))
+  hj-unchosen seed = sha3-256 (commitmentsInput (j .number) (all n (honestCom c n j seed)))
 
   abbrev h′j-chosen : ℕ → Chosen → List ℕ
-  h′j-chosen p x = sha3-256 (onlineInput j (x .masked) (all n (msgs c n j p x)))
+  h′j-chosen p x = sha3-256 (onlineInput (j .number) (x .masked) (all n (msgs c n j p x)))
 
   -- h_j
   commitments-chosen : (a : Asked) (m s : List ℕ) → length s ≡ stretchBytes c n a → Below n a
@@ -132,7 +134,7 @@ module _ (c : Circuit) (n j : ℕ) (count : heightOf n ≡ 0 → ⊥) where
       ∙ (ap (λ (r : Transcript). pack (r .output)) (sym (simulation-is c n j q count (b q refl) s l)) ∙ f q _ refl)
 
 -- M instances by n parties, where `ask` says what is asked of each, and the length of the proof is right
-module _ (c : Circuit) (y proof hstar : List ℕ) (M n : ℕ) (ask : ℕ → Asked) (count : heightOf n ≡ 0 → ⊥) (below : (j : ℕ) → Below n (ask j))
+module _ (c : Circuit) (y proof hstar salt : List ℕ) (M n : ℕ) (ask : ℕ → Asked) (count : heightOf n ≡ 0 → ⊥) (below : (j : ℕ) → Below n (ask j))
     (size : length proof ≡ proofBytes c M n ask) where
   -- the stretch of an instance, and what is decoded of it
   abbrev part : ℕ → List ℕ
@@ -149,14 +151,14 @@ module _ (c : Circuit) (y proof hstar : List ℕ) (M n : ℕ) (ask : ℕ → Ask
 
   -- the master of an instance that is not chosen, as it follows from the opened nodes
   abbrev master : ℕ → List ℕ
-  master j = masterAt M ask proof j
+  master j = masterWith M ask salt proof j
 
   master-size : (j : ℕ) → length (master j) ≡ 16
-  master-size = length-masterAt c n M ask proof size
+  master-size j = length-master-from M (hides ask) salt (nodesAt M ask proof) j (length-nodesAt c n M ask proof size)
 
   -- it is seed*_j
-  seed-is : (j : ℕ) → seed* M ask response j ≡ master j
-  unfolding seed* masterAt nodesAt nodesBytes
+  seed-is : (j : ℕ) → seed* M salt ask response j ≡ master j
+  unfolding seed* nodesAt nodesBytes
   seed-is j = refl
 
   part-size : (j : ℕ) → j < M → length (part j) ≡ stretchBytes c n (ask j)
@@ -170,49 +172,49 @@ module _ (c : Circuit) (y proof hstar : List ℕ) (M n : ℕ) (ask : ℕ → Ask
   sent-are j z e = decoded-parts c n ask M proof j ∙ e
 
   -- what passes the tests is verified
-  verified : ProofTests c y proof hstar M n ask → Verified c y hstar M n ask response
+  verified : ProofTests c y proof hstar salt M n ask → Verified c y hstar salt M n ask response
   unfolding hstarOf transcriptOf
   verified t = record {
-    answers = λ j l. ap answered (decoded-parts c n ask M proof j) ∙ parts-answer c n j count (ask j) (part j);
-    hj = λ j. stretchCommitments c n j (master j) (part j) (ask j);
-    h = sha3-256 (allCommitmentsInput (all M (λ j. stretchCommitments c n j (master j) (part j) (ask j))));
-    h′j = λ j. stretchOnline c n j (part j) (ask j);
-    h′ = sha3-256 (allOnlineInput (all M (λ j. stretchOnline c n j (part j) (ask j))));
-    step-1 = λ j p x l e. commitments-chosen c n j count (ask j) (master j) (part j) (part-size j l) (below j) p x (parts-are j _ e);
+    answers = λ j l. ap answered (decoded-parts c n ask M proof j) ∙ parts-answer c n (contextOf salt j) count (ask j) (part j);
+    hj = λ j. stretchCommitments c n (contextOf salt j) (master j) (part j) (ask j);
+    h = sha3-256 (allCommitmentsInput (all M (λ j. stretchCommitments c n (contextOf salt j) (master j) (part j) (ask j))));
+    h′j = λ j. stretchOnline c n (contextOf salt j) (part j) (ask j);
+    h′ = sha3-256 (allOnlineInput (all M (λ j. stretchOnline c n (contextOf salt j) (part j) (ask j))));
+    step-1 = λ j p x l e. commitments-chosen c n (contextOf salt j) count (ask j) (master j) (part j) (part-size j l) (below j) p x (parts-are j _ e);
     step-2 = λ j u l e.
-        commitments-unchosen c n j count (ask j) (master j) (part j) (master-size j) u (parts-are j _ e) ∙ ap (hj-unchosen c n j count) (sym (seed-is j));
+        commitments-unchosen c n (contextOf salt j) count (ask j) (master j) (part j) (master-size j) u (parts-are j _ e) ∙ ap (hj-unchosen c n (contextOf salt j) count) (sym (seed-is j));
     step-2-h = refl;
-    step-3-output = λ j p x l e. output-chosen c n j count (ask j) (part j) y (part-size j l) (below j) (λ q r. t .output j q l r) p x (parts-are j _ e);
-    step-3 = λ j p x l e. online-chosen c n j count (ask j) (part j) (part-size j l) (below j) p x (parts-are j _ e);
-    step-3-sent = λ j u l e. online-unchosen c n j count (ask j) (part j) u (parts-are j _ e);
+    step-3-output = λ j p x l e. output-chosen c n (contextOf salt j) count (ask j) (part j) y (part-size j l) (below j) (λ q r. t .output j q l r) p x (parts-are j _ e);
+    step-3 = λ j p x l e. online-chosen c n (contextOf salt j) count (ask j) (part j) (part-size j l) (below j) p x (parts-are j _ e);
+    step-3-sent = λ j u l e. online-unchosen c n (contextOf salt j) count (ask j) (part j) u (parts-are j _ e);
     step-3-h′ = refl;
     step-4 = t .digest;
   }
 
   -- the digests of what is verified
-  commitments-are : (v : Verified c y hstar M n ask response) (j : ℕ) → j < M → stretchCommitments c n j (master j) (part j) (ask j) ≡ v .hj j
+  commitments-are : (v : Verified c y hstar salt M n ask response) (j : ℕ) → j < M → stretchCommitments c n (contextOf salt j) (master j) (part j) (ask j) ≡ v .hj j
   commitments-are v j l =
-      either-way c n j count (ask j) (part j) (stretchCommitments c n j (master j) (part j) (ask j)) (v .hj j) (hj-chosen c n j count) (λ u. hj-unchosen c n j count (master j))
-      (commitments-chosen c n j count (ask j) (master j) (part j) (part-size j l) (below j))
-      (commitments-unchosen c n j count (ask j) (master j) (part j) (master-size j))
+      either-way c n (contextOf salt j) count (ask j) (part j) (stretchCommitments c n (contextOf salt j) (master j) (part j) (ask j)) (v .hj j) (hj-chosen c n (contextOf salt j) count) (λ u. hj-unchosen c n (contextOf salt j) count (master j))
+      (commitments-chosen c n (contextOf salt j) count (ask j) (master j) (part j) (part-size j l) (below j))
+      (commitments-unchosen c n (contextOf salt j) count (ask j) (master j) (part j) (master-size j))
       (λ p x e. v .step-1 j p x l (sent-are j _ e))
-      (λ u e. v .step-2 j u l (sent-are j _ e) ∙ ap (hj-unchosen c n j count) (seed-is j))
+      (λ u e. v .step-2 j u l (sent-are j _ e) ∙ ap (hj-unchosen c n (contextOf salt j) count) (seed-is j))
 
-  online-are : (v : Verified c y hstar M n ask response) (j : ℕ) → j < M → stretchOnline c n j (part j) (ask j) ≡ v .h′j j
+  online-are : (v : Verified c y hstar salt M n ask response) (j : ℕ) → j < M → stretchOnline c n (contextOf salt j) (part j) (ask j) ≡ v .h′j j
   online-are v j l =
-      either-way c n j count (ask j) (part j) (stretchOnline c n j (part j) (ask j)) (v .h′j j) (h′j-chosen c n j count) (λ u. u .h′)
-      (online-chosen c n j count (ask j) (part j) (part-size j l) (below j))
-      (online-unchosen c n j count (ask j) (part j))
+      either-way c n (contextOf salt j) count (ask j) (part j) (stretchOnline c n (contextOf salt j) (part j) (ask j)) (v .h′j j) (h′j-chosen c n (contextOf salt j) count) (λ u. u .h′)
+      (online-chosen c n (contextOf salt j) count (ask j) (part j) (part-size j l) (below j))
+      (online-unchosen c n (contextOf salt j) count (ask j) (part j))
       (λ p x e. v .step-3 j p x l (sent-are j _ e))
       (λ u e. v .step-3-sent j u l (sent-are j _ e))
 
   -- and the other way round, where the unused bits are zero
-  tested : ((j p : ℕ) (x : Chosen) → j < M → sent j ≡ chosen p x → UnusedZero c x) → Verified c y hstar M n ask response → ProofTests c y proof hstar M n ask
+  tested : ((j p : ℕ) (x : Chosen) → j < M → sent j ≡ chosen p x → UnusedZero c x) → Verified c y hstar salt M n ask response → ProofTests c y proof hstar salt M n ask
   unfolding hstarOf transcriptOf
   tested clean v = record {
     size = size;
-    unused = λ j l. unused-step c n j count (ask j) (part j) (λ p x e. clean j p x l (sent-are j _ e));
-    output = λ j p l e. output-step c n j count (ask j) (part j) y (part-size j l) (below j) (λ q x r. v .step-3-output j q x l (sent-are j _ r)) p e;
+    unused = λ j l. unused-step c n (contextOf salt j) count (ask j) (part j) (λ p x e. clean j p x l (sent-are j _ e));
+    output = λ j p l e. output-step c n (contextOf salt j) count (ask j) (part j) y (part-size j l) (below j) (λ q x r. v .step-3-output j q x l (sent-are j _ r)) p e;
     digest =
         ap₂ transcriptOf
         (ap (λ (t : List (List ℕ)). sha3-256 (allCommitmentsInput (flatten t))) (tabulate-cong M _ (v .hj) (commitments-are v)) ∙ sym (v .step-2-h))
@@ -222,10 +224,10 @@ module _ (c : Circuit) (y proof hstar : List ℕ) (M n : ℕ) (ask : ℕ → Ask
 
 -- the header of a proof is good
 header-passed : (proof : List ℕ) → goodHeader proof ≡ true
-    → GoodHeader proof (record { M = headerM proof; tau = headerTau proof; n = headerN proof; hstar = headerHstar proof })
+    → GoodHeader proof (record { M = headerM proof; tau = headerTau proof; n = headerN proof; hstar = headerHstar proof; salt = headerSalt proof })
 unfolding goodHeader
 header-passed proof t =
-    let a : Bool = leb 38 (length proof) in
+    let a : Bool = leb 70 (length proof) in
     let b : Bool = areCounts (headerM proof) (headerTau proof) in
     let d : Bool = isPartyCount (headerN proof) in
     let e : Bool = eqb (headerZero proof) 0 in
@@ -233,7 +235,7 @@ header-passed proof t =
     let v : d && e ≡ true = and-true-right b (d && e) u in
     let f : Fit (headerM proof) (headerTau proof) = counts-fit (headerM proof) (headerTau proof) (and-true-left b (d && e) u) in
     record {
-      size = leb-true 38 (length proof) (and-true-left a (b && (d && e)) t);
+      size = leb-true 70 (length proof) (and-true-left a (b && (d && e)) t);
       M-least = f .least;
       M-most = f .most;
       tau-least = f .some;
@@ -251,16 +253,16 @@ counts-good proof h g =
 
 -- so it is for check
 header-accepted : (proof : List ℕ)
-    → GoodHeader proof (record { M = headerM proof; tau = headerTau proof; n = headerN proof; hstar = headerHstar proof }) → goodHeader proof ≡ true
+    → GoodHeader proof (record { M = headerM proof; tau = headerTau proof; n = headerN proof; hstar = headerHstar proof; salt = headerSalt proof }) → goodHeader proof ≡ true
 unfolding goodHeader
 header-accepted proof g =
-    and-true _ _ (le-leb 38 (length proof) (g .size))
+    and-true _ _ (le-leb 70 (length proof) (g .size))
     (and-true _ _ (counts-good proof _ g) (and-true _ _ (g .parties) (eq-eqb (headerZero proof) 0 (g .zero))))
 
 -- the tests of a proof with the header h
 abbrev TestsWith : Circuit → List ℕ → List ℕ → List ℕ → List ℕ → Header → Type 0
 TestsWith c s y message proof h =
-    ProofTests c y proof (h .hstar) (h .M) (h .n) (challenged (h .M) (h .tau) (h .n) (h .hstar) (statementOf (h .M) (h .tau) (h .n) s y message))
+    ProofTests c y proof (h .hstar) (h .salt) (h .M) (h .n) (challenged (h .M) (h .tau) (h .n) (h .hstar) (statementOf (h .salt) (h .M) (h .tau) (h .n) s y message))
 
 -- a good header
 module _ (bound proof : List ℕ) (good : GoodHeader proof (decodeHeader proof)) where
@@ -298,9 +300,9 @@ tests-accept s y message proof t =
       header = good;
       size = tests .size ∙ sym (implied-is c (boundIn s y message proof) proof);
       unused = λ j p x l e.
-          unused-chosen c (decodeHeader proof .n) j (height (boundIn s y message proof) proof good) (challengeIn (boundIn s y message proof) proof j) _ (tests .unused j l) p x
+          unused-chosen c (decodeHeader proof .n) (contextOf (decodeHeader proof .salt) j) (height (boundIn s y message proof) proof good) (challengeIn (boundIn s y message proof) proof j) _ (tests .unused j l) p x
           (sym (decoded-parts c (decodeHeader proof .n) (challengeIn (boundIn s y message proof) proof) (decodeHeader proof .M) proof j) ∙ e);
-      verified = verified c y proof (decodeHeader proof .hstar) (decodeHeader proof .M) (decodeHeader proof .n) (challengeIn (boundIn s y message proof) proof)
+      verified = verified c y proof (decodeHeader proof .hstar) (decodeHeader proof .salt) (decodeHeader proof .M) (decodeHeader proof .n) (challengeIn (boundIn s y message proof) proof)
           (height (boundIn s y message proof) proof good) (all-below (boundIn s y message proof) proof good) (tests .size) tests;
     }
 
@@ -310,7 +312,7 @@ unfolding decode
 accept-tests s y message proof h =
     let c : Circuit = h .circuit in
     let tests : TestsWith c s y message proof (decodeHeader proof) =
-    tested c y proof (decodeHeader proof .hstar) (decodeHeader proof .M) (decodeHeader proof .n) (challengeIn (boundIn s y message proof) proof)
+    tested c y proof (decodeHeader proof .hstar) (decodeHeader proof .salt) (decodeHeader proof .M) (decodeHeader proof .n) (challengeIn (boundIn s y message proof) proof)
     (height (boundIn s y message proof) proof (h .header)) (all-below (boundIn s y message proof) proof (h .header)) (h .size ∙ implied-is c (boundIn s y message proof) proof) (h .unused) (h .verified) in
     record {
       circuit = c;

@@ -5,6 +5,7 @@ use mathlib.Core.Bool.{true, false}
 use mathlib.Core.List.{List}
 use Prim.Native.Nat.{ℕ}
 use lib.ListN.{length}
+use Rattle.hashing.specs.declared.Context.{Context}
 use Rattle.parties.specs.Parties.{heightOf}
 use Rattle.circuit.specs.Circuit.{Circuit}
 use Rattle.hiding.specs.Hiding.{Witness}
@@ -14,7 +15,7 @@ use Rattle.honest.proofs.Opened.{unused-back, opened-commitments, opene
 use Rattle.honest.proofs.Asking.{Below}
 
 -- instance j of n parties on a witness
-module _ (c : Circuit) (n j : ℕ) (count : heightOf n ≡ 0 → ⊥) (witness master : List ℕ) (size : length master ≡ 16) where
+module _ (c : Circuit) (n : ℕ) (j : Context) (count : heightOf n ≡ 0 → ⊥) (witness master : List ℕ) (size : length master ≡ 16) where
   -- h_j, where its master is known if it is not chosen
   pub commitments-given : (a : Asked) → Below n a → (known : List ℕ) → (isChosen a ≡ false → known ≡ master)
       → stretchCommitments c n j known (stretchOf c n j witness master a) a ≡ masterCommitments c n j master

@@ -7,6 +7,7 @@ use Prim.Native.Nat.{ℕ, _≤_, _<_}
 use borrow.Author.Tests.{eq-eqb, eqb-true, le-leb, leb-true}
 use lib.Dec.{eqb, leb}
 use lib.ListN.{length, replicate}
+use Rattle.hashing.specs.Inputs.{contextOf}
 use Rattle.bits.specs.Bits.{oct, pack, unusedZero}
 use Rattle.bits.specs.Bytes.{sameBytes}
 use Rattle.bits.proofs.Equal.{same-eq, eq-same}
@@ -15,21 +16,26 @@ use Rattle.refusal.specs.Outcome.{Outcome, done, unless}
 use Rattle.circuit.specs.Circuit.{Circuit}
 use Rattle.circuit.specs.File.{legal, readCircuit}
 use Rattle.circuit.specs.Operations.{holds, workBytes, leaving}
+use Rattle.cover.specs.Masters.{masterFrom}
 use Rattle.instance.specs.Instance.{Asked, opened, hiding}
 use Rattle.proof.specs.Protocol.{hstarOf, statementOf, challenged}
-use Rattle.proof.specs.File.{headerM, headerTau, headerN, headerHstar, goodHeader, proofBytes, masterAt, stretchAt}
+use Rattle.proof.specs.File.{headerM, headerTau, headerN, headerHstar, goodHeader, proofBytes, masterAt, stretchAt, headerSalt, contextAt, hides, nodesAt}
 use Rattle.instance.specs.Opened.{openedRun, stretchCommitments, stretchOnline, stretchUnused, stretchOutput}
 use Rattle.proof.specs.Check.{every, checkProof, checkLegal, checkOp}
 use Rattle.mpc.proofs.Succeeding.{unless-test, unless-rest, work-enough, work-succeeded}
 use Rattle.proof.proofs.Passing.{and-true, every-at, all-every}
 use Rattle.honest.specs.Theorems.{Accepted}
 
--- the tests of a proof whose header is good, where h* is hstar, and `ask` says what is asked of each instance
-pub record ProofTests (c : Circuit) (y proof hstar : List ℕ) (M n : ℕ) (ask : ℕ → Asked) : Type 0 where
+-- the master of instance j of a proof, with this salt
+abbrev pub masterWith : ℕ → (ℕ → Asked) → List ℕ → List ℕ → ℕ → List ℕ
+masterWith M ask salt proof j = masterFrom M (hides ask) salt (nodesAt M ask proof) j
+
+-- the tests of a proof whose header is good, where h* is hstar, with the salt, and `ask` says what is asked of each instance
+pub record ProofTests (c : Circuit) (y proof hstar salt : List ℕ) (M n : ℕ) (ask : ℕ → Asked) : Type 0 where
   pub size : length proof ≡ proofBytes c M n ask
   pub unused : (j : ℕ) → j < M → stretchUnused c n (stretchAt c M n ask proof j) (ask j) ≡ true
-  pub output : (j p : ℕ) → j < M → ask j ≡ hiding p → pack (openedRun c n j p (stretchAt c M n ask proof j) .output) ≡ y
-  pub digest : hstarOf M (λ j. stretchCommitments c n j (masterAt M ask proof j) (stretchAt c M n ask proof j) (ask j)) (λ j. stretchOnline c n j (stretchAt c M n ask proof j) (ask j))
+  pub output : (j p : ℕ) → j < M → ask j ≡ hiding p → pack (openedRun c n (contextOf salt j) p (stretchAt c M n ask proof j) .output) ≡ y
+  pub digest : hstarOf M (λ j. stretchCommitments c n (contextOf salt j) (masterWith M ask salt proof j) (stretchAt c M n ask proof j) (ask j)) (λ j. stretchOnline c n (contextOf salt j) (stretchAt c M n ask proof j) (ask j))
       ≡ hstar
 
 -- all tests
@@ -40,9 +46,9 @@ pub record CheckTests (s y message proof : List ℕ) : Type 0 where
   pub short : length message ≤ 4096
   pub y-unused : unusedZero (length (circuit .outputs)) y ≡ true
   pub header : goodHeader proof ≡ true
-  pub proof-tests : ProofTests circuit y proof (headerHstar proof) (headerM proof) (headerN proof)
+  pub proof-tests : ProofTests circuit y proof (headerHstar proof) (headerSalt proof) (headerM proof) (headerN proof)
       (challenged (headerM proof) (headerTau proof) (headerN proof) (headerHstar proof)
-      (statementOf (headerM proof) (headerTau proof) (headerN proof) s y message))
+      (statementOf (headerSalt proof) (headerM proof) (headerTau proof) (headerN proof) s y message))
 
 -- a proof, of which `ask` says what is asked of each instance
 module _ (c : Circuit) (y proof : List ℕ) (M n : ℕ) (ask : ℕ → Asked) where
@@ -54,35 +60,35 @@ module _ (c : Circuit) (y proof : List ℕ) (M n : ℕ) (ask : ℕ → Asked) wh
   unused j = stretchUnused c n (stretchAt c M n ask proof j) (ask j)
 
   abbrev output : ℕ → Bool
-  output j = stretchOutput c n j y (stretchAt c M n ask proof j) (ask j)
+  output j = stretchOutput c n (contextAt proof j) y (stretchAt c M n ask proof j) (ask j)
 
   abbrev recomputed : List ℕ
   recomputed =
-      hstarOf M (λ j. stretchCommitments c n j (masterAt M ask proof j) (stretchAt c M n ask proof j) (ask j))
-      (λ j. stretchOnline c n j (stretchAt c M n ask proof j) (ask j))
+      hstarOf M (λ j. stretchCommitments c n (contextAt proof j) (masterWith M ask (headerSalt proof) proof j) (stretchAt c M n ask proof j) (ask j))
+      (λ j. stretchOnline c n (contextAt proof j) (stretchAt c M n ask proof j) (ask j))
 
   -- check makes them in this order
   tests : checkProof c y proof M n ask
       ≡ unless size 12 [] (unless (every M unused) 7 []
       (unless (every M output) 10 [] (unless (sameBytes recomputed (headerHstar proof)) 13 [] (done []))))
-  unfolding checkProof
+  unfolding checkProof masterAt
   tests = refl
 
   -- the test of the output, where all but p are opened
-  output-is : (j p : ℕ) → ask j ≡ hiding p → output j ≡ sameBytes (pack (openedRun c n j p (stretchAt c M n ask proof j) .output)) y
+  output-is : (j p : ℕ) → ask j ≡ hiding p → output j ≡ sameBytes (pack (openedRun c n (contextAt proof j) p (stretchAt c M n ask proof j) .output)) y
   unfolding stretchOutput
-  output-is j p e = ap (stretchOutput c n j y (stretchAt c M n ask proof j)) e
+  output-is j p e = ap (stretchOutput c n (contextAt proof j) y (stretchAt c M n ask proof j)) e
 
   -- it passes where each replay gives y
   output-passes : (j : ℕ) (a : Asked)
-      → ((p : ℕ) → a ≡ hiding p → pack (openedRun c n j p (stretchAt c M n ask proof j) .output) ≡ y)
-      → stretchOutput c n j y (stretchAt c M n ask proof j) a ≡ true
+      → ((p : ℕ) → a ≡ hiding p → pack (openedRun c n (contextAt proof j) p (stretchAt c M n ask proof j) .output) ≡ y)
+      → stretchOutput c n (contextAt proof j) y (stretchAt c M n ask proof j) a ≡ true
   unfolding stretchOutput
   output-passes j opened h = refl
   output-passes j (hiding p) h = eq-same _ y (h p refl)
 
   -- they pass where check accepts
-  proof-passed : checkProof c y proof M n ask ≡ done [] → ProofTests c y proof (headerHstar proof) M n ask
+  proof-passed : checkProof c y proof M n ask ≡ done [] → ProofTests c y proof (headerHstar proof) (headerSalt proof) M n ask
   proof-passed e =
       let e0 = sym tests ∙ e in
       let e1 = unless-rest size 12 [] _ [] [] e0 in
@@ -97,7 +103,7 @@ module _ (c : Circuit) (y proof : List ℕ) (M n : ℕ) (ask : ℕ → Asked) wh
       }
 
   -- and check accepts where they pass
-  pub proof-accepted : ProofTests c y proof (headerHstar proof) M n ask → checkProof c y proof M n ask ≡ done []
+  pub proof-accepted : ProofTests c y proof (headerHstar proof) (headerSalt proof) M n ask → checkProof c y proof M n ask ≡ done []
   proof-accepted h =
       let a : size ≡ true = eq-eqb (length proof) (proofBytes c M n ask) (h .size) in
       let b : every M unused ≡ true = all-every M unused (h .unused) in
@@ -115,7 +121,7 @@ module _ (s y message proof : List ℕ) (c : Circuit) where
   clean = unusedZero (length (c .outputs)) y
 
   abbrev asks : ℕ → Asked
-  asks = challenged (headerM proof) (headerTau proof) (headerN proof) (headerHstar proof) (statementOf (headerM proof) (headerTau proof) (headerN proof) s y message)
+  asks = challenged (headerM proof) (headerTau proof) (headerN proof) (headerHstar proof) (statementOf (headerSalt proof) (headerM proof) (headerTau proof) (headerN proof) s y message)
 
   abbrev rest : Outcome
   rest = checkProof c y proof (headerM proof) (headerN proof) asks

@@ -10,6 +10,7 @@ use borrow.Author.Tests.{eq-eqb, ne-eqb}
 use lib.Dec.{eqb}
 use lib.ListN.{length, take, replicate}
 use lib.Seq.{length-take-le}
+use Rattle.hashing.specs.declared.Context.{Context}
 use Rattle.bits.specs.Bits.{oct}
 use Rattle.bits.specs.Bytes.{rowOf}
 use Rattle.bits.proofs.Numbers.{eq-or-ne}
@@ -38,7 +39,7 @@ use Rattle.honest.proofs.Opened.{hidden-same}
 use Rattle.honest.proofs.Leaves.{opened-leaf}
 
 -- the parties' leaves in instance j, and rows of seeds
-module _ (n j : ℕ) (leaf : ℕ → List ℕ) (seeds : List ℕ) where
+module _ (n : ℕ) (j : Context) (leaf : ℕ → List ℕ) (seeds : List ℕ) where
   -- row i follows from party i's leaf
   abbrev Follows : ℕ → Type 0
   Follows i = rowOf seeds 32 i ≡ seedRow j i (leaf i)
@@ -75,7 +76,7 @@ module _ (n j : ℕ) (leaf : ℕ → List ℕ) (seeds : List ℕ) where
         ∙ (tape-same i (same i h m) ∙ sym (tapes-row c n j seeds i h)))
 
 -- an instance that is not chosen
-module _ (c : Circuit) (n j : ℕ) (count : heightOf n ≡ 0 → ⊥) (master : List ℕ) (size : length master ≡ 16) where
+module _ (c : Circuit) (n : ℕ) (j : Context) (count : heightOf n ≡ 0 → ⊥) (master : List ℕ) (size : length master ≡ 16) where
   -- its seeds
   seeds-are : (i : ℕ) → i < n → Follows n j (honestLeaf n j master) (masterSeeds n j master) i
   unfolding honestLeaf masterSeeds leavesOf
@@ -83,15 +84,15 @@ module _ (c : Circuit) (n j : ℕ) (count : heightOf n ≡ 0 → ⊥) (master : 
       seeds-row n j (leavesBelow j (heightOf n) 1 master) i h ∙ ap (seedRow j i) (leaf-of-party j n i master (count-yes n count) size h)
 
   -- h_j
-  pub unchosen-hj : sha3-256 (commitmentsInput j (all n (honestCom c n j master))) ≡ masterCommitments c n j master
+  pub unchosen-hj : sha3-256 (commitmentsInput (j .number) (all n (honestCom c n j master))) ≡ masterCommitments c n j master
   unfolding honestCom honestAux masterCommitments commitmentsDigest commitmentsOf masterCorrections masterTapes
   unchosen-hj =
       rw (tapes-same n j (honestLeaf n j master) (masterSeeds n j master) c seeds-are)
-      (ap (λ (l : List (List ℕ)). sha3-256 (commitmentsInput j (flatten l)))
+      (ap (λ (l : List (List ℕ)). sha3-256 (commitmentsInput (j .number) (flatten l)))
       (tabulate-cong n _ _ (λ i h. com-same n j (honestLeaf n j master) (masterSeeds n j master) _ i (seeds-are i h))))
 
 -- a chosen one, with p hidden, from its stretch
-module _ (c : Circuit) (n j p : ℕ) (count : heightOf n ≡ 0 → ⊥) (l : p < n) (part : List ℕ) (size : length part ≡ stretchBytes c n (hiding p)) where
+module _ (c : Circuit) (n : ℕ) (j : Context) (p : ℕ) (count : heightOf n ≡ 0 → ⊥) (l : p < n) (part : List ℕ) (size : length part ≡ stretchBytes c n (hiding p)) where
   -- what is sent of it
   abbrev sent : Chosen
   sent = record {
@@ -113,10 +114,10 @@ module _ (c : Circuit) (n j p : ℕ) (count : heightOf n ≡ 0 → ⊥) (l : p <
   opened-are i h m = but-row n p j _ i h m ∙ ap (seedRow j i) (sym (opened-leaf j n p i sent count siblings-size l h m))
 
   -- h_j
-  pub chosen-hj : sha3-256 (commitmentsInput j (all n (openedCom n j p sent))) ≡ commitmentsDigest j (openedCommitments c n j p part)
+  pub chosen-hj : sha3-256 (commitmentsInput (j .number) (all n (openedCom n j p sent))) ≡ commitmentsDigest (j .number) (openedCommitments c n j p part)
   unfolding openedCom openedCommitments commitmentsDigest
   chosen-hj =
-      ap (λ (t : List (List ℕ)). sha3-256 (commitmentsInput j (flatten t)))
+      ap (λ (t : List (List ℕ)). sha3-256 (commitmentsInput (j .number) (flatten t)))
       (tabulate-cong n (openedCom n j p sent)
       (λ i. cond (eqb i p) (commitmentPart c n p part) (commitmentOf j n i (openedSeeds n j p part) (correctionsPart c n p part)))
       (λ i h.
@@ -139,7 +140,7 @@ module _ (c : Circuit) (n j p : ℕ) (count : heightOf n ≡ 0 → ⊥) (l : p <
       (hidden-tapes n j (openedLeaf n j p sent) (openedSeeds n j p part) c p l opened-are)
 
   -- h'_j
-  pub chosen-h′j : sha3-256 (onlineInput j (maskedPart c n p part) (all n (msgs c n j p sent)))
-      ≡ onlineDigest j (maskedPart c n p part) (rowsOf n (openedRun c n j p part))
+  pub chosen-h′j : sha3-256 (onlineInput (j .number) (maskedPart c n p part) (all n (msgs c n j p sent)))
+      ≡ onlineDigest (j .number) (maskedPart c n p part) (rowsOf n (openedRun c n j p part))
   unfolding msgs rowsOf onlineDigest
-  chosen-h′j = ap (λ (r : Transcript). sha3-256 (onlineInput j (maskedPart c n p part) (rowsOf n r))) simulation-is
+  chosen-h′j = ap (λ (r : Transcript). sha3-256 (onlineInput (j .number) (maskedPart c n p part) (rowsOf n r))) simulation-is

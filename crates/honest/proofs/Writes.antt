@@ -28,7 +28,7 @@ unfolding evaluate
 outputs-length c witness = length-map (c .outputs) (evalGates (c .gates) (bitAt witness))
 
 -- what passes the tests of prove, of a circuit that was read
-pub record Passes (c : Circuit) (witness y message root buffer : List ℕ) (M tau n : ℕ) : Type 0 where
+pub record Passes (c : Circuit) (witness y message root salt buffer : List ℕ) (M tau n : ℕ) : Type 0 where
   pub counts : areCounts M tau ≡ true
   pub parties : isPartyCount n ≡ true
   pub size : length witness ≡ oct (c .inputs)
@@ -36,9 +36,10 @@ pub record Passes (c : Circuit) (witness y message root buffer : List ℕ) (M ta
   pub gives : pack (evaluate c (bitAt witness)) ≡ y
   pub short : length message ≤ 4096
   pub rootSize : length root ≡ 16
+  pub saltSize : length salt ≡ 32
   pub room : proofRoom c M tau n ≤ length buffer
 
-module _ (c : Circuit) (witness y message root buffer : List ℕ) (M tau n : ℕ) (h : Passes c witness y message root buffer M tau n) where
+module _ (c : Circuit) (witness y message root salt buffer : List ℕ) (M tau n : ℕ) (h : Passes c witness y message root salt buffer M tau n) where
   -- y has its length and no unused bit set
   y-size : length y ≡ oct (length (c .outputs))
   y-size = ap length (sym (h .gives)) ∙ length-pack (evaluate c (bitAt witness)) ∙ ap oct (outputs-length c witness)
@@ -50,8 +51,8 @@ module _ (c : Circuit) (witness y message root buffer : List ℕ) (M tau n : ℕ
   unfolding witnesses
   y-given = eq-same (pack (evaluate c (bitAt witness))) y (h .gives)
 
-  legal-writes : (s : List ℕ) → proveLegal s witness y message root M tau n buffer c
-      ≡ written (proofOf c M tau n witness (statementOf M tau n s y message) root) buffer
+  legal-writes : (s : List ℕ) → proveLegal s witness y message root salt M tau n buffer c
+      ≡ written (proofOf c M tau n salt witness (statementOf salt M tau n s y message) root) buffer
   unfolding proveLegal
   legal-writes s =
       rw (
@@ -61,6 +62,7 @@ module _ (c : Circuit) (witness y message root buffer : List ℕ) (M tau n : ℕ
         eq-eqb (length y) _ y-size,
         le-leb (length message) 4096 (h .short),
         eq-eqb (length root) 16 (h .rootSize),
+        eq-eqb (length salt) 32 (h .saltSize),
         le-leb (proofRoom c M tau n) (length buffer) (h .room),
         h .unused,
         y-unused,
@@ -69,18 +71,18 @@ module _ (c : Circuit) (witness y message root buffer : List ℕ) (M tau n : ℕ
 
   -- prove writes the proof, and leaves its work buffer all zero
   pub prove-writes : (s work : List ℕ) → readCircuit s ≡ legal c → workBytes c ≤ length work
-      → proveOp s witness y message root M tau n buffer work
-      ≡ leaving (written (proofOf c M tau n witness (statementOf M tau n s y message) root) buffer) (replicate (length work) 0)
+      → proveOp s witness y message root salt M tau n buffer work
+      ≡ leaving (written (proofOf c M tau n salt witness (statementOf salt M tau n s y message) root) buffer) (replicate (length work) 0)
   unfolding proveOp
   prove-writes s work e long =
-      work-enough s c (buffer ∷ []) work (proveLegal s witness y message root M tau n buffer) e long
+      work-enough s c (buffer ∷ []) work (proveLegal s witness y message root salt M tau n buffer) e long
       ∙ ap (λ (o : Outcome). leaving o (replicate (length work) 0)) (legal-writes s)
 
   -- and answers its length
   pub prove-answers : (s work : List ℕ) → readCircuit s ≡ legal c → workBytes c ≤ length work
-      → proveOp s witness y message root M tau n buffer work .answer
-      ≡ success (proofBytes c M n (challenged M tau n (firstMessage c M n witness (masterOf M root)) (statementOf M tau n s y message)) ∷ [])
+      → proveOp s witness y message root salt M tau n buffer work .answer
+      ≡ success (proofBytes c M n (challenged M tau n (firstMessage c M n salt witness (masterOf M salt root)) (statementOf salt M tau n s y message)) ∷ [])
   unfolding written
   prove-answers s work e long =
       ap (λ (o : Outcome). o .answer) (prove-writes s work e long)
-      ∙ ap (λ (k : ℕ). success (k ∷ [])) (length-proof c M tau n witness (statementOf M tau n s y message) root (h .rootSize))
+      ∙ ap (λ (k : ℕ). success (k ∷ [])) (length-proof c M tau n salt witness (statementOf salt M tau n s y message) root (h .saltSize) (h .rootSize))

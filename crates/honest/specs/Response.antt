@@ -1,5 +1,5 @@
 -- What the prover sends in Round 3 of Figure 2 (source document 001), and its bytes in the proof file (document 01, "Proof file";
--- document 02, order 5).
+-- document 02, orders 5 and 10).
 -- Assumes nothing.
 use mathlib.Core.Path.{_≡_}
 use mathlib.Core.Bool.{true, cond}
@@ -47,20 +47,21 @@ unfoldable pub answered : Sent → Asked
 answered (unchosen u) = opened
 answered (chosen p x) = hiding p
 
--- "M u16, τ u16, n u8, zero u8, h* (32)"
+-- "M u16, τ u16, n u8, zero u8, h* (32)"; "The salt is written after h* in the header" (document 02, order 10)
 pub record Header : Type 0 where
   pub M : ℕ
   pub tau : ℕ
   pub n : ℕ
   pub hstar : List ℕ
+  pub salt : List ℕ
 
 -- its numbers fit their bytes
 abbrev pub HeaderFits : Header → Type 0
-HeaderFits h = (h .M < 65536) × (h .tau < 65536) × (length (h .hstar) ≡ 32)
+HeaderFits h = (h .M < 65536) × (h .tau < 65536) × (length (h .hstar) ≡ 32) × (length (h .salt) ≡ 32)
 
 -- its bytes
 unfoldable pub encodeHeader : Header → List ℕ
-encodeHeader h = leBytes 2 (h .M) ++ leBytes 2 (h .tau) ++ (h .n ∷ 0 ∷ []) ++ h .hstar
+encodeHeader h = leBytes 2 (h .M) ++ leBytes 2 (h .tau) ++ (h .n ∷ 0 ∷ []) ++ h .hstar ++ h .salt
 
 -- "stretches of instances not chosen keep only h'_j"; "Chosen: log2 n siblings of 16 bytes, corrections unless p = n − 1, com_p, masked
 -- inputs, broadcast row p."
@@ -72,19 +73,20 @@ encodeSent (chosen p x) = x .siblings ++ x .aux ++ x .com-p ++ x .masked ++ x .m
 unfoldable pub encode : Header → Response → List ℕ
 encode h r = encodeHeader h ++ r .nodes ++ flatten (tabulate (h .M) (λ j. encodeSent (r .sent j)))
 
--- the header at the front of a file: M, τ, n and the zero byte, h*
+-- the header at the front of a file: M, τ, n and the zero byte, h*, the salt
 unfoldable pub decodeHeader : List ℕ → Header
 decodeHeader file =
     let s₁ : List ℕ = drop 2 file in
     let s₂ : List ℕ = drop 2 s₁ in
     let s₃ : List ℕ = drop 2 s₂ in
-    record { M = leAt 2 file 0; tau = leAt 2 s₁ 0; n = getD s₂ 0 0; hstar = take 32 s₃ }
+    let s₄ : List ℕ = drop 32 s₃ in
+    record { M = leAt 2 file 0; tau = leAt 2 s₁ 0; n = getD s₂ 0 0; hstar = take 32 s₃; salt = take 32 s₄ }
 
--- the whole statement, with the header's M, τ and n: what the challenge of a file is bound to, under the circuit file s, y and message
+-- the whole statement, with the header's salt, M, τ and n: what the challenge of a file is bound to, under the circuit file s, y and message
 abbrev pub boundIn : List ℕ → List ℕ → List ℕ → List ℕ → List ℕ
 boundIn s y message file =
     let h : Header = decodeHeader file in
-    statementOf (h .M) (h .tau) (h .n) s y message
+    statementOf (h .salt) (h .M) (h .tau) (h .n) s y message
 
 -- "The check draws the challenge from the header's h*": what is asked of each instance
 abbrev pub challengeIn : List ℕ → List ℕ → ℕ → Asked

@@ -12,7 +12,7 @@ use Rattle.parties.specs.Parties.{isPartyCount}
 use Rattle.circuit.specs.Circuit.{Circuit}
 use Rattle.circuit.specs.File.{readCircuit, legal}
 use Rattle.circuit.specs.Operations.{workBytes}
-use Rattle.hashing.specs.Inputs.{challengeInput}
+use Rattle.hashing.specs.Inputs.{contextOf, challengeInput}
 use Rattle.choice.specs.Challenge.{maxInstances}
 use Rattle.seeds.specs.Operations.{maxMessage}
 use Rattle.cover.specs.Cover.{isAbove, opened as isOpened, OneAbove}
@@ -34,19 +34,19 @@ abbrev pub Accepted : List ℕ → List ℕ → List ℕ → List ℕ → List �
 Accepted s y message proof work = checkOp s y message proof work ≡ done (replicate (length work) 0 ∷ [])
 
 -- prove writes k bytes into a buffer, which then holds `left`, and leaves its work buffer all zero
-abbrev pub Proves : List ℕ → List ℕ → List ℕ → List ℕ → List ℕ → ℕ → ℕ → ℕ → List ℕ → List ℕ → ℕ → List ℕ → Type 0
-Proves s witness y message root M tau n buffer work k left =
-    proveOp s witness y message root M tau n buffer work ≡ record { answer = success (k ∷ []); left = left ∷ replicate (length work) 0 ∷ [] }
+abbrev pub Proves : List ℕ → List ℕ → List ℕ → List ℕ → List ℕ → List ℕ → ℕ → ℕ → ℕ → List ℕ → List ℕ → ℕ → List ℕ → Type 0
+Proves s witness y message root salt M tau n buffer work k left =
+    proveOp s witness y message root salt M tau n buffer work ≡ record { answer = success (k ∷ []); left = left ∷ replicate (length work) 0 ∷ [] }
 
 -- Theorem, every honest proof passes: where prove writes k bytes into a buffer, check accepts those bytes under the same circuit, y and
 -- message, with every work buffer that is long enough, whatever it holds
 abbrev pub Complete : Type 0
 Complete =
-    (s witness y message root buffer work left : List ℕ) (M tau n k : ℕ) → AllBytes witness
-    → Proves s witness y message root M tau n buffer work k left
+    (s witness y message root salt buffer work left : List ℕ) (M tau n k : ℕ) → AllBytes witness
+    → Proves s witness y message root salt M tau n buffer work k left
     → (c : Circuit) → readCircuit s ≡ legal c → (lent : List ℕ) → workBytes c ≤ length lent → Accepted s y message (take k left) lent
 
--- the header of a proof file: "11 a header under 38 bytes, out of limits or with its zero byte not 0"; "M is 2..512, τ 1..M−1, n 2, 4, 8
+-- the header of a proof file: "11 a header under 38 bytes" (by document 02, order 10, under 70), "out of limits or with its zero byte not 0"; "M is 2..512, τ 1..M−1, n 2, 4, 8
 -- or 16"
 pub record GoodHeader (proof : List ℕ) (header : Header) : Type 0 where
   pub size : headerBytes ≤ length proof
@@ -75,7 +75,7 @@ pub record Accepts (s y message proof : List ℕ) : Type 0 where
   pub unused : (j p : ℕ) (x : Chosen) → j < decodeHeader proof .M → decode circuit (boundIn s y message proof) proof .sent j ≡ chosen p x
       → UnusedZero circuit x
   -- "10 a replay with another output; 13 the recomputed h* differs"
-  pub verified : Verified circuit y (decodeHeader proof .hstar) (decodeHeader proof .M) (decodeHeader proof .n)
+  pub verified : Verified circuit y (decodeHeader proof .hstar) (decodeHeader proof .salt) (decodeHeader proof .M) (decodeHeader proof .n)
       (challengeIn (boundIn s y message proof) proof) (decode circuit (boundIn s y message proof) proof)
 
 -- Theorem, check is the published check: a proof is accepted exactly where that holds, with every work buffer that is long enough
@@ -95,11 +95,11 @@ pub record SeedsFollow (M : ℕ) (challenge : ℕ → Asked) : Type 0 where
 -- and none at or above another; and in the bytes that prove writes each seed*_j of step 2 is the master of its instance, from the root
 pub record SeedsFromCover : Type 0 where
   pub follow : (bound proof : List ℕ) → GoodHeader proof (decodeHeader proof) → SeedsFollow (decodeHeader proof .M) (challengeIn bound proof)
-  pub honest : (s witness y message root buffer work left : List ℕ) (M tau n k : ℕ) (c : Circuit) → readCircuit s ≡ legal c
-      → Proves s witness y message root M tau n buffer work k left
+  pub honest : (s witness y message root salt buffer work left : List ℕ) (M tau n k : ℕ) (c : Circuit) → readCircuit s ≡ legal c
+      → Proves s witness y message root salt M tau n buffer work k left
       → (j : ℕ) → j < M → challengeIn (boundIn s y message (take k left)) (take k left) j ≡ opened
-      → seed* M (challengeIn (boundIn s y message (take k left)) (take k left)) (decode c (boundIn s y message (take k left)) (take k left)) j
-      ≡ masterOf M root j
+      → seed* M salt (challengeIn (boundIn s y message (take k left)) (take k left)) (decode c (boundIn s y message (take k left)) (take k left)) j
+      ≡ masterOf M salt root j
 
 -- Theorem: every accepted file is the encoding of its header and its response, so that no byte of it is free; the list holds bytes, as a
 -- file does
@@ -125,7 +125,7 @@ abbrev pub MessagesAsSent : Type 0
 MessagesAsSent =
     (s y message proof work : List ℕ) (c : Circuit) → AllBytes proof → readCircuit s ≡ legal c → Accepted s y message proof work
     → (j p : ℕ) (x : Chosen) → j < decodeHeader proof .M → decode c (boundIn s y message proof) proof .sent j ≡ chosen p x
-    → msgs c (decodeHeader proof .n) j p x p ≡ x .msgs-p
+    → msgs c (decodeHeader proof .n) (contextOf (decodeHeader proof .salt) j) p x p ≡ x .msgs-p
 
 -- Theorem: the length of every accepted proof is the one its challenge implies
 abbrev pub AcceptedLength : Type 0
@@ -140,6 +140,7 @@ inputIn s y message file = challengeInput (decodeHeader file .hstar) (boundIn s 
 -- what two files with one challenge input have in common
 pub record OneStatement (s y message proof s′ y′ message′ proof′ : List ℕ) (c c′ : Circuit) : Type 0 where
   pub hstar : decodeHeader proof .hstar ≡ decodeHeader proof′ .hstar
+  pub salt : decodeHeader proof .salt ≡ decodeHeader proof′ .salt
   pub M : decodeHeader proof .M ≡ decodeHeader proof′ .M
   pub tau : decodeHeader proof .tau ≡ decodeHeader proof′ .tau
   pub n : decodeHeader proof .n ≡ decodeHeader proof′ .n
@@ -148,8 +149,8 @@ pub record OneStatement (s y message proof s′ y′ message′ proof′ : List 
   pub same-y : oct (length (c .outputs)) ≡ oct (length (c′ .outputs)) → y ≡ y′
   pub same-message : oct (length (c .outputs)) ≡ oct (length (c′ .outputs)) → message ≡ message′
 
--- Theorem, the challenge covers the statement (document 02, order 1): where two accepted files draw their challenges from one input, they have one h*, M, τ and
--- n, their circuit files have one SHA3-256, and, where the outputs of the circuits have equally many bytes, y and message are the same
+-- Theorem, the challenge covers the statement (document 02, orders 1 and 10): where two accepted files draw their challenges from one input, they have one h*, salt, M, τ
+-- and n, their circuit files have one SHA3-256, and, where the outputs of the circuits have equally many bytes, y and message are the same
 abbrev pub StatementCovered : Type 0
 StatementCovered =
     (s y message proof work s′ y′ message′ proof′ work′ : List ℕ) (c c′ : Circuit) → readCircuit s ≡ legal c → readCircuit s′ ≡ legal c′

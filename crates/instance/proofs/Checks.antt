@@ -11,6 +11,7 @@ use borrow.Rule.Slice.PartMut.{putMid, mid-len, drop-put}
 use lib.Dec.{eqb}
 use lib.ListN.{length, take, drop, replicate, length-drop}
 use lib.Seq.{take-all, take-at, drop-at, length-take-le}
+use Rattle.hashing.specs.declared.Context.{Context}
 use Rattle.bits.specs.Bits.{oct, unusedZero}
 use Rattle.parties.specs.Parties.{heightOf}
 use Rattle.circuit.specs.File.{circuitOf}
@@ -139,19 +140,19 @@ other-is : (p n : ℕ) (y x z : List ℕ) → (p + 1 ≡ n → ⊥) → y ≡ z 
 other-is p n y x z e q = rw (ne-eqb (suc p) n (λ t. e (add-one p ∙ t))) q
 
 -- the seeds that follow from a stretch
-pub seeds-opened : (n h j p : ℕ) → Tree n h → (part x : List ℕ) → x ≡ seedsBut n p j (openedBelow j h 1 p (take (16 * h) part)) → x ≡ openedSeeds n j p part
+pub seeds-opened : (n h : ℕ) (j : Context) (p : ℕ) → Tree n h → (part x : List ℕ) → x ≡ seedsBut n p j (openedBelow j h 1 p (take (16 * h) part)) → x ≡ openedSeeds n j p part
 unfolding openedSeeds siblingsPart
 seeds-opened n h j p tree part x q = q ∙ ap (λ (y : ℕ). seedsBut n p j (openedBelow j y 1 p (take (16 * y) part))) (tree .height)
 
 -- and the tapes, with row p hidden
-pub tapes-shown : (s : List ℕ) (n h j p : ℕ) → Tree n h → p < n → (part x : List ℕ)
+pub tapes-shown : (s : List ℕ) (n h : ℕ) (j : Context) (p : ℕ) → Tree n h → p < n → (part x : List ℕ)
     → x ≡ tapesBut (circuitOf s) n p j (seedsBut n p j (openedBelow j h 1 p (take (16 * h) part))) → x ≡ openedShowing (circuitOf s) n j p part .tapes
 unfolding openedShowing
 tapes-shown s n h j p tree few part x q =
     q ∙ ap (tapesBut (circuitOf s) n p j) (seeds-opened n h j p tree part _ refl) ∙ tapes-hidden (circuitOf s) n j (openedSeeds n j p part) p few
 
 -- the corrections of a stretch
-module _ (s : List ℕ) (i o g a : ℕ) (k : Known s (sized i o g a)) (n h j p : ℕ) (tree : Tree n h) (part : List ℕ)
+module _ (s : List ℕ) (i o g a : ℕ) (k : Known s (sized i o g a)) (n h : ℕ) (j : Context) (p : ℕ) (tree : Tree n h) (part : List ℕ)
     (size : length part ≡ stretchBytes (circuitOf s) n (hiding p)) where
   -- all zero where they are the hidden party's
   pub corrections-zero : (t : ℕ) (y : List ℕ) → p + 1 ≡ n → t ≡ oct a → y ≡ replicate t 0 → y ≡ openedShowing (circuitOf s) n j p part .corrections

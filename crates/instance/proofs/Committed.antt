@@ -11,6 +11,7 @@ use borrow.Author.Tests.{eq-eqb, ne-eqb}
 use lib.Dec.{eqb}
 use lib.ListN.{length, take, drop}
 use lib.Seq.{getD-drop}
+use Rattle.hashing.specs.declared.Context.{Context}
 use Rattle.bits.specs.Bits.{tabulate}
 use Rattle.bits.specs.Bytes.{leBytes, rowOf}
 use Rattle.bits.proofs.Little.{leBytes-lt}
@@ -22,6 +23,7 @@ use Rattle.keccak.proofs.Absorbing.{Bytes}
 use Rattle.keccak.proofs.Lengths.{length-sha3-256}
 use Rattle.hashing.specs.Inputs.{commitmentInput, ownCorrections, commitmentsInput}
 use Rattle.party.specs.Derive.{commitmentOf}
+use Rattle.instance.proofs.Hashed.{sha3-bytes}
 use Rattle.hashing.specs.Steps.{taken, given}
 use Rattle.hashing.proofs.Hashes.{bytes-append, bytes-one}
 use Rattle.hashing.proofs.Digests.{taken-more, taken-room, given-taken}
@@ -42,40 +44,11 @@ bytes-either : (b : Bool) (x y : List ℕ) → Bytes x → Bytes y → Bytes (co
 bytes-either true x y h k = h
 bytes-either false x y h k = k
 
--- a sponge gives bytes
-byte-low : (l : List ℕ) (k : ℕ) → byteAt l k < 256
-unfolding byteAt
-byte-low l k = mod-lt _ (omega arith)
-
-bytes-squeezed : (r d : ℕ) (s : Sponge) → Bytes (squeezes r d s)
-unfolding squeezes squeezeByte
-bytes-squeezed r zero s i = omega arith
-bytes-squeezed r (suc d) s zero = byte-low (turned r s .lanes) (turned r s .fill)
-bytes-squeezed r (suc d) s (suc i) = bytes-squeezed r d _ i
-
--- and so a digest is bytes
-bytes-digest : (M : List ℕ) → Bytes M → Bytes (sha3-256 M)
-unfolding given
-bytes-digest M h = rw (← given-taken M h) (bytes-squeezed 136 32 (padded 136 0x06 (taken M)))
-
--- what party i commits to is bytes
-module _ (j n i : ℕ) (seeds corrections : List ℕ) where
-  input-bytes : Bytes seeds → Bytes corrections
-      → Bytes (commitmentInput j n i (take 16 (rowOf seeds 32 i)) corrections (drop 16 (rowOf seeds 32 i)))
-  unfolding commitmentInput ownCorrections
-  input-bytes p q =
-      let head : List ℕ = 1 ∷ leBytes 2 j ++ leBytes 1 i in
-      let row : List ℕ = rowOf seeds 32 i in
-      let R : Bytes row = row-lt seeds 32 i p in
-      let H : Bytes head = bytes-append (1 ∷ leBytes 2 j) (leBytes 1 i) (bytes-append (1 ∷ []) (leBytes 2 j) (bytes-one 1 (omega arith)) (leBytes-lt 2 j)) (leBytes-lt 1 i) in
-      let own : List ℕ = cond (eqb (i + 1) n) corrections [] in
-      let O : Bytes own = bytes-either (eqb (i + 1) n) corrections [] q (λ k. omega arith) in
-      bytes-append ((head ++ take 16 row) ++ own) (drop 16 row) (bytes-append (head ++ take 16 row) own (bytes-append head (take 16 row) H (bytes-take 16 row R)) O) (bytes-drop 16 row R)
-
-  -- its commitment is 32 bytes
-  commitment-bytes : Bytes seeds → Bytes corrections → Bytes (commitmentOf j n i seeds corrections)
+-- the commitment of party i is 32 bytes
+module _ (j : Context) (n i : ℕ) (seeds corrections : List ℕ) where
+  commitment-bytes : Bytes (commitmentOf j n i seeds corrections)
   unfolding commitmentOf
-  commitment-bytes p q = bytes-digest (commitmentInput j n i (take 16 (rowOf seeds 32 i)) corrections (drop 16 (rowOf seeds 32 i))) (input-bytes p q)
+  commitment-bytes = sha3-bytes (commitmentInput j n i (take 16 (rowOf seeds 32 i)) corrections (drop 16 (rowOf seeds 32 i)))
 
   pub commitment-length : length (commitmentOf j n i seeds corrections) ≡ 32
   unfolding commitmentOf
@@ -124,7 +97,7 @@ module _ (j i : ℕ) (f : ℕ → List ℕ) (s : Sponge) (e : s ≡ taken (commi
       ∙ ap (λ (k : ℕ). sha3-256 (commitmentsInput j (flatten (tabulate k f)))) q))
 
 -- the commitments, with `theirs` as party p's
-module _ (j n p : ℕ) (theirs seeds corrections : List ℕ) where
+module _ (j : Context) (n p : ℕ) (theirs seeds corrections : List ℕ) where
   abbrev pub comAt : ℕ → List ℕ
   comAt i = cond (eqb i p) theirs (commitmentOf j n i seeds corrections)
 
@@ -134,6 +107,6 @@ module _ (j n p : ℕ) (theirs seeds corrections : List ℕ) where
   pub com-own : (i : ℕ) (c : List ℕ) → (i ≡ p → ⊥) → c ≡ commitmentOf j n i seeds corrections → c ≡ comAt i
   com-own i c e q = rw (ne-eqb i p e) q
 
-  pub com-bytes : Bytes theirs → Bytes seeds → Bytes corrections → (i : ℕ) → Bytes (comAt i)
-  com-bytes h k m i =
-      bytes-either (eqb i p) theirs (commitmentOf j n i seeds corrections) h (commitment-bytes j n i seeds corrections k m)
+  pub com-bytes : Bytes theirs → (i : ℕ) → Bytes (comAt i)
+  com-bytes h i =
+      bytes-either (eqb i p) theirs (commitmentOf j n i seeds corrections) h (commitment-bytes j n i seeds corrections)

@@ -9,6 +9,7 @@ use borrow.Rule.Slice.PartMut.{putMid, post-is, mid-len}
 use lib.Dec.{eqb, ltb}
 use lib.ListN.{length, take, drop, length-append, length-drop, drop-of-length-le}
 use lib.Seq.{take-at, drop-at, drop-drop}
+use Rattle.hashing.specs.declared.Context.{Context}
 use Rattle.bits.specs.Bits.{tabulate, oct, pack}
 use Rattle.parties.specs.Parties.{heightOf}
 use Rattle.circuit.specs.File.{circuitOf}
@@ -101,7 +102,7 @@ module _ (z : Sizes) (n p v : ℕ) (m : List ℕ) (sent : v ≡ cond (eqb (suc p
       ∙ sent-front (eqb (suc p) n) (oct (z .ands)) v (correctionsAt (layoutOf z)) m sent
 
   -- what is written of it is as stated, in the places that the code has
-  pub held-laid : (h j third : ℕ) (l : Layout) (at rows a b : ℕ) (master p0 z1 y p3 : List ℕ) → l ≡ layoutOf z → at ≡ correctionsAt l → rows ≡ rowsAt l
+  pub held-laid : (h : ℕ) (j : Context) (third : ℕ) (l : Layout) (at rows a b : ℕ) (master p0 z1 y p3 : List ℕ) → l ≡ layoutOf z → at ≡ correctionsAt l → rows ≡ rowsAt l
       → a ≡ seedsAt l n → b ≡ leavesAt l n → z1 ≡ siblingsBelow j h 1 p master
       → y ≡ commitmentOf j n p (take (b - a) (drop a m)) (take (rows - at) (drop at m)) → third ≡ heldBytes z n h p
       → p3 ≡ z1 ++ take (at + v - at) (drop at m) ++ y ++ drop third p0
@@ -138,7 +139,7 @@ stretch-size s z n h p k tree =
     ∙ ap₂ (size (z .ands) (z .inputs)) (circuit-outputs s (z .inputs) (z .outputs) (z .gates) (z .ands) k) (sym (tree .height))
 
 -- the stretch is as stated: of a memory m that holds the run
-pub stretch-made : (s : List ℕ) (z : Sizes) (n h j p : ℕ) (w master m x part : List ℕ) → p < n → Tree n h → Ran (circuitOf s) z n j w master m
+pub stretch-made : (s : List ℕ) (z : Sizes) (n h : ℕ) (j : Context) (p : ℕ) (w master m x part : List ℕ) → p < n → Tree n h → Ran (circuitOf s) z n j w master m
     → x ≡ masterMasked (circuitOf s) n j w master
     → part ≡ siblingsBelow j h 1 p master ++ sentCorrections n p (correctionsHeld z m)
     ++ commitmentOf j n p (seedsHeld z n m) (correctionsHeld z m) ++ x ++ rowSent z p m → part ≡ stretchOf (circuitOf s) n j w master (hiding p)
@@ -154,7 +155,7 @@ stretch-made s z n h j p w master m x part few tree ran ex q =
     (ran .row p few)
 
 -- the masked inputs x and the row r are written after the parts that need no run
-pub ran-laid : (z : Sizes) (n h j p third fourth k t : ℕ) (l : Layout) (master m p0 p1 p2 x r : List ℕ) → third ≡ heldBytes z n h p
+pub ran-laid : (z : Sizes) (n h : ℕ) (j : Context) (p third fourth k t : ℕ) (l : Layout) (master m p0 p1 p2 x r : List ℕ) → third ≡ heldBytes z n h p
     → p1 ≡ siblingsBelow j h 1 p master ++ sentCorrections n p (correctionsHeld z m)
     ++ commitmentOf j n p (seedsHeld z n m) (correctionsHeld z m) ++ drop (heldBytes z n h p) p0 → length p1 ≡ length p0 → third ≤ length p0
     → fourth ≡ third + length x → p2 ≡ take third p1 ++ x ++ drop (third + length x) p1 → length p2 ≤ fourth + k → l ≡ layoutOf z → t ≡ broadcastBytes z

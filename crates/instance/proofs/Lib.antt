@@ -2,6 +2,7 @@ pub mod Trees
 pub mod Written
 pub mod Seeded
 pub mod Tapes
+pub mod Hashed
 pub mod Committed
 pub mod Rooms
 pub mod Online

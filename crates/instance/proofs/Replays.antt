@@ -7,6 +7,7 @@ use Prim.Native.Nat.{ℕ, suc, _+_, _-_, _*_, _<_}
 use native.Mathlib.Omega.{arith}
 use lib.Dec.{eqb}
 use lib.ListN.{length, take, drop, replicate}
+use Rattle.hashing.specs.declared.Context.{Context}
 use Rattle.bits.specs.Bits.{oct, pack}
 use Rattle.bits.specs.Bytes.{sameBytes}
 use Rattle.parties.specs.Parties.{heightOf}
@@ -28,7 +29,7 @@ use Rattle.instance.proofs.Sent.{committed, seeds-part}
 use Rattle.instance.proofs.Checks.{sent-bytes, commitment-is, masked-are, row-is}
 
 -- a memory m that holds what a chosen instance's stretch shows
-module _ (s : List ℕ) (z : Sizes) (n h j p : ℕ) (m : List ℕ) (lent : Lent s z n h m) (few : p < n) (part : List ℕ)
+module _ (s : List ℕ) (z : Sizes) (n h : ℕ) (j : Context) (p : ℕ) (m : List ℕ) (lent : Lent s z n h m) (few : p < n) (part : List ℕ)
     (size : length part ≡ stretchBytes (circuitOf s) n (hiding p)) (x : ℕ) (sent : x ≡ cond (eqb (suc p) n) 0 (oct (z .ands)))
     (es : seedsHeld z n m ≡ openedSeeds n j p part) (et : tapesHeld z n m ≡ openedShowing (circuitOf s) n j p part .tapes)
     (ec : correctionsHeld z m ≡ openedShowing (circuitOf s) n j p part .corrections) where
@@ -49,13 +50,13 @@ module _ (s : List ℕ) (z : Sizes) (n h j p : ℕ) (m : List ℕ) (lent : Lent 
 
   -- h_j, in the places that the code has
   pub commitments-opened : (l : Layout) (a b at : ℕ) (r : List ℕ) → l ≡ layoutOf z → a ≡ seedsAt l n → b ≡ leavesAt l n → at ≡ correctionsAt l
-      → r ≡ commitmentsDigest j
+      → r ≡ commitmentsDigest (j .number)
       (committed n j p (take (16 * h + x + 32 - (16 * h + x)) (drop (16 * h + x) part)) (take (b - a) (drop a m)) (take (at + x - at) (drop at m)))
-      → r ≡ commitmentsDigest j (openedCommitments (circuitOf s) n j p part)
+      → r ≡ commitmentsDigest (j .number) (openedCommitments (circuitOf s) n j p part)
   unfolding openedCommitments
   commitments-opened l a b at r e ea eb et q =
       let d : at + x - at ≡ x = omega arith in
-      q ∙ ap (commitmentsDigest j)
+      q ∙ ap (commitmentsDigest (j .number))
       (ap (λ (t : List ℕ). committed n j p t (take (b - a) (drop a m)) (take (at + x - at) (drop at m)))
       (commitment-is s (z .inputs) (z .outputs) (z .gates) (z .ands) (lent .known) n h p (lent .tree) part size x sent)
       ∙ ap₂ (committed n j p (commitmentPart (circuitOf s) n p part)) (seeds-part z n l e m a b ea eb ∙ es)
@@ -88,10 +89,10 @@ module _ (s : List ℕ) (z : Sizes) (n h j p : ℕ) (m : List ℕ) (lent : Lent 
 
     -- h'_j
     pub rows-made : (v r : List ℕ) → v ≡ replayedMemory s z n p maskedLent rowLent m
-        → r ≡ onlineDigest j maskedLent (rowsSent (layoutOf z) n (broadcastBytes z) v) → r ≡ stretchOnline (circuitOf s) n j part (hiding p)
+        → r ≡ onlineDigest (j .number) maskedLent (rowsSent (layoutOf z) n (broadcastBytes z) v) → r ≡ stretchOnline (circuitOf s) n j part (hiding p)
     unfolding stretchOnline openedRun
     rows-made v r e q =
-        q ∙ ap₂ (onlineDigest j)
+        q ∙ ap₂ (onlineDigest (j .number))
         (masked-are s (z .inputs) (z .outputs) (z .gates) (z .ands) (lent .known) n h p (lent .tree) part size x sent y ins)
         (ap (rowsSent (layoutOf z) n (broadcastBytes z)) e ∙ rows-replayed s z n m (lent-held s z n h m lent) p maskedLent rowLent few
         ∙ ap (λ (d : Showing). rowsOf n (replayOf (circuitOf s) n p d)) lent-shown)

@@ -9,6 +9,7 @@ use borrow.Author.Tests.{eq-eqb, ne-eqb}
 use lib.Dec.{eqb}
 use lib.ListN.{length, take, drop, replicate, length-replicate}
 use lib.Seq.{sets, length-sets, take-take}
+use Rattle.hashing.specs.declared.Context.{Context}
 use Rattle.bits.specs.Bits.{tabulate, oct}
 use Rattle.bits.specs.Bytes.{rowOf}
 use Rattle.keccak.proofs.Lengths.{length-shake128}
@@ -46,7 +47,7 @@ module _ (n h : ℕ) (tree : Tree n h) where
   tree-small = omega (arith, tree-few, tree-leaves)
 
 -- the seeds of all parties but p
-module _ (p j : ℕ) (leaves : List ℕ) where
+module _ (p : ℕ) (j : Context) (leaves : List ℕ) where
   -- party i's
   abbrev pub seedBut : ℕ → List ℕ
   seedBut i = cond (eqb i p) (replicate 32 0) (seedRow j i (rowOf leaves 16 i))
@@ -71,7 +72,7 @@ module _ (p j : ℕ) (leaves : List ℕ) where
   seeds-end n i to m w e h = h ∙ ap (λ (k : ℕ). sets m to (flatten (tabulate k seedBut))) e
 
 -- leaf i, which stands in the memory after the seeds
-pub leaf-read : (n p j i a to : ℕ) (m w leaf : List ℕ) → i < n → a + 16 * n ≤ length m → to + 32 * n ≤ a
+pub leaf-read : (n p : ℕ) (j : Context) (i a to : ℕ) (m w leaf : List ℕ) → i < n → a + 16 * n ≤ length m → to + 32 * n ≤ a
     → w ≡ sets m to (flatten (tabulate i (seedBut p j (take (16 * n) (drop a m))))) → leaf ≡ take 16 (drop (a + 16 * i) w)
     → leaf ≡ rowOf (take (16 * n) (drop a m)) 16 i
 leaf-read n p j i a to m w leaf h l q e d =
@@ -83,7 +84,7 @@ leaf-read n p j i a to m w leaf h l q e d =
     ∙ ap (λ (k : ℕ). rowOf (take k (drop a m)) 16 i) y
 
 -- the tapes of all parties but p
-module _ (c : Circuit) (n p j : ℕ) (seeds : List ℕ) where
+module _ (c : Circuit) (n p : ℕ) (j : Context) (seeds : List ℕ) where
   -- party i's
   abbrev pub tapeBut : ℕ → List ℕ
   tapeBut i = cond (eqb i p) (replicate (rowBytes c) 0) (derive.tapeRow j i (seedOf seeds i) (usedBits c n i) (rowBytes c))
@@ -111,7 +112,7 @@ module _ (c : Circuit) (n p j : ℕ) (seeds : List ℕ) where
   tapes-end i to m w e h = h ∙ ap (λ (k : ℕ). sets m to (flatten (tabulate k tapeBut))) e
 
 -- seed i, which stands in the memory after the tapes
-pub seed-read : (c : Circuit) (n p j i a to len : ℕ) (m w seed : List ℕ) → len ≡ rowBytes c → i < n → a + 32 * n ≤ length m → to + i * len ≤ a
+pub seed-read : (c : Circuit) (n p : ℕ) (j : Context) (i a to len : ℕ) (m w seed : List ℕ) → len ≡ rowBytes c → i < n → a + 32 * n ≤ length m → to + i * len ≤ a
     → w ≡ sets m to (flatten (tabulate i (tapeBut c n p j (take (32 * n) (drop a m))))) → seed ≡ take 16 (drop (a + 32 * i) w)
     → seed ≡ seedOf (take (32 * n) (drop a m)) i
 seed-read c n p j i a to len m w seed v h l q e d =
@@ -131,7 +132,7 @@ used-is s i o g a known n k used e =
     e ∙ sym (ap₂ (λ (x y : ℕ). cond (eqb (suc k) n) (x + y) (x + 2 * y)) (circuit-inputs s i o g a known) (circuit-ands s i o g a known))
 
 -- leaves, seeds and tapes are written one after the other, each before what it is made of
-module _ (c : Circuit) (n p j leaves seeds rows : ℕ) (m m₁ m₂ m₃ L : List ℕ) (size : length L ≡ 16 * n) (fits : leaves + 16 * n ≤ length m)
+module _ (c : Circuit) (n p : ℕ) (j : Context) (leaves seeds rows : ℕ) (m m₁ m₂ m₃ L : List ℕ) (size : length L ≡ 16 * n) (fits : leaves + 16 * n ≤ length m)
     (low : seeds + 32 * n ≤ leaves) (below : rows + n * rowBytes c ≤ seeds) (e₁ : m₁ ≡ sets m leaves L)
     (e₂ : m₂ ≡ sets m₁ seeds (seedsBut n p j (take (16 * n) (drop leaves m₁))))
     (e₃ : m₃ ≡ sets m₂ rows (tapesBut c n p j (take (32 * n) (drop seeds m₂)))) where
@@ -165,16 +166,16 @@ module _ (c : Circuit) (n p j leaves seeds rows : ℕ) (m m₁ m₂ m₃ L : Lis
       ∙ sets-here m₂ rows (n * rowBytes c) T (tapes-size c n p j S) (omega (arith, length₂))
 
 -- no party is left out
-pub seeds-all : (n j : ℕ) (leaves : List ℕ) → seedsBut n n j leaves ≡ seedsOf n j leaves
+pub seeds-all : (n : ℕ) (j : Context) (leaves : List ℕ) → seedsBut n n j leaves ≡ seedsOf n j leaves
 unfolding seedsBut seedsOf
 seeds-all n j leaves = row-kept n (λ i. seedRow j i (rowOf leaves 16 i)) (replicate 32 0)
 
-pub tapes-all : (c : Circuit) (n j : ℕ) (seeds : List ℕ) → tapesBut c n n j seeds ≡ tapesOf c n j seeds
+pub tapes-all : (c : Circuit) (n : ℕ) (j : Context) (seeds : List ℕ) → tapesBut c n n j seeds ≡ tapesOf c n j seeds
 unfolding tapesBut tapesOf
 tapes-all c n j seeds = row-kept n (λ i. derive.tapeRow j i (seedOf seeds i) (usedBits c n i) (rowBytes c)) (replicate (rowBytes c) 0)
 
 -- a master's leaves give its seeds and its tapes
-module _ (n j h : ℕ) (master L : List ℕ) (e : h ≡ heightOf n) (d : L ≡ leavesBelow j h 1 master) where
+module _ (n : ℕ) (j : Context) (h : ℕ) (master L : List ℕ) (e : h ≡ heightOf n) (d : L ≡ leavesBelow j h 1 master) where
   pub master-seeds : seedsBut n n j L ≡ masterSeeds n j master
   unfolding masterSeeds leavesOf
   master-seeds = seeds-all n j L ∙ ap (seedsOf n j) (d ∙ ap (λ (k : ℕ). leavesBelow j k 1 master) e)
@@ -210,7 +211,7 @@ module _ (s : List ℕ) (z : Sizes) (n h : ℕ) (m : List ℕ) (lent : Lent s z 
     tapes-fit = omega (arith, er ∙ ap (λ (x : Layout). rowsAt x) e, es ∙ ap (λ (x : Layout). seedsAt x n) e)
 
     -- what is held when they are written
-    module _ (p j : ℕ) (m₁ m₂ m₃ L : List ℕ) (size : length L ≡ 16 * n) (e₁ : m₁ ≡ sets m leaves L)
+    module _ (p : ℕ) (j : Context) (m₁ m₂ m₃ L : List ℕ) (size : length L ≡ 16 * n) (e₁ : m₁ ≡ sets m leaves L)
         (e₂ : m₂ ≡ sets m₁ seeds (seedsBut n p j (take (16 * n) (drop leaves m₁))))
         (e₃ : m₃ ≡ sets m₂ rows (tapesBut (circuitOf s) n p j (take (32 * n) (drop seeds m₂)))) where
       row : rowBytes (circuitOf s) ≡ oct (z .inputs + 2 * z .ands)

@@ -9,6 +9,7 @@ use borrow.Author.Tests.{ne-eqb}
 use lib.Dec.{eqb, ltb}
 use lib.ListN.{length, take, drop, replicate, length-replicate}
 use lib.Seq.{sets, length-take-le, take-at, length-front}
+use Rattle.hashing.specs.declared.Context.{Context}
 use Rattle.bits.specs.Bits.{tabulate, oct, pack}
 use Rattle.bits.proofs.Copies.{prefix-length}
 use Rattle.bits.proofs.Tabulate.{tabulate-cong}
@@ -58,7 +59,7 @@ module _ (s : List ℕ) (z : Sizes) (n h : ℕ) (m : List ℕ) (lent : Lent s z 
   tapes-made x d = part-kept (rowsAt (layoutOf z)) (rowsAt (layoutOf z)) (n * oct (z .inputs + 2 * z .ands)) m w (omega arith) after ∙ d
 
   -- the corrections follow from the tapes
-  pub corrections-made : (j : ℕ) (master : List ℕ) → tapesHeld z n m ≡ masterTapes (circuitOf s) n j master
+  pub corrections-made : (j : Context) (master : List ℕ) → tapesHeld z n m ≡ masterTapes (circuitOf s) n j master
       → correctionsHeld z w ≡ masterCorrections (circuitOf s) n j master
   unfolding masterTapes masterCorrections
   corrections-made j master d =
@@ -70,11 +71,11 @@ module _ (s : List ℕ) (z : Sizes) (n h : ℕ) (m : List ℕ) (lent : Lent s z 
       (tapes-unused (circuitOf s) n j (masterSeeds n j master) n (omega arith))
 
 -- the commitments of n parties, with another for party p
-abbrev pub committed : (n j p : ℕ) → List ℕ → List ℕ → List ℕ → List ℕ
+abbrev pub committed : (n : ℕ) (j : Context) (p : ℕ) → List ℕ → List ℕ → List ℕ → List ℕ
 committed n j p theirs seeds corr = flatten (tabulate n (λ i. cond (eqb i p) theirs (commitmentOf j n i seeds corr)))
 
 -- with no other
-committed-all : (n j : ℕ) (theirs seeds corr : List ℕ) → committed n j n theirs seeds corr ≡ commitmentsOf n j seeds corr
+committed-all : (n : ℕ) (j : Context) (theirs seeds corr : List ℕ) → committed n j n theirs seeds corr ≡ commitmentsOf n j seeds corr
 unfolding commitmentsOf
 committed-all n j theirs seeds corr =
     ap flatten
@@ -94,23 +95,23 @@ module _ (z : Sizes) (n : ℕ) (l : Layout) (e : l ≡ layoutOf z) (m : List ℕ
       ap₂ (λ (x y : ℕ). take x (drop y m)) d (ea ∙ ap correctionsAt e)
 
   -- h_j of what is held
-  pub commitments-held : (j a b c d : ℕ) (theirs r : List ℕ) → a ≡ seedsAt l n → b ≡ leavesAt l n → c ≡ correctionsAt l → d ≡ rowsAt l
-      → r ≡ commitmentsDigest j (committed n j n theirs (take (b - a) (drop a m)) (take (d - c) (drop c m)))
-      → r ≡ commitmentsDigest j (commitmentsOf n j (seedsHeld z n m) (correctionsHeld z m))
+  pub commitments-held : (j : Context) (a b c d : ℕ) (theirs r : List ℕ) → a ≡ seedsAt l n → b ≡ leavesAt l n → c ≡ correctionsAt l → d ≡ rowsAt l
+      → r ≡ commitmentsDigest (j .number) (committed n j n theirs (take (b - a) (drop a m)) (take (d - c) (drop c m)))
+      → r ≡ commitmentsDigest (j .number) (commitmentsOf n j (seedsHeld z n m) (correctionsHeld z m))
   commitments-held j a b c d theirs r ea eb ec ed q =
-      q ∙ ap (commitmentsDigest j)
+      q ∙ ap (commitmentsDigest (j .number))
       (committed-all n j theirs (take (b - a) (drop a m)) (take (d - c) (drop c m))
       ∙ ap₂ (commitmentsOf n j) (seeds-part a b ea eb) (corrections-part c d ec ed))
 
 -- h_j from a master
-pub commitments-made : (s : List ℕ) (z : Sizes) (n j : ℕ) (master m r : List ℕ) → seedsHeld z n m ≡ masterSeeds n j master
+pub commitments-made : (s : List ℕ) (z : Sizes) (n : ℕ) (j : Context) (master m r : List ℕ) → seedsHeld z n m ≡ masterSeeds n j master
     → correctionsHeld z m ≡ masterCorrections (circuitOf s) n j master
-    → r ≡ commitmentsDigest j (commitmentsOf n j (seedsHeld z n m) (correctionsHeld z m)) → r ≡ masterCommitments (circuitOf s) n j master
+    → r ≡ commitmentsDigest (j .number) (commitmentsOf n j (seedsHeld z n m) (correctionsHeld z m)) → r ≡ masterCommitments (circuitOf s) n j master
 unfolding masterCommitments
-commitments-made s z n j master m r e d q = q ∙ ap (commitmentsDigest j) (ap₂ (commitmentsOf n j) e d)
+commitments-made s z n j master m r e d q = q ∙ ap (commitmentsDigest (j .number)) (ap₂ (commitmentsOf n j) e d)
 
 -- the run in a memory that holds the tapes that a master gives
-module _ (s : List ℕ) (z : Sizes) (n h j : ℕ) (master m : List ℕ) (lent : Lent s z n h m) (w : List ℕ)
+module _ (s : List ℕ) (z : Sizes) (n h : ℕ) (j : Context) (master m : List ℕ) (lent : Lent s z n h m) (w : List ℕ)
     (et : tapesHeld z n m ≡ masterTapes (circuitOf s) n j master) where
   -- their unused bits are zero
   pub clean : unusedRows (circuitOf s) n (tapesHeld z n m) n ≡ true
@@ -139,10 +140,10 @@ module _ (s : List ℕ) (z : Sizes) (n h j : ℕ) (master m : List ℕ) (lent : 
       }
 
 -- h'_j
-pub online-made : (s : List ℕ) (z : Sizes) (n j : ℕ) (w master x v r : List ℕ) → x ≡ masterMasked (circuitOf s) n j w master
-    → Ran (circuitOf s) z n j w master v → r ≡ onlineDigest j x (rowsSent (layoutOf z) n (broadcastBytes z) v) → r ≡ masterOnline (circuitOf s) n j w master
+pub online-made : (s : List ℕ) (z : Sizes) (n : ℕ) (j : Context) (w master x v r : List ℕ) → x ≡ masterMasked (circuitOf s) n j w master
+    → Ran (circuitOf s) z n j w master v → r ≡ onlineDigest (j .number) x (rowsSent (layoutOf z) n (broadcastBytes z) v) → r ≡ masterOnline (circuitOf s) n j w master
 unfolding masterOnline
-online-made s z n j w master x v r ex ran q = q ∙ ap₂ (onlineDigest j) ex (ran .rows)
+online-made s z n j w master x v r ex ran q = q ∙ ap₂ (onlineDigest (j .number)) ex (ran .rows)
 
 -- the sizes of an instance's arrays
 pub few-masked : (s : List ℕ) (z : Sizes) (r : ℕ) → Known s z → r ≡ oct (z .inputs) → r ≤ 64

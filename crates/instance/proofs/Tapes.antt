@@ -6,6 +6,7 @@ use mathlib.Core.List.{List}
 use Prim.Native.Nat.{ℕ, zero, suc, _≤_, _<_}
 use native.Mathlib.Omega.{arith}
 use lib.ListN.{replicate}
+use Rattle.hashing.specs.declared.Context.{Context}
 use Rattle.bits.proofs.Rows.{row-tabulate}
 use Rattle.circuit.specs.Circuit.{Circuit}
 use Rattle.plain.specs.Tapes.{rowBytes, tapeRow, usedBits, unusedRows, withRow}
@@ -16,7 +17,7 @@ use Rattle.instance.specs.Instance.{seedOf, tapesOf}
 use Rattle.instance.specs.Steps.{tapesBut}
 use Rattle.instance.proofs.Written.{row-changed}
 
-module _ (c : Circuit) (n j : ℕ) (seeds : List ℕ) where
+module _ (c : Circuit) (n : ℕ) (j : Context) (seeds : List ℕ) where
   -- party i's tape
   abbrev pub tapeFrom : ℕ → List ℕ
   tapeFrom i = derive.tapeRow j i (seedOf seeds i) (usedBits c n i) (rowBytes c)

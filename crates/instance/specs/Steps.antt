@@ -6,6 +6,7 @@ use mathlib.Core.List.{List, flatten}
 use Prim.Native.Nat.{ℕ, suc, _+_, _*_, _≤_, _<_}
 use lib.Dec.{eqb, ltb}
 use lib.ListN.{length, take, drop, replicate}
+use Rattle.hashing.specs.declared.Context.{Context}
 use Rattle.bits.specs.Bits.{tabulate, oct, pack}
 use Rattle.parties.specs.Parties.{heightOf, isPartyCount}
 use Rattle.circuit.specs.Circuit.{Circuit}
@@ -36,7 +37,7 @@ abbrev pub seedsHeld : Sizes → ℕ → List ℕ → List ℕ
 seedsHeld z n m = take (32 * n) (drop (seedsAt (layoutOf z) n) m)
 
 -- the tape rows of all parties but p, whose row is zero, from their seeds
-unfoldable pub tapesBut : Circuit → ℕ → ℕ → ℕ → List ℕ → List ℕ
+unfoldable pub tapesBut : Circuit → ℕ → ℕ → Context → List ℕ → List ℕ
 tapesBut c n p j seeds =
     flatten (tabulate n (λ i. cond (eqb i p) (replicate (rowBytes c) 0) (derive.tapeRow j i (seedOf seeds i) (usedBits c n i) (rowBytes c))))
 
@@ -49,7 +50,7 @@ unfoldable pub rowSent : Sizes → ℕ → List ℕ → List ℕ
 rowSent z p m = pack (tabulate (8 * broadcastBytes z) (λ t. ltb t (z .ands + z .outputs) && sentBit (layoutOf z) m p t))
 
 -- the memory holds an instance's run on a witness, with what its master gives: seeds, corrections, and broadcasts
-pub record Ran (c : Circuit) (z : Sizes) (n j : ℕ) (witness master m : List ℕ) : Type 0 where
+pub record Ran (c : Circuit) (z : Sizes) (n : ℕ) (j : Context) (witness master m : List ℕ) : Type 0 where
   pub seeds : seedsHeld z n m ≡ masterSeeds n j master
   pub corrections : correctionsHeld z m ≡ masterCorrections c n j master
   pub rows : rowsSent (layoutOf z) n (broadcastBytes z) m ≡ rowsOf n (masterRun c n j witness master)

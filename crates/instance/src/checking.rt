@@ -33,7 +33,7 @@ use walk::layout;
 // h_j of an instance that is not chosen, from its master. What then stands in the memory is not told.
 pub fn reopen(s: &[u8], z: Sizes, inst: Instance, master: &[u8], memory: &mut [u8]) -> [u8; 32]
     requires { ⌜ Lent (now s) z (inst .parties) (inst .height) (now memory) × (length (now master) ≡ 16) ⌝ }
-    ensures { λ r. ⌜ r ≡ masterCommitments (circuitOf (now (s .entry))) (inst .parties) (inst .number) (now (master .entry)) ⌝ }
+    ensures { λ r. ⌜ r ≡ masterCommitments (circuitOf (now (s .entry))) (inst .parties) (inst .context) (now (master .entry)) ⌝ }
 {
     from_master(s, z, inst, master, memory);
     commit_held(z, inst, memory)
@@ -73,9 +73,9 @@ pub(crate) fn reopen_parties(
     memory: &mut [u8],
 )
     requires { ⌜ Lent (now s) z (inst .parties) (inst .height) (now memory) × ((p < inst .parties) × (length (now part) ≡ stretchBytes (circuitOf (now s)) (inst .parties) (hiding p))) ⌝ }
-    ensures { λ _. ⌜ seedsHeld z (inst .parties) (now (memory .exit)) ≡ openedSeeds (inst .parties) (inst .number) p (now (part .entry)) ⌝ }
-    ensures { λ _. ⌜ tapesHeld z (inst .parties) (now (memory .exit)) ≡ openedShowing (circuitOf (now (s .entry))) (inst .parties) (inst .number) p (now (part .entry)) .tapes ⌝ }
-    ensures { λ _. ⌜ correctionsHeld z (now (memory .exit)) ≡ openedShowing (circuitOf (now (s .entry))) (inst .parties) (inst .number) p (now (part .entry)) .corrections ⌝ }
+    ensures { λ _. ⌜ seedsHeld z (inst .parties) (now (memory .exit)) ≡ openedSeeds (inst .parties) (inst .context) p (now (part .entry)) ⌝ }
+    ensures { λ _. ⌜ tapesHeld z (inst .parties) (now (memory .exit)) ≡ openedShowing (circuitOf (now (s .entry))) (inst .parties) (inst .context) p (now (part .entry)) .tapes ⌝ }
+    ensures { λ _. ⌜ correctionsHeld z (now (memory .exit)) ≡ openedShowing (circuitOf (now (s .entry))) (inst .parties) (inst .context) p (now (part .entry)) .corrections ⌝ }
 {
     let n = inst.parties;
     let first = 16 * (inst.height as usize);
@@ -102,9 +102,9 @@ pub fn replay(
     memory: &mut [u8],
 ) -> Replayed
     requires { ⌜ Lent (now s) z (inst .parties) (inst .height) (now memory) × ((p < inst .parties) × ((length (now part) ≡ stretchBytes (circuitOf (now s)) (inst .parties) (hiding p)) × (stretchUnused (circuitOf (now s)) (inst .parties) (now part) (hiding p) ≡ true))) ⌝ }
-    ensures { λ r. ⌜ (r .agrees ≡ stretchOutput (circuitOf (now (s .entry))) (inst .parties) (inst .number) (now (y .entry)) (now (part .entry)) (hiding p)) × ((r .commitments ≡ commitmentsDigest (inst .number) (openedCommitments (circuitOf (now (s .entry))) (inst .parties) (inst .number) p (now (part .entry)))) × (r .online ≡ stretchOnline (circuitOf (now (s .entry))) (inst .parties) (inst .number) (now (part .entry)) (hiding p))) ⌝ }
+    ensures { λ r. ⌜ (r .agrees ≡ stretchOutput (circuitOf (now (s .entry))) (inst .parties) (inst .context) (now (y .entry)) (now (part .entry)) (hiding p)) × ((r .commitments ≡ commitmentsDigest (inst .context .number) (openedCommitments (circuitOf (now (s .entry))) (inst .parties) (inst .context) p (now (part .entry)))) × (r .online ≡ stretchOnline (circuitOf (now (s .entry))) (inst .parties) (inst .context) (now (part .entry)) (hiding p))) ⌝ }
 {
-    let j = inst.number;
+    let j = inst.context.number;
     let n = inst.parties;
     let k = n as usize;
     let l = layout(z);

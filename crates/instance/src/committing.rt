@@ -33,11 +33,11 @@ pub(crate) fn commit(
     corrections: &[u8],
 ) -> [u8; 32]
     requires { ⌜ (inst .parties ≤ 16) × (length (now seeds) ≡ 32 * inst .parties) ⌝ }
-    ensures { λ r. ⌜ r ≡ commitmentsDigest (inst .number) (flatten (tabulate (inst .parties) (λ i. cond (eqb i p) (now (theirs .entry)) (commitmentOf (inst .number) (inst .parties) i (now (seeds .entry)) (now (corrections .entry)))))) ⌝ }
+    ensures { λ r. ⌜ r ≡ commitmentsDigest (inst .context .number) (flatten (tabulate (inst .parties) (λ i. cond (eqb i p) (now (theirs .entry)) (commitmentOf (inst .context) (inst .parties) i (now (seeds .entry)) (now (corrections .entry)))))) ⌝ }
 {
-    let j = inst.number;
+    let j = inst.context;
     let n = inst.parties;
-    let mut s = start_commitments(j);
+    let mut s = start_commitments(j.number);
     let mut i = 0;
     while i < n {
         if i == p {

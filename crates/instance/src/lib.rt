@@ -4,9 +4,11 @@ pub mod committing;
 pub mod seeding;
 pub mod sending;
 
-// An instance: its number j, its parties n, and the height of their tree.
+use hashing::Context;
+
+// An instance: its number j with the salt of its proof, its parties n, and the height of their tree.
 pub struct Instance {
-    pub number: u32,
+    pub context: Context,
     pub parties: u32,
     pub height: u32,
 }

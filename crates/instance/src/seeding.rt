@@ -38,9 +38,9 @@ fn key(memory: &[u8], at: usize) -> [u8; 16]
 // The seed and r of each party but p (n for none), from the leaves, as rows from byte `to` of the memory on.
 fn seed_rows(inst: Instance, p: u32, leaves: usize, to: usize, memory: &mut [u8])
     requires { ⌜ (inst .parties ≤ 16) × ((to + 32 * inst .parties ≤ leaves) × (leaves + 16 * inst .parties ≤ length (now memory))) ⌝ }
-    ensures { λ _. ⌜ now (memory .exit) ≡ sets (now (memory .entry)) to (seedsBut (inst .parties) p (inst .number) (take (16 * inst .parties) (drop leaves (now (memory .entry))))) ⌝ }
+    ensures { λ _. ⌜ now (memory .exit) ≡ sets (now (memory .entry)) to (seedsBut (inst .parties) p (inst .context) (take (16 * inst .parties) (drop leaves (now (memory .entry))))) ⌝ }
 {
-    let j = inst.number;
+    let j = inst.context;
     let n = inst.parties;
     let mut i = 0;
     while i < n {
@@ -60,9 +60,9 @@ fn seed_rows(inst: Instance, p: u32, leaves: usize, to: usize, memory: &mut [u8]
 // The tape row of each party but p (n for none), from its seed, as rows from byte `to` of the memory on.
 fn tape_rows(s: &[u8], z: Sizes, inst: Instance, p: u32, seeds: usize, to: usize, memory: &mut [u8])
     requires { ⌜ Known (now s) z × ((inst .parties ≤ 16) × ((to + inst .parties * oct (z .inputs + 2 * z .ands) ≤ seeds) × (seeds + 32 * inst .parties ≤ length (now memory)))) ⌝ }
-    ensures { λ _. ⌜ now (memory .exit) ≡ sets (now (memory .entry)) to (tapesBut (circuitOf (now (s .entry))) (inst .parties) p (inst .number) (take (32 * inst .parties) (drop seeds (now (memory .entry))))) ⌝ }
+    ensures { λ _. ⌜ now (memory .exit) ≡ sets (now (memory .entry)) to (tapesBut (circuitOf (now (s .entry))) (inst .parties) p (inst .context) (take (32 * inst .parties) (drop seeds (now (memory .entry))))) ⌝ }
 {
-    let j = inst.number;
+    let j = inst.context;
     let n = inst.parties;
     let inputs = z.inputs;
     let ands = z.ands;
@@ -86,10 +86,10 @@ fn tape_rows(s: &[u8], z: Sizes, inst: Instance, p: u32, seeds: usize, to: usize
 // Brings the seeds and the tapes of all parties into the memory, from the master.
 pub(crate) fn hold_parties(s: &[u8], z: Sizes, inst: Instance, master: &[u8], memory: &mut [u8])
     requires { ⌜ Lent (now s) z (inst .parties) (inst .height) (now memory) × (length (now master) ≡ 16) ⌝ }
-    ensures { λ _. ⌜ seedsHeld z (inst .parties) (now (memory .exit)) ≡ masterSeeds (inst .parties) (inst .number) (now (master .entry)) ⌝ }
-    ensures { λ _. ⌜ tapesHeld z (inst .parties) (now (memory .exit)) ≡ masterTapes (circuitOf (now (s .entry))) (inst .parties) (inst .number) (now (master .entry)) ⌝ }
+    ensures { λ _. ⌜ seedsHeld z (inst .parties) (now (memory .exit)) ≡ masterSeeds (inst .parties) (inst .context) (now (master .entry)) ⌝ }
+    ensures { λ _. ⌜ tapesHeld z (inst .parties) (now (memory .exit)) ≡ masterTapes (circuitOf (now (s .entry))) (inst .parties) (inst .context) (now (master .entry)) ⌝ }
 {
-    let j = inst.number;
+    let j = inst.context;
     let n = inst.parties;
     let h = inst.height;
     let l = layout(z);
@@ -113,10 +113,10 @@ pub(crate) fn hold_opened(
     memory: &mut [u8],
 )
     requires { ⌜ Lent (now s) z (inst .parties) (inst .height) (now memory) × ((p < inst .parties) × (length (now siblings) ≡ 16 * inst .height)) ⌝ }
-    ensures { λ _. ⌜ seedsHeld z (inst .parties) (now (memory .exit)) ≡ seedsBut (inst .parties) p (inst .number) (openedBelow (inst .number) (inst .height) 1 p (now (siblings .entry))) ⌝ }
-    ensures { λ _. ⌜ tapesHeld z (inst .parties) (now (memory .exit)) ≡ tapesBut (circuitOf (now (s .entry))) (inst .parties) p (inst .number) (seedsBut (inst .parties) p (inst .number) (openedBelow (inst .number) (inst .height) 1 p (now (siblings .entry)))) ⌝ }
+    ensures { λ _. ⌜ seedsHeld z (inst .parties) (now (memory .exit)) ≡ seedsBut (inst .parties) p (inst .context) (openedBelow (inst .context) (inst .height) 1 p (now (siblings .entry))) ⌝ }
+    ensures { λ _. ⌜ tapesHeld z (inst .parties) (now (memory .exit)) ≡ tapesBut (circuitOf (now (s .entry))) (inst .parties) p (inst .context) (seedsBut (inst .parties) p (inst .context) (openedBelow (inst .context) (inst .height) 1 p (now (siblings .entry)))) ⌝ }
 {
-    let j = inst.number;
+    let j = inst.context;
     let n = inst.parties;
     let h = inst.height;
     let l = layout(z);

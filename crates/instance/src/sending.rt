@@ -36,9 +36,9 @@ use walk::layout;
 // Brings the seeds, the tapes and the corrections of instance j into the memory, from its master.
 pub(crate) fn from_master(s: &[u8], z: Sizes, inst: Instance, master: &[u8], memory: &mut [u8])
     requires { ⌜ Lent (now s) z (inst .parties) (inst .height) (now memory) × (length (now master) ≡ 16) ⌝ }
-    ensures { λ _. ⌜ seedsHeld z (inst .parties) (now (memory .exit)) ≡ masterSeeds (inst .parties) (inst .number) (now (master .entry)) ⌝ }
-    ensures { λ _. ⌜ tapesHeld z (inst .parties) (now (memory .exit)) ≡ masterTapes (circuitOf (now (s .entry))) (inst .parties) (inst .number) (now (master .entry)) ⌝ }
-    ensures { λ _. ⌜ correctionsHeld z (now (memory .exit)) ≡ masterCorrections (circuitOf (now (s .entry))) (inst .parties) (inst .number) (now (master .entry)) ⌝ }
+    ensures { λ _. ⌜ seedsHeld z (inst .parties) (now (memory .exit)) ≡ masterSeeds (inst .parties) (inst .context) (now (master .entry)) ⌝ }
+    ensures { λ _. ⌜ tapesHeld z (inst .parties) (now (memory .exit)) ≡ masterTapes (circuitOf (now (s .entry))) (inst .parties) (inst .context) (now (master .entry)) ⌝ }
+    ensures { λ _. ⌜ correctionsHeld z (now (memory .exit)) ≡ masterCorrections (circuitOf (now (s .entry))) (inst .parties) (inst .context) (now (master .entry)) ⌝ }
 {
     let n = inst.parties;
     let l = layout(z);
@@ -51,7 +51,7 @@ pub(crate) fn from_master(s: &[u8], z: Sizes, inst: Instance, master: &[u8], mem
 // h_j from the seeds and the corrections in the memory: of all parties.
 pub(crate) fn commit_held(z: Sizes, inst: Instance, memory: &[u8]) -> [u8; 32]
     requires { ⌜ Room (layoutOf z) (now memory) × ((inst .parties ≤ 16) × (heldEnd (layoutOf z) (inst .parties) ≤ length (now memory))) ⌝ }
-    ensures { λ r. ⌜ r ≡ commitmentsDigest (inst .number) (commitmentsOf (inst .parties) (inst .number) (seedsHeld z (inst .parties) (now (memory .entry))) (correctionsHeld z (now (memory .entry)))) ⌝ }
+    ensures { λ r. ⌜ r ≡ commitmentsDigest (inst .context .number) (commitmentsOf (inst .parties) (inst .context) (seedsHeld z (inst .parties) (now (memory .entry))) (correctionsHeld z (now (memory .entry)))) ⌝ }
 {
     let n = inst.parties;
     let l = layout(z);
@@ -82,8 +82,8 @@ pub(crate) fn run_master(
     memory: &mut [u8],
 )
     requires { ⌜ Lent (now s) z (inst .parties) (inst .height) (now memory) × (WitnessFits z (now witness) × ((length (now master) ≡ 16) × (length (now masked) ≡ oct (z .inputs)))) ⌝ }
-    ensures { λ _. ⌜ now (masked .exit) ≡ masterMasked (circuitOf (now (s .entry))) (inst .parties) (inst .number) (now (witness .entry)) (now (master .entry)) ⌝ }
-    ensures { λ _. ⌜ Ran (circuitOf (now (s .entry))) z (inst .parties) (inst .number) (now (witness .entry)) (now (master .entry)) (now (memory .exit)) ⌝ }
+    ensures { λ _. ⌜ now (masked .exit) ≡ masterMasked (circuitOf (now (s .entry))) (inst .parties) (inst .context) (now (witness .entry)) (now (master .entry)) ⌝ }
+    ensures { λ _. ⌜ Ran (circuitOf (now (s .entry))) z (inst .parties) (inst .context) (now (witness .entry)) (now (master .entry)) (now (memory .exit)) ⌝ }
 {
     let k = inst.parties as usize;
     let o = bits::oct(z.outputs);
@@ -102,9 +102,9 @@ pub fn digests(
     memory: &mut [u8],
 ) -> Digests
     requires { ⌜ Lent (now s) z (inst .parties) (inst .height) (now memory) × (WitnessFits z (now witness) × (length (now master) ≡ 16)) ⌝ }
-    ensures { λ r. ⌜ (r .commitments ≡ masterCommitments (circuitOf (now (s .entry))) (inst .parties) (inst .number) (now (master .entry))) × (r .online ≡ masterOnline (circuitOf (now (s .entry))) (inst .parties) (inst .number) (now (witness .entry)) (now (master .entry))) ⌝ }
+    ensures { λ r. ⌜ (r .commitments ≡ masterCommitments (circuitOf (now (s .entry))) (inst .parties) (inst .context) (now (master .entry))) × (r .online ≡ masterOnline (circuitOf (now (s .entry))) (inst .parties) (inst .context) (now (witness .entry)) (now (master .entry))) ⌝ }
 {
-    let j = inst.number;
+    let j = inst.context.number;
     let k = inst.parties as usize;
     let m = bits::oct(z.inputs);
     let mut masked = [0u8; 64];
@@ -140,9 +140,9 @@ pub(crate) fn send_held(
 ) -> usize
     requires { ⌜ Room (layoutOf z) (now memory) × ((heldEnd (layoutOf z) (inst .parties) ≤ length (now memory)) × ((z .ands ≤ maxGates) × (Tree (inst .parties) (inst .height) × ((p < inst .parties) × ((length (now master) ≡ 16) × (heldBytes z (inst .parties) (inst .height) p ≤ length (now part))))))) ⌝ }
     ensures { λ r. ⌜ r ≡ heldBytes z (inst .parties) (inst .height) p ⌝ }
-    ensures { λ _. ⌜ now (part .exit) ≡ siblingsBelow (inst .number) (inst .height) 1 p (now (master .entry)) ++ sentCorrections (inst .parties) p (correctionsHeld z (now (memory .entry))) ++ commitmentOf (inst .number) (inst .parties) p (seedsHeld z (inst .parties) (now (memory .entry))) (correctionsHeld z (now (memory .entry))) ++ drop (heldBytes z (inst .parties) (inst .height) p) (now (part .entry)) ⌝ }
+    ensures { λ _. ⌜ now (part .exit) ≡ siblingsBelow (inst .context) (inst .height) 1 p (now (master .entry)) ++ sentCorrections (inst .parties) p (correctionsHeld z (now (memory .entry))) ++ commitmentOf (inst .context) (inst .parties) p (seedsHeld z (inst .parties) (now (memory .entry))) (correctionsHeld z (now (memory .entry))) ++ drop (heldBytes z (inst .parties) (inst .height) p) (now (part .entry)) ⌝ }
 {
-    let j = inst.number;
+    let j = inst.context;
     let n = inst.parties;
     let h = inst.height;
     let k = n as usize;
@@ -170,7 +170,7 @@ pub(crate) fn send_ran(
     part: &mut [u8],
 )
     requires { ⌜ Room (layoutOf z) (now memory) × ((heldEnd (layoutOf z) (inst .parties) ≤ length (now memory)) × ((z .ands ≤ maxGates) × (Tree (inst .parties) (inst .height) × ((p < inst .parties) × ((length (now master) ≡ 16) × ((length (now masked) ≡ oct (z .inputs)) × (length (now part) ≡ heldBytes z (inst .parties) (inst .height) p + oct (z .inputs) + broadcastBytes z))))))) ⌝ }
-    ensures { λ _. ⌜ now (part .exit) ≡ siblingsBelow (inst .number) (inst .height) 1 p (now (master .entry)) ++ sentCorrections (inst .parties) p (correctionsHeld z (now (memory .entry))) ++ commitmentOf (inst .number) (inst .parties) p (seedsHeld z (inst .parties) (now (memory .entry))) (correctionsHeld z (now (memory .entry))) ++ now (masked .entry) ++ rowSent z p (now (memory .entry)) ⌝ }
+    ensures { λ _. ⌜ now (part .exit) ≡ siblingsBelow (inst .context) (inst .height) 1 p (now (master .entry)) ++ sentCorrections (inst .parties) p (correctionsHeld z (now (memory .entry))) ++ commitmentOf (inst .context) (inst .parties) p (seedsHeld z (inst .parties) (now (memory .entry))) (correctionsHeld z (now (memory .entry))) ++ now (masked .entry) ++ rowSent z p (now (memory .entry)) ⌝ }
 {
     let l = layout(z);
     let third = send_held(z, inst, p, master, memory, part);
@@ -196,7 +196,7 @@ pub fn send(
     memory: &mut [u8],
 )
     requires { ⌜ Lent (now s) z (inst .parties) (inst .height) (now memory) × (WitnessFits z (now witness) × ((length (now master) ≡ 16) × ((p < inst .parties) × (length (now part) ≡ stretchBytes (circuitOf (now s)) (inst .parties) (hiding p))))) ⌝ }
-    ensures { λ _. ⌜ now (part .exit) ≡ stretchOf (circuitOf (now (s .entry))) (inst .parties) (inst .number) (now (witness .entry)) (now (master .entry)) (hiding p) ⌝ }
+    ensures { λ _. ⌜ now (part .exit) ≡ stretchOf (circuitOf (now (s .entry))) (inst .parties) (inst .context) (now (witness .entry)) (now (master .entry)) (hiding p) ⌝ }
 {
     let m = bits::oct(z.inputs);
     let mut masked = [0u8; 64];

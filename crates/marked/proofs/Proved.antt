@@ -1,4 +1,4 @@
--- m10 as the answer of prove, for every witness, message and root: by the rows of the table, whichever instance is chosen.
+-- m10 as the answer of prove, for every witness, message, root and salt: by the rows of the table, whichever instance is chosen.
 -- Assumes nothing.
 use mathlib.Core.Path.{_≡_, refl, sym, ap, _∙_}
 use mathlib.Core.List.{List, [], _∷_, List·Memᴰ·head, List·Memᴰ·tail}
@@ -34,7 +34,7 @@ inputs-K : circuitOf circuitK .inputs ≡ 2
 unfolding fields.circuitOf leAt fields.field
 inputs-K = refl
 
-room-K : proofRoom (circuitOf circuitK) 4 1 2 ≡ 233
+room-K : proofRoom (circuitOf circuitK) 4 1 2 ≡ 265
 unfolding proofRoom fields.circuitOf leAt fields.field fields.gatesInOrder fields.chainFrom fields.gateAt ands heightOf
 room-K = refl
 
@@ -44,11 +44,11 @@ unfolding fields.circuitOf leAt fields.field fields.gatesInOrder fields.chainFro
 work-K = refl
 
 -- the two rows of the table
-first-row : proofSizes 0 ≡ replicate 4 217
+first-row : proofSizes 0 ≡ replicate 4 249
 unfolding Right
 first-row = marked-cases m10First (List·Memᴰ·tail (List·Memᴰ·tail (List·Memᴰ·tail (List·Memᴰ·tail (List·Memᴰ·tail (List·Memᴰ·tail (List·Memᴰ·tail (List·Memᴰ·tail (List·Memᴰ·tail (List·Memᴰ·tail (List·Memᴰ·head refl)))))))))))
 
-last-row : proofSizes 1 ≡ replicate 4 216
+last-row : proofSizes 1 ≡ replicate 4 248
 unfolding Right
 last-row = marked-cases m10Last (List·Memᴰ·tail (List·Memᴰ·tail (List·Memᴰ·tail (List·Memᴰ·tail (List·Memᴰ·tail (List·Memᴰ·tail (List·Memᴰ·tail (List·Memᴰ·tail (List·Memᴰ·tail (List·Memᴰ·tail (List·Memᴰ·tail (List·Memᴰ·head refl))))))))))))
 
@@ -72,9 +72,9 @@ size-by-party (i ∷ []) (q ∷ q′ ∷ ps) p k s e f = absurd (omega (arith, s
 size-by-party (i ∷ i′ ∷ is) (q ∷ ps) p k s e f = absurd (omega (arith, s .count))
 
 -- what is lent passes the tests of prove
-passes : (witness y message root buffer work : List ℕ) → ProveInputs witness y message root buffer work → Passes (circuitOf circuitK) witness y message root buffer 4 1 2
+passes : (witness y message root salt buffer work : List ℕ) → ProveInputs witness y message root salt buffer work → Passes (circuitOf circuitK) witness y message root salt buffer 4 1 2
 unfolding areCounts isPartyCount heightOf
-passes witness y message root buffer work h =
+passes witness y message root salt buffer work h =
     record {
       counts = refl;
       parties = refl;
@@ -83,28 +83,29 @@ passes witness y message root buffer work h =
       gives = h .gives;
       short = h .short;
       rootSize = h .rootSize;
+      saltSize = h .saltSize;
       room = rw room-K (h .room);
     }
 
 -- prove answers the length that its hidden party decides
-answers : (witness y message root buffer work : List ℕ) (p k : ℕ) → ProveInputs witness y message root buffer work → proofSizes p ≡ replicate 4 k
-    → hiddenParty witness y message root ≡ p → proveOp circuitK witness y message root 4 1 2 buffer work .answer ≡ success (k ∷ [])
+answers : (witness y message root salt buffer work : List ℕ) (p k : ℕ) → ProveInputs witness y message root salt buffer work → proofSizes p ≡ replicate 4 k
+    → hiddenParty witness y message root salt ≡ p → proveOp circuitK witness y message root salt 4 1 2 buffer work .answer ≡ success (k ∷ [])
 unfolding hiddenParty challenged
-answers witness y message root buffer work p k h f e =
-    let hstar : List ℕ = firstMessage (circuitOf circuitK) 4 2 witness (masterOf 4 root) in
-    let bound : List ℕ = statementOf 4 1 2 circuitK y message in
+answers witness y message root salt buffer work p k h f e =
+    let hstar : List ℕ = firstMessage (circuitOf circuitK) 4 2 salt witness (masterOf 4 salt root) in
+    let bound : List ℕ = statementOf salt 4 1 2 circuitK y message in
     let stream : List ℕ = streamOf 1 hstar bound in
-    prove-answers (circuitOf circuitK) witness y message root buffer 4 1 2 (passes witness y message root buffer work h) circuitK work read-K (rw work-K (h .work-room))
+    prove-answers (circuitOf circuitK) witness y message root salt buffer 4 1 2 (passes witness y message root salt buffer work h) circuitK work read-K (rw work-K (h .work-room))
     ∙ ap (λ (n : ℕ). success (n ∷ []))
     (size-by-party (instances 4 1 stream) (hiddenParties 1 2 stream) p k (challenge-sound 4 1 2 hstar bound (omega arith) (omega arith)) e f)
 
--- m10, M = 4, τ = 1, n = 2: 217 bytes if p = 0, 216 if p = 1
+-- m10, M = 4, τ = 1, n = 2: 249 bytes if p = 0, 248 if p = 1
 pub m10-proved : M10
 unfolding hiddenParty
-m10-proved witness y message root buffer work h =
-    let hstar : List ℕ = firstMessage (circuitOf circuitK) 4 2 witness (masterOf 4 root) in
+m10-proved witness y message root salt buffer work h =
+    let hstar : List ℕ = firstMessage (circuitOf circuitK) 4 2 salt witness (masterOf 4 salt root) in
     record {
-      party = challenge-sound 4 1 2 hstar (statementOf 4 1 2 circuitK y message) (omega arith) (omega arith) .hidden 0;
-      first = answers witness y message root buffer work 0 217 h first-row;
-      last = answers witness y message root buffer work 1 216 h last-row;
+      party = challenge-sound 4 1 2 hstar (statementOf salt 4 1 2 circuitK y message) (omega arith) (omega arith) .hidden 0;
+      first = answers witness y message root salt buffer work 0 249 h first-row;
+      last = answers witness y message root salt buffer work 1 248 h last-row;
     }

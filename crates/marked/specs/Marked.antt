@@ -110,12 +110,12 @@ m9 = working (showOp circuitK 2 0 1 (2 ∷ []) (14 ∷ 3 ∷ []) lent work) show
 abbrev pub proofSizes : ℕ → List ℕ
 proofSizes p = tabulate 4 (λ i. proofBytes (circuitOf circuitK) 4 2 (asked (i ∷ []) (p ∷ [])))
 
--- m10, M = 4, τ = 1, n = 2, p = 0 and p = 1: "m10 becomes 217 and 216" (document 02, order 5)
+-- m10, M = 4, τ = 1, n = 2, p = 0 and p = 1: "m10 becomes 217 and 216" (document 02, order 5), and "grows by 32" (order 10)
 abbrev pub m10First : Case
-m10First = counting (proofSizes 0) (217 ∷ 217 ∷ 217 ∷ 217 ∷ [])
+m10First = counting (proofSizes 0) (249 ∷ 249 ∷ 249 ∷ 249 ∷ [])
 
 abbrev pub m10Last : Case
-m10Last = counting (proofSizes 1) (216 ∷ 216 ∷ 216 ∷ 216 ∷ [])
+m10Last = counting (proofSizes 1) (248 ∷ 248 ∷ 248 ∷ 248 ∷ [])
 
 -- K converted from the old form, into a lent buffer of its 36 bytes
 abbrev pub kConverted : Case
@@ -129,29 +129,30 @@ cases = m1 ∷ m2 ∷ m3 ∷ m4 ∷ m5 ∷ m6 ∷ m7 ∷ m8 ∷ m8Shown ∷ m9 �
 abbrev pub MarkedCases : Type 0
 MarkedCases = (c : Case) → List·Memᴰ c cases → Right c
 
--- what prove is lent for a proof of K with M = 4, τ = 1 and n = 2: a witness of two bits that gives y, a message, a root, a buffer
--- that holds 233 bytes or more, the room that prove asks for, and a work buffer of 4,288 bytes or more
-pub record ProveInputs (witness y message root buffer work : List ℕ) : Type 0 where
+-- what prove is lent for a proof of K with M = 4, τ = 1 and n = 2: a witness of two bits that gives y, a message, a root, a salt, a buffer
+-- that holds 265 bytes or more, the room that prove asks for, and a work buffer of 4,288 bytes or more
+pub record ProveInputs (witness y message root salt buffer work : List ℕ) : Type 0 where
   pub witnessSize : length witness ≡ 1
   pub unused : unusedZero 2 witness ≡ true
   pub gives : pack (evaluate (circuitOf circuitK) (bitAt witness)) ≡ y
   pub short : length message ≤ maxMessage
   pub rootSize : length root ≡ 16
-  pub room : 233 ≤ length buffer
+  pub saltSize : length salt ≡ 32
+  pub room : 265 ≤ length buffer
   pub work-room : 4288 ≤ length work
 
 -- p: the party that the challenge of that proof hides
-unfoldable pub hiddenParty : List ℕ → List ℕ → List ℕ → List ℕ → ℕ
-hiddenParty witness y message root =
-    let hstar : List ℕ = firstMessage (circuitOf circuitK) 4 2 witness (masterOf 4 root) in
-    getD (hiddenParties 1 2 (streamOf 1 hstar (statementOf 4 1 2 circuitK y message))) 0 0
+unfoldable pub hiddenParty : List ℕ → List ℕ → List ℕ → List ℕ → List ℕ → ℕ
+hiddenParty witness y message root salt =
+    let hstar : List ℕ = firstMessage (circuitOf circuitK) 4 2 salt witness (masterOf 4 salt root) in
+    getD (hiddenParties 1 2 (streamOf 1 hstar (statementOf salt 4 1 2 circuitK y message))) 0 0
 
--- m10 as the answer of prove: 217 bytes if p = 0, 216 if p = 1
-pub record ProveAnswers (witness y message root buffer work : List ℕ) : Type 0 where
-  pub party : hiddenParty witness y message root < 2
-  pub first : hiddenParty witness y message root ≡ 0 → proveOp circuitK witness y message root 4 1 2 buffer work .answer ≡ success (217 ∷ [])
-  pub last : hiddenParty witness y message root ≡ 1 → proveOp circuitK witness y message root 4 1 2 buffer work .answer ≡ success (216 ∷ [])
+-- m10 as the answer of prove: 249 bytes if p = 0, 248 if p = 1
+pub record ProveAnswers (witness y message root salt buffer work : List ℕ) : Type 0 where
+  pub party : hiddenParty witness y message root salt < 2
+  pub first : hiddenParty witness y message root salt ≡ 0 → proveOp circuitK witness y message root salt 4 1 2 buffer work .answer ≡ success (249 ∷ [])
+  pub last : hiddenParty witness y message root salt ≡ 1 → proveOp circuitK witness y message root salt 4 1 2 buffer work .answer ≡ success (248 ∷ [])
 
--- for every witness, message, root and buffers
+-- for every witness, message, root, salt and buffers
 abbrev pub M10 : Type 0
-M10 = (witness y message root buffer work : List ℕ) → ProveInputs witness y message root buffer work → ProveAnswers witness y message root buffer work
+M10 = (witness y message root salt buffer work : List ℕ) → ProveInputs witness y message root salt buffer work → ProveAnswers witness y message root salt buffer work

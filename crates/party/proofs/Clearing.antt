@@ -10,6 +10,7 @@ use lib.Pow.{pow-pos, pow-lt}
 use lib.ListN.{length, getD, set, take, drop, replicate, length-set, length-drop, drop-of-length-le}
 use lib.Seq.{take-suc-set, length-take-le}
 use borrow.Rule.Slice.PartMut.{putMid, same-len-mid}
+use Rattle.hashing.specs.declared.Context.{Context}
 use Rattle.keccak.proofs.Absorbing.{Bytes}
 use mathlib.Core.Bool.{true, false}
 use Rattle.bits.specs.Bits.{bitAt, unusedZero}
@@ -91,7 +92,7 @@ unfolding clearFrom
 length-clear k [] = refl
 length-clear k (x ∷ s) = ap suc (length-clear (k - 8) s)
 
-pub length-tape : (j i : ℕ) (seed : List ℕ) (k len : ℕ) → length (tapeRow j i seed k len) ≡ len
+pub length-tape : (j : Context) (i : ℕ) (seed : List ℕ) (k len : ℕ) → length (tapeRow j i seed k len) ≡ len
 unfolding tapeRow
 length-tape j i seed k len = length-clear k _ ∙ length-shake128 _ len
 
@@ -113,6 +114,6 @@ clear-after k i s w =
     rw (getD-clear k (i / 8) s) (testBit-high e (getD s (i / 8) 0 % 2 ^ e) (i % 8) (mod-lt (getD s (i / 8) 0) (pow-pos e)) (omega arith))
 
 -- a tape's unused bits are zero
-pub tape-unused : (j i : ℕ) (seed : List ℕ) (k len : ℕ) → unusedZero k (tapeRow j i seed k len) ≡ true
+pub tape-unused : (j : Context) (i : ℕ) (seed : List ℕ) (k len : ℕ) → unusedZero k (tapeRow j i seed k len) ≡ true
 unfolding tapeRow
 tape-unused j i seed k len = all-unused k (clearFrom k (shake128 (tapeInput j i seed) len)) (λ b l m. clear-after k b _ l)

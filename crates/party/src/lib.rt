@@ -4,18 +4,19 @@ ghost use Prim.Native.Nat.{_+_, _*_, _≤_, _<_};
 ghost use lib.ListN.{length};
 ghost use Rattle.party.specs.Derive.{seedRow, clearFrom, tapeRow, commitmentOf};
 use bits::clear;
-use hashing::finish;
+use hashing::Context;
+use hashing::commit;
 use hashing::shake128;
-use keccak::SHA3_256_RATE;
-use keccak::sponge::Sponge;
 
 // The seed of party i and its r, from its leaf.
-pub fn seed_row(j: u32, i: u32, leaf: &[u8], out: &mut [u8])
+pub fn seed_row(j: Context, i: u32, leaf: &[u8], out: &mut [u8])
     requires { ⌜ length (now out) ≡ 32 ⌝ }
     ensures { λ _. ⌜ now (out .exit) ≡ seedRow j i (now (leaf .entry)) ⌝ }
 {
-    let head = [(j % 256) as u8, (j / 256 % 256) as u8, (i % 256) as u8];
-    shake128(3, &head, leaf, out);
+    let salt = j.salt;
+    let at = j.number;
+    let head = [(at % 256) as u8, (at / 256 % 256) as u8, (i % 256) as u8];
+    shake128(3, &salt, &head, leaf, out);
 }
 
 // Clears every bit from bit k on.
@@ -31,26 +32,25 @@ fn clear_from(s: &mut [u8], k: usize)
 }
 
 // The tape row of party i, from its seed: the first k bits are used.
-pub fn tape(j: u32, i: u32, seed: &[u8], k: usize, row: &mut [u8])
+pub fn tape(j: Context, i: u32, seed: &[u8], k: usize, row: &mut [u8])
     ensures { λ _. ⌜ now (row .exit) ≡ tapeRow j i (now (seed .entry)) k (length (now (row .entry))) ⌝ }
 {
-    let head = [(j % 256) as u8, (j / 256 % 256) as u8, (i % 256) as u8];
-    shake128(4, &head, seed, row);
+    let salt = j.salt;
+    let at = j.number;
+    let head = [(at % 256) as u8, (at / 256 % 256) as u8, (i % 256) as u8];
+    shake128(4, &salt, &head, seed, row);
     clear_from(row, k);
 }
 
 // The commitment of party i of n; row i of the rows is its seed and its r.
-pub fn commitment(j: u32, n: u32, i: u32, rows: &[u8], corrections: &[u8]) -> [u8; 32]
+pub fn commitment(j: Context, n: u32, i: u32, rows: &[u8], corrections: &[u8]) -> [u8; 32]
     requires { ⌜ (i < 256) × (i * 32 + 32 ≤ length (now rows)) ⌝ }
     ensures { λ r. ⌜ r ≡ commitmentOf j n i (now (rows .entry)) (now (corrections .entry)) ⌝ }
 {
-    let head = [(j % 256) as u8, (j / 256 % 256) as u8, (i % 256) as u8];
+    let salt = j.salt;
+    let at = j.number;
+    let head = [(at % 256) as u8, (at / 256 % 256) as u8, (i % 256) as u8];
     let row = bits::row(rows, 32, i as usize);
     let own = if i + 1 == n { corrections.len() } else { 0 };
-    let s = Sponge::new()
-        .absorb_byte(SHA3_256_RATE, 1)
-        .absorb(SHA3_256_RATE, &head)
-        .absorb(SHA3_256_RATE, &row[..16])
-        .absorb(SHA3_256_RATE, &corrections[..own]);
-    finish(s.absorb(SHA3_256_RATE, &row[16..]))
+    commit(&salt, &head, &row[..16], &corrections[..own], &row[16..])
 }

@@ -128,7 +128,7 @@ module _ (M tau n : ℕ) (hstar bound : List ℕ) (counts : areCounts M tau ≡ 
       record { parties = λ j. rw (entry j) (low j) }
 
 -- what a challenge can be drawn from
-module _ (M tau n : ℕ) (hstar y message : List ℕ) (d : Drawable M tau n hstar y message) where
+module _ (M tau n : ℕ) (hstar salt y message : List ℕ) (d : Drawable M tau n hstar salt y message) where
   -- an array of 1533 bytes holds the challenge
   pub few-choices : 3 * tau ≤ 1533
   few-choices = let fit : Fit M tau = counts-fit M tau (d .counts) in omega (arith, fit .most, fit .below)
@@ -140,12 +140,13 @@ module _ (M tau n : ℕ) (hstar y message : List ℕ) (d : Drawable M tau n hsta
       omega (arith, tree-sizes n (heightOf n) tree .few)
 
 -- the tests of the lengths, where they pass
-statement-fits : (hstar digest y message : List ℕ) → length hstar ≡ 32 → length digest ≡ 32 → 1 ≤ length y → length y ≤ maxOutputBytes
-    → length message ≤ maxMessage → statementFits hstar digest y message ≡ true
+statement-fits : (hstar salt digest y message : List ℕ) → length hstar ≡ 32 → length salt ≡ 32 → length digest ≡ 32 → 1 ≤ length y → length y ≤ maxOutputBytes
+    → length message ≤ maxMessage → statementFits hstar salt digest y message ≡ true
 unfolding statementFits
-statement-fits hstar digest y message a b c d e =
+statement-fits hstar salt digest y message a z b c d e =
     rw (
       eq-eqb (length hstar) 32 a,
+      eq-eqb (length salt) 32 z,
       eq-eqb (length digest) 32 b,
       le-leb 1 (length y) c,
       le-leb (length y) maxOutputBytes d,
@@ -153,20 +154,20 @@ statement-fits hstar digest y message a b c d e =
     )
 
 -- the operation on the digest of a file, where its tests pass: what it leaves
-module _ (s : List ℕ) (M tau n : ℕ) (hstar y message lent : List ℕ) (h : Drawable M tau n hstar y message)
+module _ (s : List ℕ) (M tau n : ℕ) (hstar salt y message lent : List ℕ) (h : Drawable M tau n hstar salt y message)
     (room : length lent ≡ 3 * tau) where
-  challenge-passed : challengeOp M tau n hstar (sha3-256 s) y message lent ≡ done (challengeOf M tau n hstar (statementOf M tau n s y message) ∷ [])
+  challenge-passed : challengeOp M tau n hstar salt (sha3-256 s) y message lent ≡ done (challengeOf M tau n hstar (statementOf salt M tau n s y message) ∷ [])
   unfolding challengeOp statementOf
   challenge-passed =
       rw (
         h .counts,
         h .parties,
-        statement-fits hstar (sha3-256 s) y message (h .hstar-size) (length-sha3-256 s) (h .y-least) (h .y-most) (h .short),
+        statement-fits hstar salt (sha3-256 s) y message (h .hstar-size) (h .salt-size) (length-sha3-256 s) (h .y-least) (h .y-most) (h .short),
         eq-eqb (length lent) (3 * tau) room,
       )
 
-  pub challenge-drawn : (digest left : List ℕ) (r : Answer) → digest ≡ sha3-256 s → outcome r left ≡ challengeOp M tau n hstar digest y message lent
-      → left ≡ challengeOf M tau n hstar (statementOf M tau n s y message)
+  pub challenge-drawn : (digest left : List ℕ) (r : Answer) → digest ≡ sha3-256 s → outcome r left ≡ challengeOp M tau n hstar salt digest y message lent
+      → left ≡ challengeOf M tau n hstar (statementOf salt M tau n s y message)
   challenge-drawn digest left r d e =
       ap (λ (o : Outcome). getD (o .left) 0 [])
-      (e ∙ ap (λ (z : List ℕ). challengeOp M tau n hstar z y message lent) d ∙ challenge-passed)
+      (e ∙ ap (λ (z : List ℕ). challengeOp M tau n hstar salt z y message lent) d ∙ challenge-passed)

@@ -11,7 +11,7 @@ use Rattle.cover.specs.Masters.{coverBytes}
 use Rattle.cover.proofs.Masters.{length-master-from}
 use Rattle.instance.specs.Instance.{Asked}
 use Rattle.instance.specs.Stretch.{stretchBytes}
-use Rattle.proof.specs.File.{headerBytes, hides, nodesAt, masterAt, stretchStart, proofBytes, stretchAt}
+use Rattle.proof.specs.File.{headerBytes, headerSalt, hides, nodesAt, masterAt, stretchStart, proofBytes, stretchAt}
 use Rattle.proof.proofs.Places.{before}
 
 -- M instances by n parties
@@ -38,7 +38,7 @@ module _ (c : Circuit) (n M : ℕ) (ask : ℕ → Asked) where
     -- so has a master that follows
     pub length-masterAt : (j : ℕ) → length (masterAt M ask proof j) ≡ 16
     unfolding masterAt
-    length-masterAt j = length-master-from M (hides ask) (nodesAt M ask proof) j length-nodesAt
+    length-masterAt j = length-master-from M (hides ask) (headerSalt proof) (nodesAt M ask proof) j length-nodesAt
 
     -- a stretch has the bytes that are asked
     pub length-stretchAt : (j : ℕ) → j < M → length (stretchAt c M n ask proof j) ≡ stretchBytes c n (ask j)

@@ -8,6 +8,7 @@ use native.Mathlib.Omega.{arith}
 use lib.Dec.{eqb}
 use lib.ListN.{length, length-append}
 use lib.Seq.{take-at, drop-at}
+use Rattle.hashing.specs.declared.Context.{Context}
 use Rattle.bits.specs.Bits.{oct, pack}
 use Rattle.bits.proofs.Packing.{length-pack}
 use Rattle.bits.proofs.Tabulate.{length-tabulate}
@@ -75,7 +76,7 @@ module _ (c : Circuit) (n p : ℕ) (siblings corrections committed masked row : 
   last-back = drop-at (((siblings ++ corrections) ++ committed) ++ masked) row (16 * heightOf n + correctionBytes c n p + 32 + oct (c .inputs)) length-four
 
 -- instance j of the protocol by n parties, from a master
-module _ (c : Circuit) (n j : ℕ) (witness master : List ℕ) where
+module _ (c : Circuit) (n : ℕ) (j : Context) (witness master : List ℕ) where
   -- a digest has 32 bytes
   pub length-online : length (masterOnline c n j witness master) ≡ 32
   unfolding masterOnline onlineDigest

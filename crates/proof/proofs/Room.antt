@@ -63,7 +63,7 @@ module _ (c : Circuit) (n : ℕ) where
   stretches ask (suc m) = stretches ask m + stretchBytes c n (ask m)
 
   -- they come after the header and the opened nodes
-  start-is : (M : ℕ) (ask : ℕ → Asked) (m : ℕ) → stretchStart c M n ask m ≡ 38 + coverBytes M (hides ask) + stretches ask m
+  start-is : (M : ℕ) (ask : ℕ → Asked) (m : ℕ) → stretchStart c M n ask m ≡ 70 + coverBytes M (hides ask) + stretches ask m
   unfolding stretchStart stretches
   start-is M ask zero = omega arith
   start-is M ask (suc m) = omega (arith, start-is M ask m)
@@ -138,11 +138,11 @@ module _ (c : Circuit) (M tau n : ℕ) (hstar bound : List ℕ) (counts : areCou
       omega (arith, start-is c n M ask M, nodes-most, stretches-fit, fit .below)
 
 -- so is that of an honest proof
-pub proof-fits : (c : Circuit) (M tau n : ℕ) (witness bound root : List ℕ) → length root ≡ 16 → areCounts M tau ≡ true → isPartyCount n ≡ true
-    → length (proofOf c M tau n witness bound root) ≤ proofRoom c M tau n
-proof-fits c M tau n witness bound root size h i =
+pub proof-fits : (c : Circuit) (M tau n : ℕ) (salt witness bound root : List ℕ) → length salt ≡ 32 → length root ≡ 16 → areCounts M tau ≡ true → isPartyCount n ≡ true
+    → length (proofOf c M tau n salt witness bound root) ≤ proofRoom c M tau n
+proof-fits c M tau n salt witness bound root salted size h i =
     omega (
       arith,
-      length-proof c M tau n witness bound root size,
-      challenge-fits c M tau n (firstMessage c M n witness (masterOf M root)) bound h i,
+      length-proof c M tau n salt witness bound root salted size,
+      challenge-fits c M tau n (firstMessage c M n salt witness (masterOf M salt root)) bound h i,
     )

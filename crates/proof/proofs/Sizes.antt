@@ -83,7 +83,7 @@ module _ (s : List ℕ) (i o g a : ℕ) (k : Known s (sized i o g a)) where
       omega (arith, corrections-few n p, height-small n)
 
 -- the header and the opened nodes
-pub start-none : (c : Circuit) (M n : ℕ) (ask : ℕ → Asked) (v : ℕ) → v ≡ coverBytes M (hides ask) → 38 + v ≡ stretchStart c M n ask 0
+pub start-none : (c : Circuit) (M n : ℕ) (ask : ℕ → Asked) (v : ℕ) → v ≡ coverBytes M (hides ask) → 70 + v ≡ stretchStart c M n ask 0
 unfolding stretchStart
 start-none c M n ask v e = omega (arith, e)
 

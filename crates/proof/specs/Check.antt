@@ -15,7 +15,7 @@ use Rattle.seeds.specs.Operations.{maxMessage}
 use Rattle.instance.specs.Instance.{Asked}
 use Rattle.instance.specs.Opened.{stretchCommitments, stretchOnline, stretchUnused, stretchOutput}
 use Rattle.proof.specs.Protocol.{hstarOf, statementOf, challenged}
-use Rattle.proof.specs.File.{headerM, headerTau, headerN, headerHstar, goodHeader, proofBytes, masterAt, stretchAt}
+use Rattle.proof.specs.File.{headerM, headerTau, headerN, headerHstar, headerSalt, contextAt, goodHeader, proofBytes, masterAt, stretchAt}
 
 -- a test of the first m instances
 unfoldable pub every : ℕ → (ℕ → Bool) → Bool
@@ -28,15 +28,15 @@ unfoldable pub checkProof : Circuit → List ℕ → List ℕ → ℕ → ℕ �
 checkProof c y proof M n ask =
     unless (eqb (length proof) (proofBytes c M n ask)) 12 []
     (unless (every M (λ j. stretchUnused c n (stretchAt c M n ask proof j) (ask j))) 7 []
-    (unless (every M (λ j. stretchOutput c n j y (stretchAt c M n ask proof j) (ask j))) 10 []
+    (unless (every M (λ j. stretchOutput c n (contextAt proof j) y (stretchAt c M n ask proof j) (ask j))) 10 []
     (unless
     (sameBytes
-    (hstarOf M (λ j. stretchCommitments c n j (masterAt M ask proof j) (stretchAt c M n ask proof j) (ask j)) (λ j. stretchOnline c n j (stretchAt c M n ask proof j) (ask j)))
+    (hstarOf M (λ j. stretchCommitments c n (contextAt proof j) (masterAt M ask proof j) (stretchAt c M n ask proof j) (ask j)) (λ j. stretchOnline c n (contextAt proof j) (stretchAt c M n ask proof j) (ask j)))
     (headerHstar proof))
     13 []
     (done []))))
 
--- "The check draws the challenge from the header's h*", bound to the header's M, τ and n, the circuit file s, y and the message
+-- "The check draws the challenge from the header's h*", bound to the header's salt, M, τ and n, the circuit file s, y and the message
 unfoldable pub checkLegal : List ℕ → List ℕ → List ℕ → List ℕ → Circuit → Outcome
 checkLegal s y message proof c =
     unless (holds (length (c .outputs)) y && leb (length message) maxMessage) 6 []
@@ -44,7 +44,7 @@ checkLegal s y message proof c =
     (unless (goodHeader proof) 11 []
     (checkProof c y proof (headerM proof) (headerN proof)
     (challenged (headerM proof) (headerTau proof) (headerN proof) (headerHstar proof)
-    (statementOf (headerM proof) (headerTau proof) (headerN proof) s y message)))))
+    (statementOf (headerSalt proof) (headerM proof) (headerTau proof) (headerN proof) s y message)))))
 
 -- "Check: 1 to 5" (by document 02, order 2: 1, 2, 3, 19, 20, 21 and 5), then the work buffer (order 7), then these; it is lent no other
 -- buffer to fill

@@ -7,7 +7,7 @@ use lib.Dec.{eqb}
 use Rattle.bits.specs.Bits.{tabulate}
 use Rattle.keccak.specs.Sponge.{sha3-256}
 use Rattle.circuit.specs.Circuit.{Circuit}
-use Rattle.hashing.specs.Inputs.{allCommitmentsInput, allOnlineInput, boundOf}
+use Rattle.hashing.specs.Inputs.{contextOf, allCommitmentsInput, allOnlineInput, boundOf}
 use Rattle.hashing.specs.Digest.{transcriptOf}
 use Rattle.choice.specs.Challenge.{streamOf, instances, hiddenParties}
 use Rattle.instance.specs.Instance.{Asked, opened, hiding, masterCommitments, masterOnline, stretchOf}
@@ -17,10 +17,10 @@ unfoldable pub hstarOf : ℕ → (ℕ → List ℕ) → (ℕ → List ℕ) → L
 hstarOf M commitments online =
     transcriptOf (sha3-256 (allCommitmentsInput (flatten (tabulate M commitments)))) (sha3-256 (allOnlineInput (flatten (tabulate M online))))
 
--- Round 1: the first message, from the instances' masters
-unfoldable pub firstMessage : Circuit → ℕ → ℕ → List ℕ → (ℕ → List ℕ) → List ℕ
-firstMessage c M n witness masters =
-    hstarOf M (λ j. masterCommitments c n j (masters j)) (λ j. masterOnline c n j witness (masters j))
+-- Round 1: the first message, from the salt and the instances' masters
+unfoldable pub firstMessage : Circuit → ℕ → ℕ → List ℕ → List ℕ → (ℕ → List ℕ) → List ℕ
+firstMessage c M n salt witness masters =
+    hstarOf M (λ j. masterCommitments c n (contextOf salt j) (masters j)) (λ j. masterOnline c n (contextOf salt j) witness (masters j))
 
 -- what is asked of instance j, where the instances is are chosen and hide the parties ps
 unfoldable pub asked : List ℕ → List ℕ → ℕ → Asked
@@ -28,9 +28,10 @@ asked [] ps j = opened
 asked (i ∷ is) [] j = opened
 asked (i ∷ is) (p ∷ ps) j = cond (eqb i j) (hiding p) (asked is ps j)
 
--- "The trade now hashes the whole statement": what the challenge is bound to, with the digest of the circuit file s as it is lent
-unfoldable pub statementOf : ℕ → ℕ → ℕ → List ℕ → List ℕ → List ℕ → List ℕ
-statementOf M tau n s y message = boundOf M tau n (sha3-256 s) y message
+-- "The trade now hashes the whole statement": what the challenge is bound to, the salt and the statement, with the digest of the circuit
+-- file s as it is lent
+unfoldable pub statementOf : List ℕ → ℕ → ℕ → ℕ → List ℕ → List ℕ → List ℕ → List ℕ
+statementOf salt M tau n s y message = boundOf salt M tau n (sha3-256 s) y message
 
 -- Round 2: the challenge, from the first message and what it is bound to
 unfoldable pub challenged : ℕ → ℕ → ℕ → List ℕ → List ℕ → ℕ → Asked
@@ -38,5 +39,5 @@ challenged M tau n hstar bound =
     asked (instances M tau (streamOf tau hstar bound)) (hiddenParties tau n (streamOf tau hstar bound))
 
 -- Round 3: the response, but for the opened nodes, which stand before it in a proof
-unfoldable pub responseOf : Circuit → ℕ → ℕ → List ℕ → (ℕ → List ℕ) → (ℕ → Asked) → List ℕ
-responseOf c M n witness masters ask = flatten (tabulate M (λ j. stretchOf c n j witness (masters j) (ask j)))
+unfoldable pub responseOf : Circuit → ℕ → ℕ → List ℕ → List ℕ → (ℕ → List ℕ) → (ℕ → Asked) → List ℕ
+responseOf c M n salt witness masters ask = flatten (tabulate M (λ j. stretchOf c n (contextOf salt j) witness (masters j) (ask j)))

@@ -46,10 +46,11 @@ abbrev pub masterIn : List ℕ → ℕ → List ℕ
 masterIn nodes j = rowOf nodes 16 (length nodes / 32 + j)
 
 -- what a challenge is drawn from: counts and lengths within the limits
-pub record Drawable (M tau n : ℕ) (hstar y message : List ℕ) : Type 0 where
+pub record Drawable (M tau n : ℕ) (hstar salt y message : List ℕ) : Type 0 where
   pub counts : areCounts M tau ≡ true
   pub parties : isPartyCount n ≡ true
   pub hstar-size : length hstar ≡ 32
+  pub salt-size : length salt ≡ 32
   pub y-least : 1 ≤ length y
   pub y-most : length y ≤ maxOutputBytes
   pub short : length message ≤ maxMessage

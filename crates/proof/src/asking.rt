@@ -18,22 +18,23 @@ use instance::checking::sent_bytes;
 use keccak::sha3_256;
 use seeds::challenge;
 
-// Draws the bytes of the challenge from h*, bound to the whole statement: m, tau and n, the circuit file s, y and the message.
+// Draws the bytes of the challenge from h*, bound to the salt and the whole statement: m, tau and n, the circuit file s, y and the message.
 fn draw_choices(
     s: &[u8],
     m: u32,
     tau: u32,
     n: u32,
     hstar: &[u8],
+    salt: &[u8],
     y: &[u8],
     message: &[u8],
     choices: &mut [u8],
 )
-    requires { ⌜ Drawable m tau n (now hstar) (now y) (now message) × (length (now choices) ≡ 3 * tau) ⌝ }
-    ensures { λ _. ⌜ now (choices .exit) ≡ challengeOf m tau n (now (hstar .entry)) (statementOf m tau n (now (s .entry)) (now (y .entry)) (now (message .entry))) ⌝ }
+    requires { ⌜ Drawable m tau n (now hstar) (now salt) (now y) (now message) × (length (now choices) ≡ 3 * tau) ⌝ }
+    ensures { λ _. ⌜ now (choices .exit) ≡ challengeOf m tau n (now (hstar .entry)) (statementOf (now (salt .entry)) m tau n (now (s .entry)) (now (y .entry)) (now (message .entry))) ⌝ }
 {
     let digest = sha3_256(s);
-    let _ = challenge(m, tau, n, hstar, &digest, y, message, choices);
+    let _ = challenge(m, tau, n, hstar, salt, &digest, y, message, choices);
 }
 
 // Fills the table with one byte.
@@ -64,16 +65,24 @@ fn enter(choices: &[u8], n: u8, table: &mut [u8])
 }
 
 // Draws the challenge from h*, into the table of what it asks of each instance.
-pub fn draw_challenge(s: &[u8], k: Counts, hstar: &[u8], y: &[u8], message: &[u8], table: &mut [u8])
-    requires { ⌜ Drawable (k .instances) (k .chosen) (k .parties) (now hstar) (now y) (now message) × (length (now table) ≡ k .instances) ⌝ }
-    ensures { λ _. ⌜ now (table .exit) ≡ tableOf (k .instances) (k .parties) (challengeOf (k .instances) (k .chosen) (k .parties) (now (hstar .entry)) (statementOf (k .instances) (k .chosen) (k .parties) (now (s .entry)) (now (y .entry)) (now (message .entry)))) ⌝ }
+pub fn draw_challenge(
+    s: &[u8],
+    k: Counts,
+    hstar: &[u8],
+    salt: &[u8],
+    y: &[u8],
+    message: &[u8],
+    table: &mut [u8],
+)
+    requires { ⌜ Drawable (k .instances) (k .chosen) (k .parties) (now hstar) (now salt) (now y) (now message) × (length (now table) ≡ k .instances) ⌝ }
+    ensures { λ _. ⌜ now (table .exit) ≡ tableOf (k .instances) (k .parties) (challengeOf (k .instances) (k .chosen) (k .parties) (now (hstar .entry)) (statementOf (now (salt .entry)) (k .instances) (k .chosen) (k .parties) (now (s .entry)) (now (y .entry)) (now (message .entry)))) ⌝ }
 {
     let m = k.instances;
     let tau = k.chosen;
     let n = k.parties;
     let c = 3 * (tau as usize);
     let mut choices = [0u8; 1533];
-    draw_choices(s, m, tau, n, hstar, y, message, &mut choices[..c]);
+    draw_choices(s, m, tau, n, hstar, salt, y, message, &mut choices[..c]);
     enter(&choices[..c], n as u8, table);
 }
 

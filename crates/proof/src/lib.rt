@@ -3,7 +3,7 @@ pub mod asking;
 pub mod nodes;
 
 // The bytes of a proof's header.
-pub const HEADER_BYTES: usize = 38;
+pub const HEADER_BYTES: usize = 70;
 
 // The counts of a proof: M instances, of which τ are chosen, and n parties, by a tree of this height.
 pub struct Counts {

@@ -7,6 +7,7 @@ use native.Mathlib.Numerals.{add-one}
 use native.Mathlib.Omega.{arith}
 use lib.ListN.{length, take}
 use lib.Seq.{take-all}
+use Rattle.hashing.specs.declared.Context.{Context}
 use Rattle.bits.specs.Bits.{tabulate}
 use Rattle.bits.proofs.Rows.{flatten-more}
 use Rattle.keccak.specs.declared.sponge.Sponge.{Sponge}
@@ -17,7 +18,7 @@ use Rattle.keccak.proofs.Steps.{squeezes-length}
 use Rattle.keccak.proofs.Lengths.{length-sha3-256}
 use Rattle.circuit.specs.Circuit.{Circuit}
 use Rattle.plain.specs.Showing.{rowsOf}
-use Rattle.hashing.specs.Inputs.{commitmentsInput, onlineInput, allCommitmentsInput, allOnlineInput}
+use Rattle.hashing.specs.Inputs.{contextOf, commitmentsInput, onlineInput, allCommitmentsInput, allOnlineInput}
 use Rattle.hashing.specs.Digest.{transcriptOf}
 use Rattle.hashing.specs.Steps.{taken, given}
 use Rattle.hashing.proofs.Hashes.{bytes-append, bytes-one}
@@ -54,7 +55,7 @@ pub lent-kept : (s : List ℕ) (i o g a n h : ℕ) (memory m : List ℕ) → Len
 lent-kept s i o g a n h memory m l q = record { known = l .known; tree = l .tree; room = rw q (l .room) }
 
 -- h'_j has 32 bytes
-pub length-online : (c : Circuit) (n j : ℕ) (witness master : List ℕ) → length (masterOnline c n j witness master) ≡ 32
+pub length-online : (c : Circuit) (n : ℕ) (j : Context) (witness master : List ℕ) → length (masterOnline c n j witness master) ≡ 32
 unfolding masterOnline onlineDigest
 length-online c n j witness master = length-sha3-256 _
 
@@ -68,23 +69,23 @@ pub taken-fits : (M : List ℕ) (s : Sponge) → s ≡ taken M → s .fill < 136
 taken-fits M s e = rw e (taken-room M)
 
 -- the instances of a prover
-module _ (c : Circuit) (n : ℕ) (witness : List ℕ) (masters : ℕ → List ℕ) where
+module _ (c : Circuit) (n : ℕ) (salt witness : List ℕ) (masters : ℕ → List ℕ) where
   -- h_i
   abbrev pub commitmentsAt : ℕ → List ℕ
-  commitmentsAt i = masterCommitments c n i (masters i)
+  commitmentsAt i = masterCommitments c n (contextOf salt i) (masters i)
 
   -- h'_i
   abbrev pub onlineAt : ℕ → List ℕ
-  onlineAt i = masterOnline c n i witness (masters i)
+  onlineAt i = masterOnline c n (contextOf salt i) witness (masters i)
 
   -- they are digests
   commitments-bytes : (i : ℕ) → Bytes (commitmentsAt i)
   unfolding masterCommitments commitmentsDigest
-  commitments-bytes i = sha3-bytes (commitmentsInput i (commitmentsOf n i (masterSeeds n i (masters i)) (masterCorrections c n i (masters i))))
+  commitments-bytes i = sha3-bytes (commitmentsInput i (commitmentsOf n (contextOf salt i) (masterSeeds n (contextOf salt i) (masters i)) (masterCorrections c n (contextOf salt i) (masters i))))
 
   online-bytes : (i : ℕ) → Bytes (onlineAt i)
   unfolding masterOnline onlineDigest
-  online-bytes i = sha3-bytes (onlineInput i (masterMasked c n i witness (masters i)) (rowsOf n (masterRun c n i witness (masters i))))
+  online-bytes i = sha3-bytes (onlineInput i (masterMasked c n (contextOf salt i) witness (masters i)) (rowsOf n (masterRun c n (contextOf salt i) witness (masters i))))
 
   -- no h_i is taken in yet
   pub all-none : (s : Sponge) → s ≡ taken (allCommitmentsInput []) → s ≡ taken (allCommitmentsInput (flatten (tabulate 0 commitmentsAt)))
@@ -103,7 +104,7 @@ module _ (c : Circuit) (n : ℕ) (witness : List ℕ) (masters : ℕ → List �
 
     -- all of them, and all h'_i in o: h*
     pub first-end : (m : ℕ) (onlines x y r : List ℕ) (o o′ : Sponge) → j ≡ m → x ≡ given s → onlines ≡ flatten (tabulate m onlineAt)
-        → o ≡ taken (allOnlineInput []) → o′ ≡ absorbs 136 o onlines → y ≡ given o′ → r ≡ transcriptOf x y → r ≡ firstMessage c m n witness masters
+        → o ≡ taken (allOnlineInput []) → o′ ≡ absorbs 136 o onlines → y ≡ given o′ → r ≡ transcriptOf x y → r ≡ firstMessage c m n salt witness masters
     unfolding firstMessage hstarOf
     first-end m onlines x y r o o′ q g p a b d t =
         let M : List ℕ = flatten (tabulate j commitmentsAt) in

@@ -7,6 +7,8 @@ use native.Mathlib.Omega.{arith}
 use borrow.Rule.Slice.PartMut.{midOf, putMid, postOf, post-is, mid-len}
 use lib.ListN.{length, getD, take, drop, length-append, length-drop}
 use lib.Seq.{length-take-le, drop-length, take-all, take-length, take-at, drop-at, take-take, take-add}
+use Rattle.hashing.specs.Inputs.{contextOf}
+use Rattle.hashing.specs.declared.Context.{Context}
 use Rattle.bits.specs.Bits.{tabulate}
 use Rattle.bits.proofs.Rows.{row-inside, row-tabulate, flatten-more}
 use Rattle.circuit.specs.Circuit.{Circuit}
@@ -48,7 +50,7 @@ part-same a len e l r b d h q = one l b ∙ (ap (λ (t : List ℕ). drop a (take
 -- the stretch of an instance of which p is asked
 module _ (c : Circuit) (n p : ℕ) where
   -- not chosen: h'_j, which is w
-  module _ (j : ℕ) (witness master : List ℕ) (e : p ≡ n) where
+  module _ (j : Context) (witness master : List ℕ) (e : p ≡ n) where
     -- it has its place
     pub shut-size : (part w : List ℕ) → length part ≡ stretchBytes c n (askOf n p) → w ≡ masterOnline c n j witness master → length part ≡ length w
     unfolding stretchBytes
@@ -67,7 +69,7 @@ module _ (c : Circuit) (n p : ℕ) where
     hidden-size part size = size ∙ ap (stretchBytes c n) (ask-hiding n p e)
 
     -- and so is the stretch
-    pub hidden-made : (j : ℕ) (witness master z : List ℕ) → z ≡ stretchOf c n j witness master (hiding p)
+    pub hidden-made : (j : Context) (witness master z : List ℕ) → z ≡ stretchOf c n j witness master (hiding p)
         → z ≡ stretchOf c n j witness master (askOf n p)
     hidden-made j witness master z g = g ∙ ap (stretchOf c n j witness master) (sym (ask-hiding n p e))
 
@@ -78,18 +80,18 @@ stretch-least c n opened = omega arith
 stretch-least c n (hiding p) = omega arith
 
 -- the response to `ask`, after the bytes in front
-module _ (c : Circuit) (n : ℕ) (witness : List ℕ) (masters : ℕ → List ℕ) (ask : ℕ → Asked) (front : List ℕ) where
+module _ (c : Circuit) (n : ℕ) (salt witness : List ℕ) (masters : ℕ → List ℕ) (ask : ℕ → Asked) (front : List ℕ) where
   -- of the first j instances
   abbrev pub sent : ℕ → List ℕ
-  sent j = front ++ responseOf c j n witness masters ask
+  sent j = front ++ responseOf c j n salt witness masters ask
 
   -- the stretch of instance j
   abbrev stretchAt : ℕ → List ℕ
-  stretchAt j = stretchOf c n j witness (masters j) (ask j)
+  stretchAt j = stretchOf c n (contextOf salt j) witness (masters j) (ask j)
 
   -- has the bytes that are asked
   length-at : (j : ℕ) → length (stretchAt j) ≡ stretchBytes c n (ask j)
-  length-at j = length-stretch c n j witness (masters j) (ask j)
+  length-at j = length-stretch c n (contextOf salt j) witness (masters j) (ask j)
 
   -- of no instance
   pub sent-none : sent 0 ≡ front
@@ -111,7 +113,7 @@ module _ (c : Circuit) (n : ℕ) (witness : List ℕ) (masters : ℕ → List �
   sent-next j k e = ap (λ (i : ℕ). length (sent i)) e ∙ (ap length (sent-more j) ∙ (length-append (sent j) (stretchAt j) ∙ ap (λ (i : ℕ). length (sent j) + i) (length-at j)))
 
   -- the places in the proof
-  pub sent-start : (M : ℕ) → length front ≡ coverBytes M (hides ask) → (j : ℕ) → 38 + length (sent j) ≡ stretchStart c M n ask j
+  pub sent-start : (M : ℕ) → length front ≡ coverBytes M (hides ask) → (j : ℕ) → 70 + length (sent j) ≡ stretchStart c M n ask j
   unfolding stretchStart
   sent-start M e zero = omega (arith, ap length sent-none, e)
   sent-start M e (suc j) = omega (arith, sent-next j (suc j) refl, sent-start M e j)
@@ -167,11 +169,11 @@ module _ (c : Circuit) (n : ℕ) (witness : List ℕ) (masters : ℕ → List �
           ap₂ _++_ a (ap₂ _++_ y b ∙ (ap (λ (i : ℕ). stretchAt j ++ drop i (sent m)) q ∙ (sym sent-rest ∙ ap (λ (i : ℕ). drop i (sent m)) (sym p))))
 
       -- until then its h'_j stands
-      pub online-there : (a : ℕ) → length part ≡ length old → take (32 * m) old ≡ flatten (tabulate m (onlineAt c n witness masters)) → a ≡ 32 * j
-          → take (a + 32 - a) (drop a part) ≡ masterOnline c n j witness (masters j)
+      pub online-there : (a : ℕ) → length part ≡ length old → take (32 * m) old ≡ flatten (tabulate m (onlineAt c n salt witness masters)) → a ≡ 32 * j
+          → take (a + 32 - a) (drop a part) ≡ masterOnline c n (contextOf salt j) witness (masters j)
       online-there a same onlines from =
-          let rows : List ℕ = flatten (tabulate m (onlineAt c n witness masters)) in
-          let r : length rows ≡ m * 32 = length-rows 32 m (onlineAt c n witness masters) (λ i. length-online c n i witness (masters i)) in
+          let rows : List ℕ = flatten (tabulate m (onlineAt c n salt witness masters)) in
+          let r : length rows ≡ m * 32 = length-rows 32 m (onlineAt c n salt witness masters) (λ i. length-online c n (contextOf salt i) witness (masters i)) in
           let w : 32 * m ≤ length (sent m) = sent-least m in
           let v : 32 * k ≤ length (sent k) = sent-least k in
           let x : take (32 * m) old ≡ take (32 * m) rows = onlines ∙ sym (take-all (32 * m) rows (omega arith)) in
@@ -181,10 +183,10 @@ module _ (c : Circuit) (n : ℕ) (witness : List ℕ) (masters : ℕ → List �
           ∙ (part-same a 32 end part old (omega (arith, end-inside)) end-inside (omega arith) take-end
           ∙ (part-same a 32 (32 * m) old rows (omega arith) (omega arith) (omega arith) x
           ∙ (ap (λ (i : ℕ). take 32 (drop i rows)) z
-          ∙ (sym (row-inside rows 32 j (omega arith)) ∙ row-tabulate 32 m (onlineAt c n witness masters) (λ i b. length-online c n i witness (masters i)) j (omega arith)))))
+          ∙ (sym (row-inside rows 32 j (omega arith)) ∙ row-tabulate 32 m (onlineAt c n salt witness masters) (λ i b. length-online c n (contextOf salt i) witness (masters i)) j (omega arith)))))
 
   -- nothing is written yet
-  module _ (m : ℕ) (part : List ℕ) (there : length front ≡ coverBytes m (hides ask)) (size : 38 + length part ≡ proofBytes c m n ask) where
+  module _ (m : ℕ) (part : List ℕ) (there : length front ≡ coverBytes m (hides ask)) (size : 70 + length part ≡ proofBytes c m n ask) where
     -- the bytes are those in front and of all stretches
     pub sent-size : length part ≡ length (sent m)
     sent-size = omega (arith, sent-start m there m)
@@ -201,16 +203,16 @@ module _ (c : Circuit) (n : ℕ) (witness : List ℕ) (masters : ℕ → List �
 
   -- all stretches are written
   pub sent-end : (j m end : ℕ) (old part : List ℕ) → j ≡ 0 → end ≡ length (sent j) → part ≡ take end old ++ drop end (sent m)
-      → part ≡ take (length front) old ++ responseOf c m n witness masters ask
+      → part ≡ take (length front) old ++ responseOf c m n salt witness masters ask
   sent-end j m end old part z q there =
       let e : end ≡ length front = q ∙ ap (λ (i : ℕ). length (sent i)) z ∙ ap length sent-none in
       there ∙ ap (λ (i : ℕ). take i old ++ drop i (sent m)) e
-      ∙ ap (λ (t : List ℕ). take (length front) old ++ t) (drop-at front (responseOf c m n witness masters ask) (length front) refl)
+      ∙ ap (λ (t : List ℕ). take (length front) old ++ t) (drop-at front (responseOf c m n salt witness masters ask) (length front) refl)
 
 -- the opened nodes come first, v bytes
-pub front-length : (s : List ℕ) (M n : ℕ) (witness nodes table : List ℕ) (v : ℕ) (part : List ℕ)
-    → Response s M n witness nodes table v part → length (take v part) ≡ coverBytes M (hides (asksIn n table))
-front-length s M n witness nodes table v part r =
+pub front-length : (s : List ℕ) (M n : ℕ) (salt witness nodes table : List ℕ) (v : ℕ) (part : List ℕ)
+    → Response s M n salt witness nodes table v part → length (take v part) ≡ coverBytes M (hides (asksIn n table))
+front-length s M n salt witness nodes table v part r =
     length-take-le v part (omega (arith, r .place, r .size, stretches-after (circuitOf s) n M (asksIn n table) M)) ∙ r .place
 
 -- the party that is asked of instance j
@@ -218,16 +220,16 @@ pub party-low : (n j p : ℕ) (table : List ℕ) → Asking n table → p ≡ ge
 party-low n j p table asking e = rw e (asking .parties j)
 
 -- the stretch of instance j, from its bytes
-module _ (c : Circuit) (n : ℕ) (witness : List ℕ) (masters : ℕ → List ℕ) (table front : List ℕ) (j k p r end : ℕ) (e : k ≡ suc j) (named : p ≡ getD table j n)
-    (bytes : r ≡ stretchBytes c n (askOf n p)) (q : end ≡ length (sent c n witness masters (asksIn n table) front k)) where
+module _ (c : Circuit) (n : ℕ) (salt witness : List ℕ) (masters : ℕ → List ℕ) (table front : List ℕ) (j k p r end : ℕ) (e : k ≡ suc j) (named : p ≡ getD table j n)
+    (bytes : r ≡ stretchBytes c n (askOf n p)) (q : end ≡ length (sent c n salt witness masters (asksIn n table) front k)) where
   -- the bytes are those that the challenge asks for
   asked-bytes : r ≡ stretchBytes c n (asksIn n table j)
   asked-bytes = bytes ∙ ap (λ (i : ℕ). stretchBytes c n (askOf n i)) named
 
   -- it does not start before the first byte
   pub start-fits : r ≤ end
-  start-fits = omega (arith, asked-bytes, sent-next c n witness masters (asksIn n table) front j k e)
+  start-fits = omega (arith, asked-bytes, sent-next c n salt witness masters (asksIn n table) front j k e)
 
   -- it starts where the stretches before it end
-  pub start-is : end - r ≡ length (sent c n witness masters (asksIn n table) front j)
-  start-is = omega (arith, asked-bytes, sent-next c n witness masters (asksIn n table) front j k e)
+  pub start-is : end - r ≡ length (sent c n salt witness masters (asksIn n table) front j)
+  start-is = omega (arith, asked-bytes, sent-next c n salt witness masters (asksIn n table) front j k e)

@@ -42,11 +42,11 @@ module _ (s : List ℕ) (i o g a : ℕ) (k : Known s (sized i o g a)) where
     all-fit = small (tau * chosen) (omega (arith, all-few))
 
     -- so does that of the whole proof
-    pub room-fits : Fits w64 (38 + 48 * (m - tau) + tau * chosen)
-    room-fits = small (38 + 48 * (m - tau) + tau * chosen) (omega (arith, all-few))
+    pub room-fits : Fits w64 (70 + 48 * (m - tau) + tau * chosen)
+    room-fits = small (70 + 48 * (m - tau) + tau * chosen) (omega (arith, all-few))
 
     -- the bytes that the buffer must hold
-    pub room-made : 38 + 48 * (m - tau) + tau * chosen ≡ proofRoom (circuitOf s) m tau n
+    pub room-made : 70 + 48 * (m - tau) + tau * chosen ≡ proofRoom (circuitOf s) m tau n
     unfolding proofRoom
     room-made =
         let size : ℕ → ℕ → ℕ → ℕ → ℕ = λ q u v w. 16 * q + oct u + 32 + oct v + oct (u + w) in
@@ -54,4 +54,4 @@ module _ (s : List ℕ) (i o g a : ℕ) (k : Known s (sized i o g a)) where
         let r : size h a i o ≡ size (heightOf n) (andsOf (circuitOf s)) (circuitOf s .inputs) (length (circuitOf s .outputs))
         = ap₂ (λ (q u : ℕ). size q u i o) (tree .height) (sym (circuit-ands s i o g a k))
         ∙ ap₂ (size (heightOf n) (andsOf (circuitOf s))) (sym (circuit-inputs s i o g a k)) (sym (circuit-outputs s i o g a k)) in
-        ap (λ (t : ℕ). 38 + 48 * (m - tau) + tau * t) (c ∙ r)
+        ap (λ (t : ℕ). 70 + 48 * (m - tau) + tau * t) (c ∙ r)

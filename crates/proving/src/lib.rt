@@ -63,17 +63,18 @@ fn lengths(
     y: &[u8],
     message: &[u8],
     root: &[u8],
+    salt: &[u8],
     buffer: &[u8],
 ) -> bool
     requires { ⌜ Known (now s) z × ((k .instances ≤ maxInstances) × ((k .chosen ≤ k .instances) × Tree (k .parties) (k .height))) ⌝ }
-    ensures { λ r. ⌜ r ≡ eqb (length (now (witness .entry))) (oct (z .inputs)) && eqb (length (now (y .entry))) (oct (z .outputs)) && leb (length (now (message .entry))) maxMessage && eqb (length (now (root .entry))) 16 && leb (proofRoom (circuitOf (now (s .entry))) (k .instances) (k .chosen) (k .parties)) (length (now (buffer .entry))) ⌝ }
+    ensures { λ r. ⌜ r ≡ eqb (length (now (witness .entry))) (oct (z .inputs)) && eqb (length (now (y .entry))) (oct (z .outputs)) && leb (length (now (message .entry))) maxMessage && eqb (length (now (root .entry))) 16 && eqb (length (now (salt .entry))) 32 && leb (proofRoom (circuitOf (now (s .entry))) (k .instances) (k .chosen) (k .parties)) (length (now (buffer .entry))) ⌝ }
 {
     let lent = both(
         both(holds(witness, z.inputs), holds(y, z.outputs)),
         message.len() <= MAX_MESSAGE,
     );
     let space = room(s, z, k) <= buffer.len();
-    both(both(lent, root.len() == 16), space)
+    both(both(both(lent, root.len() == 16), salt.len() == 32), space)
 }
 
 // Whether the witness gives y.
@@ -95,6 +96,7 @@ fn prove_lent(
     y: &[u8],
     message: &[u8],
     root: &[u8],
+    salt: &[u8],
     m: u32,
     tau: u32,
     n: u32,
@@ -102,7 +104,7 @@ fn prove_lent(
     memory: &mut [u8],
 ) -> Answer
     requires { ⌜ (readCircuit (now s) ≡ legal (circuitOf (now s))) × (Known (now s) z × (64 * wireCount z + 4096 ≤ length (now memory))) ⌝ }
-    ensures { λ r. ⌜ outcome r (now (buffer .exit)) ≡ proveLegal (now (s .entry)) (now (witness .entry)) (now (y .entry)) (now (message .entry)) (now (root .entry)) m tau n (now (buffer .entry)) (circuitOf (now (s .entry))) ⌝ }
+    ensures { λ r. ⌜ outcome r (now (buffer .exit)) ≡ proveLegal (now (s .entry)) (now (witness .entry)) (now (y .entry)) (now (message .entry)) (now (root .entry)) (now (salt .entry)) m tau n (now (buffer .entry)) (circuitOf (now (s .entry))) ⌝ }
 {
     let h = parties::height(n);
     if !both(counts(m, tau), h != 0) {
@@ -114,7 +116,7 @@ fn prove_lent(
         parties: n,
         height: h,
     };
-    if !lengths(s, z, k, witness, y, message, root, buffer) {
+    if !lengths(s, z, k, witness, y, message, root, salt, buffer) {
         return Answer::Refused(Refusal::BufferLength);
     }
     if !both(
@@ -126,7 +128,7 @@ fn prove_lent(
     if !gives(s, z, witness, y) {
         return Answer::Refused(Refusal::Output);
     }
-    Answer::Written(prove_in(s, z, k, witness, y, message, root, buffer, memory))
+    Answer::Written(prove_in(s, z, k, witness, y, message, root, salt, buffer, memory))
 }
 
 // Proves that the circuit gives y on the witness: writes a proof into the buffer and answers its length, or refuses and leaves the
@@ -137,13 +139,14 @@ pub fn prove(
     y: &[u8],
     message: &[u8],
     root: &[u8],
+    salt: &[u8],
     m: u32,
     tau: u32,
     n: u32,
     buffer: &mut [u8],
     work: &mut [u8],
 ) -> Answer
-    ensures { λ r. ⌜ leaving (outcome r (now (buffer .exit))) (now (work .exit)) ≡ proveOp (now (s .entry)) (now (witness .entry)) (now (y .entry)) (now (message .entry)) (now (root .entry)) m tau n (now (buffer .entry)) (now (work .entry)) ⌝ }
+    ensures { λ r. ⌜ leaving (outcome r (now (buffer .exit))) (now (work .exit)) ≡ proveOp (now (s .entry)) (now (witness .entry)) (now (y .entry)) (now (message .entry)) (now (root .entry)) (now (salt .entry)) m tau n (now (buffer .entry)) (now (work .entry)) ⌝ }
 {
     let answer = read(s);
     match answer {
@@ -152,7 +155,20 @@ pub fn prove(
             if work.len() < work_bytes(z) {
                 return Answer::Refused(Refusal::BufferLength);
             }
-            let ended = prove_lent(s, z, witness, y, message, root, m, tau, n, buffer, work);
+            let ended = prove_lent(
+                s,
+                z,
+                witness,
+                y,
+                message,
+                root,
+                salt,
+                m,
+                tau,
+                n,
+                buffer,
+                work,
+            );
             clear(work);
             ended
         }

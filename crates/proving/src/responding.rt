@@ -17,6 +17,7 @@ ghost use Rattle.proving.specs.Steps.{onlinesOf, openedRows, Response, A
 use bits::copy;
 use circuit::Sizes;
 use cover::gather;
+use hashing::Context;
 use hashing::finish;
 use hashing::start_all_commitments;
 use hashing::start_all_online;
@@ -33,19 +34,20 @@ use proof::asking::stretch_bytes;
 use proof::nodes::mark_nodes;
 use proof::nodes::master;
 
-// Round 1: h*, from the digests of all instances, with their masters among the nodes; `onlines` takes the h'_j, one after the other.
+// Round 1: h*, from the digests of all instances, with the salt and with their masters among the nodes; `onlines` takes the h'_j, one after the other.
 pub(crate) fn first(
     s: &[u8],
     z: Sizes,
     k: Counts,
+    salt: [u8; 32],
     witness: &[u8],
     nodes: &[u8],
     onlines: &mut [u8],
     memory: &mut [u8],
 ) -> [u8; 32]
     requires { ⌜ Lent (now s) z (k .parties) (k .height) (now memory) × (WitnessFits z (now witness) × ((k .instances ≤ maxInstances) × ((length (now nodes) ≡ 16 * 2 ^ suc (height (k .instances))) × (length (now onlines) ≡ 32 * k .instances)))) ⌝ }
-    ensures { λ r. ⌜ r ≡ firstMessage (circuitOf (now (s .entry))) (k .instances) (k .parties) (now (witness .entry)) (masterIn (now (nodes .entry))) ⌝ }
-    ensures { λ _. ⌜ now (onlines .exit) ≡ onlinesOf (circuitOf (now (s .entry))) (k .instances) (k .parties) (now (witness .entry)) (masterIn (now (nodes .entry))) ⌝ }
+    ensures { λ r. ⌜ r ≡ firstMessage (circuitOf (now (s .entry))) (k .instances) (k .parties) salt (now (witness .entry)) (masterIn (now (nodes .entry))) ⌝ }
+    ensures { λ _. ⌜ now (onlines .exit) ≡ onlinesOf (circuitOf (now (s .entry))) (k .instances) (k .parties) salt (now (witness .entry)) (masterIn (now (nodes .entry))) ⌝ }
 {
     let m = k.instances;
     let n = k.parties;
@@ -55,7 +57,7 @@ pub(crate) fn first(
     while j < m {
         let i = j;
         let inst = Instance {
-            number: i,
+            context: Context { salt, number: i },
             parties: n,
             height: h,
         };
@@ -82,8 +84,8 @@ pub(crate) fn stretch(
     part: &mut [u8],
     memory: &mut [u8],
 )
-    requires { ⌜ Lent (now s) z (inst .parties) (inst .height) (now memory) × (WitnessFits z (now witness) × ((p ≤ inst .parties) × ((length (now seed) ≡ 16) × ((now online ≡ masterOnline (circuitOf (now s)) (inst .parties) (inst .number) (now witness) (now seed)) × (length (now part) ≡ stretchBytes (circuitOf (now s)) (inst .parties) (askOf (inst .parties) p)))))) ⌝ }
-    ensures { λ _. ⌜ now (part .exit) ≡ stretchOf (circuitOf (now (s .entry))) (inst .parties) (inst .number) (now (witness .entry)) (now (seed .entry)) (askOf (inst .parties) p) ⌝ }
+    requires { ⌜ Lent (now s) z (inst .parties) (inst .height) (now memory) × (WitnessFits z (now witness) × ((p ≤ inst .parties) × ((length (now seed) ≡ 16) × ((now online ≡ masterOnline (circuitOf (now s)) (inst .parties) (inst .context) (now witness) (now seed)) × (length (now part) ≡ stretchBytes (circuitOf (now s)) (inst .parties) (askOf (inst .parties) p)))))) ⌝ }
+    ensures { λ _. ⌜ now (part .exit) ≡ stretchOf (circuitOf (now (s .entry))) (inst .parties) (inst .context) (now (witness .entry)) (now (seed .entry)) (askOf (inst .parties) p) ⌝ }
 {
     let n = inst.parties;
     if p == n {
@@ -98,6 +100,7 @@ pub(crate) fn respond(
     s: &[u8],
     z: Sizes,
     k: Counts,
+    salt: [u8; 32],
     table: &[u8],
     opened: usize,
     witness: &[u8],
@@ -105,8 +108,8 @@ pub(crate) fn respond(
     part: &mut [u8],
     memory: &mut [u8],
 )
-    requires { ⌜ Lent (now s) z (k .parties) (k .height) (now memory) × (WitnessFits z (now witness) × Response (now s) (k .instances) (k .parties) (now witness) (now nodes) (now table) opened (now part)) ⌝ }
-    ensures { λ _. ⌜ now (part .exit) ≡ take opened (now (part .entry)) ++ responseOf (circuitOf (now (s .entry))) (k .instances) (k .parties) (now (witness .entry)) (masterIn (now (nodes .entry))) (asksIn (k .parties) (now (table .entry))) ⌝ }
+    requires { ⌜ Lent (now s) z (k .parties) (k .height) (now memory) × (WitnessFits z (now witness) × Response (now s) (k .instances) (k .parties) salt (now witness) (now nodes) (now table) opened (now part)) ⌝ }
+    ensures { λ _. ⌜ now (part .exit) ≡ take opened (now (part .entry)) ++ responseOf (circuitOf (now (s .entry))) (k .instances) (k .parties) salt (now (witness .entry)) (masterIn (now (nodes .entry))) (asksIn (k .parties) (now (table .entry))) ⌝ }
 {
     let m = k.instances;
     let n = k.parties;
@@ -122,7 +125,7 @@ pub(crate) fn respond(
         let mut online = [0u8; 32];
         copy(&part[a..e], &mut online);
         let inst = Instance {
-            number: j,
+            context: Context { salt, number: j },
             parties: n,
             height: h,
         };
@@ -146,15 +149,16 @@ pub(crate) fn answer(
     s: &[u8],
     z: Sizes,
     k: Counts,
+    salt: [u8; 32],
     table: &[u8],
     witness: &[u8],
     nodes: &[u8],
     part: &mut [u8],
     memory: &mut [u8],
 ) -> usize
-    requires { ⌜ Lent (now s) z (k .parties) (k .height) (now memory) × (WitnessFits z (now witness) × Answering (now s) (k .instances) (k .parties) (now witness) (now nodes) (now table) (now part)) ⌝ }
+    requires { ⌜ Lent (now s) z (k .parties) (k .height) (now memory) × (WitnessFits z (now witness) × Answering (now s) (k .instances) (k .parties) salt (now witness) (now nodes) (now table) (now part)) ⌝ }
     ensures { λ r. ⌜ r ≡ proofBytes (circuitOf (now (s .entry))) (k .instances) (k .parties) (asksIn (k .parties) (now (table .entry))) ⌝ }
-    ensures { λ r. ⌜ now (part .exit) ≡ openedRows (k .instances) (asksIn (k .parties) (now (table .entry))) (now (nodes .entry)) ++ (responseOf (circuitOf (now (s .entry))) (k .instances) (k .parties) (now (witness .entry)) (masterIn (now (nodes .entry))) (asksIn (k .parties) (now (table .entry))) ++ drop (r - headerBytes) (now (part .entry))) ⌝ }
+    ensures { λ r. ⌜ now (part .exit) ≡ openedRows (k .instances) (asksIn (k .parties) (now (table .entry))) (now (nodes .entry)) ++ (responseOf (circuitOf (now (s .entry))) (k .instances) (k .parties) salt (now (witness .entry)) (masterIn (now (nodes .entry))) (asksIn (k .parties) (now (table .entry))) ++ drop (r - headerBytes) (now (part .entry))) ⌝ }
 {
     let rows = nodes.len() / 16;
     let mut marks = [0u8; 1024];
@@ -165,6 +169,7 @@ pub(crate) fn answer(
         s,
         z,
         k,
+        salt,
         table,
         opened,
         witness,

@@ -17,21 +17,24 @@ use bits::copy;
 use circuit::Sizes;
 use cover::grow;
 use cover::height;
+use cover::masters_tree;
+use hashing::salt_in;
 use proof::Counts;
 use proof::HEADER_BYTES;
 use proof::asking::draw_challenge;
 use proof::nodes::row_count;
 
-// The header: M, τ, n, zero, h*.
-pub(crate) fn head(m: u32, tau: u32, n: u32, hstar: &[u8], out: &mut [u8])
-    requires { ⌜ (m < 65536) × ((tau < 65536) × ((n < 256) × ((length (now hstar) ≡ 32) × (length (now out) ≡ headerBytes)))) ⌝ }
-    ensures { λ _. ⌜ now (out .exit) ≡ headerOf m tau n (now (hstar .entry)) ⌝ }
+// The header: M, τ, n, zero, h*, salt.
+pub(crate) fn head(m: u32, tau: u32, n: u32, hstar: &[u8], salt: &[u8], out: &mut [u8])
+    requires { ⌜ (m < 65536) × ((tau < 65536) × ((n < 256) × ((length (now hstar) ≡ 32) × ((length (now salt) ≡ 32) × (length (now out) ≡ headerBytes))))) ⌝ }
+    ensures { λ _. ⌜ now (out .exit) ≡ headerOf m tau n (now (hstar .entry)) (now (salt .entry)) ⌝ }
 {
     bits::write_u16(out, 0, m as u16);
     bits::write_u16(out, 2, tau as u16);
     out[4] = n as u8;
     out[5] = 0;
-    copy(hstar, &mut out[6..]);
+    copy(hstar, &mut out[6..38]);
+    copy(salt, &mut out[38..]);
 }
 
 // Writes a proof into the buffer, with the nodes of the masters' tree, and gives its length.
@@ -43,12 +46,13 @@ pub(crate) fn prove_from(
     y: &[u8],
     message: &[u8],
     nodes: &[u8],
+    salt: [u8; 32],
     buffer: &mut [u8],
     memory: &mut [u8],
 ) -> usize
-    requires { ⌜ Lent (now s) z (k .parties) (k .height) (now memory) × (Tested (now s) z (k .instances) (k .chosen) (k .parties) (now witness) (now y) (now message) (now buffer) × (length (now nodes) ≡ 16 * 2 ^ suc («height-of» (k .instances)))) ⌝ }
-    ensures { λ r. ⌜ r ≡ length (proofFrom (circuitOf (now (s .entry))) (k .instances) (k .chosen) (k .parties) (now (witness .entry)) (statementOf (k .instances) (k .chosen) (k .parties) (now (s .entry)) (now (y .entry)) (now (message .entry))) (now (nodes .entry))) ⌝ }
-    ensures { λ r. ⌜ now (buffer .exit) ≡ proofFrom (circuitOf (now (s .entry))) (k .instances) (k .chosen) (k .parties) (now (witness .entry)) (statementOf (k .instances) (k .chosen) (k .parties) (now (s .entry)) (now (y .entry)) (now (message .entry))) (now (nodes .entry)) ++ drop r (now (buffer .entry)) ⌝ }
+    requires { ⌜ Lent (now s) z (k .parties) (k .height) (now memory) × (Tested (now s) z (k .instances) (k .chosen) (k .parties) (now witness) (now y) (now message) salt (now buffer) × (length (now nodes) ≡ 16 * 2 ^ suc («height-of» (k .instances)))) ⌝ }
+    ensures { λ r. ⌜ r ≡ length (proofFrom (circuitOf (now (s .entry))) (k .instances) (k .chosen) (k .parties) salt (now (witness .entry)) (statementOf salt (k .instances) (k .chosen) (k .parties) (now (s .entry)) (now (y .entry)) (now (message .entry))) (now (nodes .entry))) ⌝ }
+    ensures { λ r. ⌜ now (buffer .exit) ≡ proofFrom (circuitOf (now (s .entry))) (k .instances) (k .chosen) (k .parties) salt (now (witness .entry)) (statementOf salt (k .instances) (k .chosen) (k .parties) (now (s .entry)) (now (y .entry)) (now (message .entry))) (now (nodes .entry)) ++ drop r (now (buffer .entry)) ⌝ }
 {
     let m = k.instances as usize;
     let kept = HEADER_BYTES + 32 * m;
@@ -56,6 +60,7 @@ pub(crate) fn prove_from(
         s,
         z,
         k,
+        salt,
         witness,
         nodes,
         &mut buffer[HEADER_BYTES..kept],
@@ -66,14 +71,16 @@ pub(crate) fn prove_from(
         k.chosen,
         k.parties,
         &hstar,
+        &salt,
         &mut buffer[..HEADER_BYTES],
     );
     let mut table = [0u8; 512];
-    draw_challenge(s, k, &hstar, y, message, &mut table[..m]);
+    draw_challenge(s, k, &hstar, &salt, y, message, &mut table[..m]);
     answer(
         s,
         z,
         k,
+        salt,
         &table[..m],
         witness,
         nodes,
@@ -91,16 +98,29 @@ pub(crate) fn prove_in(
     y: &[u8],
     message: &[u8],
     root: &[u8],
+    salt: &[u8],
     buffer: &mut [u8],
     memory: &mut [u8],
 ) -> usize
-    requires { ⌜ Lent (now s) z (k .parties) (k .height) (now memory) × (Tested (now s) z (k .instances) (k .chosen) (k .parties) (now witness) (now y) (now message) (now buffer) × (length (now root) ≡ 16)) ⌝ }
-    ensures { λ r. ⌜ r ≡ length (proofOf (circuitOf (now (s .entry))) (k .instances) (k .chosen) (k .parties) (now (witness .entry)) (statementOf (k .instances) (k .chosen) (k .parties) (now (s .entry)) (now (y .entry)) (now (message .entry))) (now (root .entry))) ⌝ }
-    ensures { λ r. ⌜ now (buffer .exit) ≡ proofOf (circuitOf (now (s .entry))) (k .instances) (k .chosen) (k .parties) (now (witness .entry)) (statementOf (k .instances) (k .chosen) (k .parties) (now (s .entry)) (now (y .entry)) (now (message .entry))) (now (root .entry)) ++ drop r (now (buffer .entry)) ⌝ }
+    requires { ⌜ Lent (now s) z (k .parties) (k .height) (now memory) × (Tested (now s) z (k .instances) (k .chosen) (k .parties) (now witness) (now y) (now message) (now salt) (now buffer) × (length (now root) ≡ 16)) ⌝ }
+    ensures { λ r. ⌜ r ≡ length (proofOf (circuitOf (now (s .entry))) (k .instances) (k .chosen) (k .parties) (now (salt .entry)) (now (witness .entry)) (statementOf (now (salt .entry)) (k .instances) (k .chosen) (k .parties) (now (s .entry)) (now (y .entry)) (now (message .entry))) (now (root .entry))) ⌝ }
+    ensures { λ r. ⌜ now (buffer .exit) ≡ proofOf (circuitOf (now (s .entry))) (k .instances) (k .chosen) (k .parties) (now (salt .entry)) (now (witness .entry)) (statementOf (now (salt .entry)) (k .instances) (k .chosen) (k .parties) (now (s .entry)) (now (y .entry)) (now (message .entry))) (now (root .entry)) ++ drop r (now (buffer .entry)) ⌝ }
 {
     let m = k.instances;
     let len = 16 * row_count(m);
+    let own = salt_in(salt);
     let mut nodes = [0u8; 16384];
-    grow(65535, height(m), root, &mut nodes[..len]);
-    prove_from(s, z, k, witness, y, message, &nodes[..len], buffer, memory)
+    grow(masters_tree(own), height(m), root, &mut nodes[..len]);
+    prove_from(
+        s,
+        z,
+        k,
+        witness,
+        y,
+        message,
+        &nodes[..len],
+        own,
+        buffer,
+        memory,
+    )
 }

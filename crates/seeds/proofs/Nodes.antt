@@ -14,7 +14,7 @@ use lib.Seq.{take-at, take-append-le, drop-append-le}
 use Rattle.bits.specs.Bits.{tabulate}
 use Rattle.bits.specs.Bytes.{rowOf}
 use Rattle.cover.specs.Cover.{those, cover}
-use Rattle.cover.specs.Masters.{height, childOf, masterOf, coverOf, coverBytes}
+use Rattle.cover.specs.Masters.{height, childOf, mastersContext, masterOf, coverOf, coverBytes}
 use Rattle.cover.specs.Steps.{marksOf, openedBy, coverBy, nodesOf}
 use Rattle.cover.proofs.Search.{and-second, length-others}
 use Rattle.cover.proofs.Least.{least-height, height-low}
@@ -34,18 +34,18 @@ module _ (M h n : ℕ) (most : M ≤ 512) (e : h ≡ height M) (f : n ≡ 2 ^ h)
   leaves-hold = omega (arith, least-height .fits M, ap (λ (k : ℕ). 2 ^ k) e)
 
   -- the masters are a part of its nodes
-  pub masters-there : (k : ℕ) (root z rest : List ℕ) → length root ≡ 16 → k ≡ 16 * M → z ≡ nodesOf (childOf 65535) root h
-      → take (16 * n + k - 16 * n) (drop (16 * n) (z ++ rest)) ≡ flatten (tabulate M (masterOf M root))
-  masters-there k root z rest l g q =
+  pub masters-there : (k : ℕ) (salt root z rest : List ℕ) → length root ≡ 16 → k ≡ 16 * M → z ≡ nodesOf (childOf (mastersContext salt)) root h
+      → take (16 * n + k - 16 * n) (drop (16 * n) (z ++ rest)) ≡ flatten (tabulate M (masterOf M salt root))
+  masters-there k salt root z rest l g q =
       let p : n ≡ 2 ^ height M = f ∙ ap (λ (x : ℕ). 2 ^ x) e in
-      let len : length z ≡ 16 * (2 * n) = ap length q ∙ length-grown 65535 root l h ∙ omega (arith, pow-succ' 2 h) in
+      let len : length z ≡ 16 * (2 * n) = ap length q ∙ length-grown (mastersContext salt) root l h ∙ omega (arith, pow-succ' 2 h) in
       let a : 16 * n + k - 16 * n ≡ M * 16 = omega arith in
       let b : 16 * n ≡ 2 ^ height M * 16 = omega arith in
       ap (take (16 * n + k - 16 * n)) (drop-append-le (16 * n) z rest (omega arith))
       ∙ take-append-le (16 * n + k - 16 * n) (drop (16 * n) z) rest (rw (length-drop (16 * n) z) (omega (arith, leaves-hold)))
       ∙ ap₂ (λ (x y : ℕ). take x (drop y z)) a b
-      ∙ ap (λ (s : List ℕ). take (M * 16) (drop (2 ^ height M * 16) s)) (q ∙ ap (nodesOf (childOf 65535) root) e)
-      ∙ masters-part M root l
+      ∙ ap (λ (s : List ℕ). take (M * 16) (drop (2 ^ height M * 16) s)) (q ∙ ap (nodesOf (childOf (mastersContext salt)) root) e)
+      ∙ masters-part M salt root l
 
 -- what is at the front of a buffer is inside it
 pub front-holds : (a b : ℕ) (z rest : List ℕ) → length z ≡ b → a ≤ b → a ≤ length (z ++ rest)
@@ -93,9 +93,9 @@ module _ (M h n : ℕ) (hides : ℕ → Bool) (e : h ≡ height M) (f : n ≡ 2 
         ∙ ap (λ (x : ℕ). 16 * length (cover x M hides)) e
 
   -- the opened nodes, by the marks
-  pub opened-bytes : (root : List ℕ) → length root ≡ 16
-      → flatten (map (rowOf (nodesOf (childOf 65535) root h) 16) (coverBy (take (2 * n) (z ++ rest)))) ≡ coverOf M hides root
-  opened-bytes root l =
-      ap (λ (s : List ℕ). flatten (map (rowOf (nodesOf (childOf 65535) root h) 16) (coverBy s))) front-marks
-      ∙ ap (λ (x : ℕ). flatten (map (rowOf (nodesOf (childOf 65535) root x) 16) (coverBy (marksOf x M hides)))) e
-      ∙ gather-cover M hides root l
+  pub opened-bytes : (salt root : List ℕ) → length root ≡ 16
+      → flatten (map (rowOf (nodesOf (childOf (mastersContext salt)) root h) 16) (coverBy (take (2 * n) (z ++ rest)))) ≡ coverOf M hides salt root
+  opened-bytes salt root l =
+      ap (λ (s : List ℕ). flatten (map (rowOf (nodesOf (childOf (mastersContext salt)) root h) 16) (coverBy s))) front-marks
+      ∙ ap (λ (x : ℕ). flatten (map (rowOf (nodesOf (childOf (mastersContext salt)) root x) 16) (coverBy (marksOf x M hides)))) e
+      ∙ gather-cover M hides salt root l

@@ -1,5 +1,5 @@
 // The operations on seeds: expand a tree, open it (document 01), derive a challenge, make the masters, open their tree (document 02, orders
-// 1 and 5).
+// 1, 5 and 10).
 ghost use mathlib.Core.Path.{_≡_};
 ghost use mathlib.Core.Bool.{true};
 ghost use mathlib.Core.List.{map, flatten, [], _∷_};
@@ -9,7 +9,7 @@ ghost use lib.ListN.{length};
 ghost use Rattle.bits.specs.Bits.{bitVal, tabulate};
 ghost use Rattle.bits.specs.Bytes.{rowOf};
 ghost use Rattle.refusal.specs.Outcome.{done, unless};
-ghost use Rattle.cover.specs.Masters.{childOf, masterOf, coverOf, coverBytes};
+ghost use Rattle.cover.specs.Masters.{childOf, mastersContext, masterOf, coverOf, coverBytes};
 ghost use Rattle.cover.specs.Steps.{marksOf, coverBy, nodesOf};
 ghost use Rattle.seeds.specs.Operations.{outcome, areCounts, statementFits, isTreeSize, listed, areLeaves, expandOp, openOp, challengeOp, mastersOp, coverOp};
 use bits::clear;
@@ -17,12 +17,14 @@ use bits::copy;
 use bits::read_u16;
 use choice::MAX_INSTANCES;
 use choice::derive;
-use cover::MASTERS;
 use cover::gather;
 use cover::grow;
 use cover::leaves;
 use cover::mark;
+use cover::masters_tree;
 use cover::opened_before;
+use hashing::Context;
+use hashing::salt_in;
 use parties::height;
 use refusal::Refusal;
 use tree::leaves_below;
@@ -40,8 +42,8 @@ pub enum Answer {
 }
 
 // Expands the tree of instance j from its master into its n leaves.
-pub fn expand(j: u32, n: u32, master: &[u8], leaves: &mut [u8]) -> Answer
-    ensures { λ r. ⌜ outcome r (now (leaves .exit)) ≡ expandOp j n (now (master .entry)) (now (leaves .entry)) ⌝ }
+pub fn expand(j: u32, n: u32, salt: &[u8], master: &[u8], leaves: &mut [u8]) -> Answer
+    ensures { λ r. ⌜ outcome r (now (leaves .exit)) ≡ expandOp j n (now (salt .entry)) (now (master .entry)) (now (leaves .entry)) ⌝ }
 {
     if j > 65535 {
         return Answer::Refused(Refusal::Parameter);
@@ -50,19 +52,26 @@ pub fn expand(j: u32, n: u32, master: &[u8], leaves: &mut [u8]) -> Answer
     if h == 0 {
         return Answer::Refused(Refusal::Parameter);
     }
+    if salt.len() != 32 {
+        return Answer::Refused(Refusal::BufferLength);
+    }
     if master.len() != 16 {
         return Answer::Refused(Refusal::BufferLength);
     }
     if leaves.len() != 16 * (n as usize) {
         return Answer::Refused(Refusal::BufferLength);
     }
-    leaves_below(j, 1, h, master, leaves);
+    let context = Context {
+        salt: salt_in(salt),
+        number: j,
+    };
+    leaves_below(context, 1, h, master, leaves);
     Answer::Done
 }
 
 // Opens all leaves but p of the tree of instance j: the siblings on the path to p, top first.
-pub fn open(j: u32, n: u32, p: u32, master: &[u8], siblings: &mut [u8]) -> Answer
-    ensures { λ r. ⌜ outcome r (now (siblings .exit)) ≡ openOp j n p (now (master .entry)) (now (siblings .entry)) ⌝ }
+pub fn open(j: u32, n: u32, p: u32, salt: &[u8], master: &[u8], siblings: &mut [u8]) -> Answer
+    ensures { λ r. ⌜ outcome r (now (siblings .exit)) ≡ openOp j n p (now (salt .entry)) (now (master .entry)) (now (siblings .entry)) ⌝ }
 {
     if j > 65535 {
         return Answer::Refused(Refusal::Parameter);
@@ -74,13 +83,20 @@ pub fn open(j: u32, n: u32, p: u32, master: &[u8], siblings: &mut [u8]) -> Answe
     if p >= n {
         return Answer::Refused(Refusal::Index);
     }
+    if salt.len() != 32 {
+        return Answer::Refused(Refusal::BufferLength);
+    }
     if master.len() != 16 {
         return Answer::Refused(Refusal::BufferLength);
     }
     if siblings.len() != 16 * (h as usize) {
         return Answer::Refused(Refusal::BufferLength);
     }
-    siblings_below(j, 1, h, p, master, siblings);
+    let context = Context {
+        salt: salt_in(salt),
+        number: j,
+    };
+    siblings_below(context, 1, h, p, master, siblings);
     Answer::Done
 }
 
@@ -91,28 +107,30 @@ pub fn counts(m: u32, tau: u32) -> bool
     2 <= m && ((m as usize) <= MAX_INSTANCES && (1 <= tau && tau < m))
 }
 
-// Whether h* and the digest have 32 bytes, y 1 to 32 and the message no more than a message may have.
-fn statement_fits(hstar: &[u8], digest: &[u8], y: &[u8], message: &[u8]) -> bool
-    ensures { λ r. ⌜ r ≡ statementFits (now (hstar .entry)) (now (digest .entry)) (now (y .entry)) (now (message .entry)) ⌝ }
+// Whether h*, the salt and the digest have 32 bytes, y 1 to 32 and the message no more than a message may have.
+fn statement_fits(hstar: &[u8], salt: &[u8], digest: &[u8], y: &[u8], message: &[u8]) -> bool
+    ensures { λ r. ⌜ r ≡ statementFits (now (hstar .entry)) (now (salt .entry)) (now (digest .entry)) (now (y .entry)) (now (message .entry)) ⌝ }
 {
     hstar.len() == 32
-        && (digest.len() == 32
-            && (1 <= y.len() && (y.len() <= MAX_OUTPUT_BYTES && message.len() <= MAX_MESSAGE)))
+        && (salt.len() == 32
+            && (digest.len() == 32
+                && (1 <= y.len() && (y.len() <= MAX_OUTPUT_BYTES && message.len() <= MAX_MESSAGE))))
 }
 
-// Derives the challenge: tau chosen instances, ascending, each with its hidden party. It is bound to the counts, the digest of the
+// Derives the challenge: tau chosen instances, ascending, each with its hidden party. It is bound to the salt, the counts, the digest of the
 // circuit file, y and the message.
 pub fn challenge(
     m: u32,
     tau: u32,
     n: u32,
     hstar: &[u8],
+    salt: &[u8],
     digest: &[u8],
     y: &[u8],
     message: &[u8],
     out: &mut [u8],
 ) -> Answer
-    ensures { λ r. ⌜ outcome r (now (out .exit)) ≡ challengeOp m tau n (now (hstar .entry)) (now (digest .entry)) (now (y .entry)) (now (message .entry)) (now (out .entry)) ⌝ }
+    ensures { λ r. ⌜ outcome r (now (out .exit)) ≡ challengeOp m tau n (now (hstar .entry)) (now (salt .entry)) (now (digest .entry)) (now (y .entry)) (now (message .entry)) (now (out .entry)) ⌝ }
 {
     let fit = counts(m, tau);
     if !fit {
@@ -122,7 +140,7 @@ pub fn challenge(
     if h == 0 {
         return Answer::Refused(Refusal::Parameter);
     }
-    let lent = statement_fits(hstar, digest, y, message);
+    let lent = statement_fits(hstar, salt, digest, y, message);
     if !lent {
         return Answer::Refused(Refusal::BufferLength);
     }
@@ -134,6 +152,7 @@ pub fn challenge(
         tau as usize,
         n as u8,
         hstar,
+        salt,
         digest,
         y,
         message,
@@ -150,26 +169,29 @@ fn tree_size(m: u32) -> bool
 }
 
 // The masters of m instances.
-fn fill_masters(m: u32, root: &[u8], out: &mut [u8])
-    requires { ⌜ (m ≤ 512) × ((length (now root) ≡ 16) × (length (now out) ≡ 16 * m)) ⌝ }
-    ensures { λ _. ⌜ now (out .exit) ≡ flatten (tabulate m (masterOf m (now (root .entry)))) ⌝ }
+fn fill_masters(m: u32, salt: &[u8], root: &[u8], out: &mut [u8])
+    requires { ⌜ (m ≤ 512) × ((length (now salt) ≡ 32) × ((length (now root) ≡ 16) × (length (now out) ≡ 16 * m))) ⌝ }
+    ensures { λ _. ⌜ now (out .exit) ≡ flatten (tabulate m (masterOf m (now (salt .entry)) (now (root .entry)))) ⌝ }
 {
     let h = cover::height(m);
     let n = leaves(h);
     let mut nodes = [0u8; 16384];
-    grow(MASTERS, h, root, &mut nodes[..32 * n]);
+    grow(masters_tree(salt_in(salt)), h, root, &mut nodes[..32 * n]);
     let a = 16 * n;
     let e = a + out.len();
     copy(&nodes[a..e], out);
 }
 
 // Makes the masters of m instances from the root.
-pub fn masters(m: u32, root: &[u8], out: &mut [u8]) -> Answer
-    ensures { λ r. ⌜ outcome r (now (out .exit)) ≡ mastersOp m (now (root .entry)) (now (out .entry)) ⌝ }
+pub fn masters(m: u32, salt: &[u8], root: &[u8], out: &mut [u8]) -> Answer
+    ensures { λ r. ⌜ outcome r (now (out .exit)) ≡ mastersOp m (now (salt .entry)) (now (root .entry)) (now (out .entry)) ⌝ }
 {
     let fit = tree_size(m);
     if !fit {
         return Answer::Refused(Refusal::Parameter);
+    }
+    if salt.len() != 32 {
+        return Answer::Refused(Refusal::BufferLength);
     }
     if root.len() != 16 {
         return Answer::Refused(Refusal::BufferLength);
@@ -177,7 +199,7 @@ pub fn masters(m: u32, root: &[u8], out: &mut [u8]) -> Answer
     if out.len() != 16 * (m as usize) {
         return Answer::Refused(Refusal::BufferLength);
     }
-    fill_masters(m, root, out);
+    fill_masters(m, salt, root, out);
     Answer::Done
 }
 
@@ -223,20 +245,20 @@ fn mark_listed(m: u32, h: u32, list: &[u8], marks: &mut [u8])
 }
 
 // The values of the opened nodes, from the root.
-fn open_nodes(h: u32, root: &[u8], marks: &[u8], out: &mut [u8])
-    requires { ⌜ ((h ≤ 9) × (length (now root) ≡ 16)) × ((length (now marks) ≡ 2 ^ suc h) × (length (now out) ≡ 16 * length (coverBy (now marks)))) ⌝ }
-    ensures { λ _. ⌜ now (out .exit) ≡ flatten (map (rowOf (nodesOf (childOf 65535) (now (root .entry)) h) 16) (coverBy (now (marks .entry)))) ⌝ }
+fn open_nodes(h: u32, salt: &[u8], root: &[u8], marks: &[u8], out: &mut [u8])
+    requires { ⌜ ((h ≤ 9) × ((length (now salt) ≡ 32) × (length (now root) ≡ 16))) × ((length (now marks) ≡ 2 ^ suc h) × (length (now out) ≡ 16 * length (coverBy (now marks)))) ⌝ }
+    ensures { λ _. ⌜ now (out .exit) ≡ flatten (map (rowOf (nodesOf (childOf (mastersContext (now (salt .entry)))) (now (root .entry)) h) 16) (coverBy (now (marks .entry)))) ⌝ }
 {
     let mut nodes = [0u8; 16384];
     let end = 16 * marks.len();
-    grow(MASTERS, h, root, &mut nodes[..end]);
+    grow(masters_tree(salt_in(salt)), h, root, &mut nodes[..end]);
     gather(marks, &nodes[..end], out);
 }
 
 // Opens the tree over m masters, if the output has 16 bytes for each opened node.
-fn open_listed(m: u32, list: &[u8], root: &[u8], out: &mut [u8]) -> Answer
-    requires { ⌜ (m ≤ 512) × ((areLeaves m (now list) ≡ true) × (length (now root) ≡ 16)) ⌝ }
-    ensures { λ r. ⌜ outcome r (now (out .exit)) ≡ unless (eqb (length (now (out .entry))) (coverBytes m (listed (now (list .entry))))) 6 (now (out .entry) ∷ []) (done (coverOf m (listed (now (list .entry))) (now (root .entry)) ∷ [])) ⌝ }
+fn open_listed(m: u32, list: &[u8], salt: &[u8], root: &[u8], out: &mut [u8]) -> Answer
+    requires { ⌜ (m ≤ 512) × ((areLeaves m (now list) ≡ true) × ((length (now salt) ≡ 32) × (length (now root) ≡ 16))) ⌝ }
+    ensures { λ r. ⌜ outcome r (now (out .exit)) ≡ unless (eqb (length (now (out .entry))) (coverBytes m (listed (now (list .entry))))) 6 (now (out .entry) ∷ []) (done (coverOf m (listed (now (list .entry))) (now (salt .entry)) (now (root .entry)) ∷ [])) ⌝ }
 {
     let h = cover::height(m);
     let end = 2 * leaves(h);
@@ -246,13 +268,13 @@ fn open_listed(m: u32, list: &[u8], root: &[u8], out: &mut [u8]) -> Answer
     if out.len() != 16 * n {
         return Answer::Refused(Refusal::BufferLength);
     }
-    open_nodes(h, root, &marks[..end], out);
+    open_nodes(h, salt, root, &marks[..end], out);
     Answer::Done
 }
 
 // Opens the tree over m masters with the listed leaves hidden: the fewest nodes from which every other master follows and no hidden one.
-pub fn cover(m: u32, hidden: &[u8], root: &[u8], out: &mut [u8]) -> Answer
-    ensures { λ r. ⌜ outcome r (now (out .exit)) ≡ coverOp m (now (hidden .entry)) (now (root .entry)) (now (out .entry)) ⌝ }
+pub fn cover(m: u32, hidden: &[u8], salt: &[u8], root: &[u8], out: &mut [u8]) -> Answer
+    ensures { λ r. ⌜ outcome r (now (out .exit)) ≡ coverOp m (now (hidden .entry)) (now (salt .entry)) (now (root .entry)) (now (out .entry)) ⌝ }
 {
     let fit = tree_size(m);
     if !fit {
@@ -265,8 +287,11 @@ pub fn cover(m: u32, hidden: &[u8], root: &[u8], out: &mut [u8]) -> Answer
     if hidden.len() % 2 != 0 {
         return Answer::Refused(Refusal::BufferLength);
     }
+    if salt.len() != 32 {
+        return Answer::Refused(Refusal::BufferLength);
+    }
     if root.len() != 16 {
         return Answer::Refused(Refusal::BufferLength);
     }
-    open_listed(m, hidden, root, out)
+    open_listed(m, hidden, salt, root, out)
 }

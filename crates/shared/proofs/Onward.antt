@@ -12,7 +12,7 @@ use Rattle.circuit.specs.Circuit.{Circuit}
 use Rattle.circuit.specs.File.{circuitOf}
 use Rattle.instance.specs.Instance.{Asked}
 use Rattle.instance.specs.Opened.{stretchCommitments, stretchOnline, stretchOutput}
-use Rattle.proof.specs.File.{headerM, headerN, headerHstar, masterAt, stretchAt}
+use Rattle.proof.specs.File.{headerM, headerN, headerHstar, contextAt, masterAt, stretchAt}
 use Rattle.checking.specs.declared.stepping.Running.{Running}
 use Rattle.checking.specs.RunningDigests.{more, hstarIn}
 use Rattle.schedule.specs.Schedule.{Outcome, goesOn, finished}
@@ -48,8 +48,8 @@ kept-instance s y message proof j =
     let ask : ℕ → Asked = asks s y message proof in
     let i : ℕ = j .next in
     let part : List ℕ = stretchAt c M n ask proof i in
-    let d : Running = more (settledBoth (j .digests)) (stretchCommitments c n i (masterAt M ask proof i) part (ask i)) (stretchOnline c n i part (ask i)) in
-    kept-two (j .places) (ltb i M) (stretchOutput c n i y part (ask i)) (afterInstance proof j d) (kept-after proof j d)
+    let d : Running = more (settledBoth (j .digests)) (stretchCommitments c n (contextAt proof i) (masterAt M ask proof i) part (ask i)) (stretchOnline c n (contextAt proof i) part (ask i)) in
+    kept-two (j .places) (ltb i M) (stretchOutput c n (contextAt proof i) y part (ask i)) (afterInstance proof j d) (kept-after proof j d)
 
 kept-refused : (p : Places) (o : Option ℕ) (x : Outcome Job ℕ) → ((k : ℕ) → o ≡ some k → k < 255) → Kept p x → Kept p (unlessRefused o finished x)
 unfolding Kept

@@ -27,7 +27,7 @@ use Rattle.shared.specs.declared.entering.Looked.{Looked}
 use Rattle.shared.specs.declared.entering.Looked.the-variants as looked
 use Rattle.shared.specs.Steps.{Looking, ReadyAt, instanceAt}
 use Rattle.instance.specs.Instance.{Asked}
-use Rattle.proof.specs.File.{headerM, headerHstar}
+use Rattle.proof.specs.File.{headerM, headerHstar, headerSalt}
 use Rattle.checking.specs.declared.stepping.Running.{Running}
 use Rattle.checking.specs.RunningDigests.{more, hstarIn}
 use Rattle.checking.specs.Steps.{outputAt, commitmentsAt, onlineAt, Tested}
@@ -126,8 +126,8 @@ module _ (f : Shape) (buffer : List ℕ) (job : Job) (table marks : List ℕ) (t
       e
       ∙ (rw (es, ey, ep) refl
       ∙ (ap (λ (a : ℕ → Asked). nextInstance (circuitOf S) (f .counts .instances) (f .counts .parties) a Y P job) (t .ready .asks)
-      ∙ (ap (λ (m : ℕ). nextInstance (circuitOf S) m (f .counts .parties) (challenged m (f .counts .chosen) (f .counts .parties) (headerHstar P) (statementOf m (f .counts .chosen) (f .counts .parties) S Y X)) Y P job) (h .is-M)
-      ∙ ap₂ (λ (u q : ℕ). nextInstance (circuitOf S) (headerM P) q (challenged (headerM P) u q (headerHstar P) (statementOf (headerM P) u q S Y X)) Y P job) (h .is-tau) (h .is-n))))
+      ∙ (ap (λ (m : ℕ). nextInstance (circuitOf S) m (f .counts .parties) (challenged m (f .counts .chosen) (f .counts .parties) (headerHstar P) (statementOf (headerSalt P) m (f .counts .chosen) (f .counts .parties) S Y X)) Y P job) (h .is-M)
+      ∙ ap₂ (λ (u q : ℕ). nextInstance (circuitOf S) (headerM P) q (challenged (headerM P) u q (headerHstar P) (statementOf (headerSalt P) (headerM P) u q S Y X)) Y P job) (h .is-tau) (h .is-n))))
 
 -- a service is its next instance, unless its bytes are refused
 by-instance : (buffer : List ℕ) (job : Job) → unlessRefused (entryAt buffer (job .places)) finished (instanceAt buffer job) ≡ serviceAt buffer job

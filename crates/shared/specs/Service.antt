@@ -15,7 +15,7 @@ use Rattle.circuit.specs.File.{Reading, refused, legal, readCircuit, circuitOf}
 use Rattle.instance.specs.Instance.{Asked}
 use Rattle.instance.specs.Opened.{stretchCommitments, stretchOnline, stretchOutput}
 use Rattle.proof.specs.Protocol.{statementOf, challenged}
-use Rattle.proof.specs.File.{headerM, headerTau, headerN, headerHstar, masterAt, stretchAt}
+use Rattle.proof.specs.File.{headerM, headerTau, headerN, headerHstar, headerSalt, contextAt, masterAt, stretchAt}
 use Rattle.proof.specs.Check.{checkLegal}
 use Rattle.checking.specs.declared.stepping.Running.{Running}
 use Rattle.checking.specs.RunningDigests.{started, more, hstarIn}
@@ -69,7 +69,7 @@ settledBoth d = record { commitments = settled (d .commitments); online = settle
 abbrev pub asks : List ℕ → List ℕ → List ℕ → List ℕ → ℕ → Asked
 asks s y message proof =
     challenged (headerM proof) (headerTau proof) (headerN proof) (headerHstar proof)
-    (statementOf (headerM proof) (headerTau proof) (headerN proof) s y message)
+    (statementOf (headerSalt proof) (headerM proof) (headerTau proof) (headerN proof) s y message)
 
 -- the proof with one instance more taken in: it goes on, or "is finished by its last instance", and h* decides
 unfoldable pub afterInstance : List ℕ → Job → Running → Outcome Job ℕ
@@ -83,8 +83,8 @@ nextInstance c M n ask y proof job =
     let j : ℕ = job .next in
     let part : List ℕ = stretchAt c M n ask proof j in
     cond (ltb j M)
-    (cond (stretchOutput c n j y part (ask j))
-    (afterInstance proof job (more (settledBoth (job .digests)) (stretchCommitments c n j (masterAt M ask proof j) part (ask j)) (stretchOnline c n j part (ask j))))
+    (cond (stretchOutput c n (contextAt proof j) y part (ask j))
+    (afterInstance proof job (more (settledBoth (job .digests)) (stretchCommitments c n (contextAt proof j) (masterAt M ask proof j) part (ask j)) (stretchOnline c n (contextAt proof j) part (ask j))))
     (finished 10))
     (finished 13)
 

@@ -5,7 +5,7 @@ ghost use lib.ListN.{length};
 ghost use Rattle.circuit.specs.File.{circuitOf};
 ghost use Rattle.masks.specs.Steps.{wireCount};
 ghost use Rattle.checking.specs.Steps.{Tested};
-ghost use Rattle.proof.specs.File.{headerM};
+ghost use Rattle.proof.specs.File.{headerBytes, headerM};
 ghost use Rattle.proof.specs.Steps.{asksIn};
 ghost use Rattle.shared.specs.Service.{settled as «settled-of», settledBoth, afterInstance, nextInstance};
 ghost use Rattle.schedule.specs.Schedule.{finished as «finished-with»};
@@ -58,7 +58,7 @@ fn settled_both(d: Running) -> Running
 
 // The proof with the digests of its next instance taken in: it goes on, or h* decides.
 fn taken_in(job: Job, d: Running, m: u32, proof: &[u8]) -> Served
-    requires { ⌜ ((d .commitments .fill < 136) × (d .online .fill < 136)) × ((38 ≤ length (now proof)) × ((m ≡ headerM (now proof)) × (job .next < m))) ⌝ }
+    requires { ⌜ ((d .commitments .fill < 136) × (d .online .fill < 136)) × ((headerBytes ≤ length (now proof)) × ((m ≡ headerM (now proof)) × (job .next < m))) ⌝ }
     ensures { λ r. ⌜ outcomeOf r ≡ afterInstance (now (proof .entry)) job d ⌝ }
 {
     let places = job.places;

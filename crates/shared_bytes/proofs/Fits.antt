@@ -26,7 +26,7 @@ use Rattle.circuit.specs.Circuit.{Circuit}
 use Rattle.circuit.specs.File.{circuitOf}
 use Rattle.instance.specs.Instance.{Asked}
 use Rattle.instance.specs.Opened.{stretchCommitments, stretchOnline, stretchOutput}
-use Rattle.proof.specs.File.{headerM, headerN, headerHstar, masterAt, stretchAt}
+use Rattle.proof.specs.File.{headerM, headerN, headerHstar, contextAt, masterAt, stretchAt}
 use Rattle.checking.specs.declared.stepping.Running.{Running}
 use Rattle.checking.specs.RunningDigests.{started, more, hstarIn}
 use Rattle.checking.proofs.Hashed.{commitments-bytes, online-bytes, stretch-bytes}
@@ -160,15 +160,15 @@ instance-fits s y message proof j bytes f =
     let ask : ℕ → Asked = asks s y message proof in
     let i : ℕ = j .next in
     let part : List ℕ = stretchAt c M n ask proof i in
-    let h : List ℕ = stretchCommitments c n i (masterAt M ask proof i) part (ask i) in
-    let o : List ℕ = stretchOnline c n i part (ask i) in
+    let h : List ℕ = stretchCommitments c n (contextAt proof i) (masterAt M ask proof i) part (ask i) in
+    let o : List ℕ = stretchOnline c n (contextAt proof i) part (ask i) in
     let d : Running = more (settledBoth (j .digests)) h o in
-    two-fit (ltb i M) (stretchOutput c n i y part (ask i)) (afterInstance proof j d)
+    two-fit (ltb i M) (stretchOutput c n (contextAt proof i) y part (ask i)) (afterInstance proof j d)
     (after-fits proof j d bytes (f .places)
     (absorbs-fit h (settled (j .digests .commitments)) (settled-fits (j .digests .commitments) (f .commitments))
-    (commitments-bytes c n i (masterAt M ask proof i) part (ask i)))
+    (commitments-bytes c n (contextAt proof i) (masterAt M ask proof i) part (ask i)))
     (absorbs-fit o (settled (j .digests .online)) (settled-fits (j .digests .online) (f .online))
-    (online-bytes c n i part (stretch-bytes c M n ask proof bytes i) (ask i))))
+    (online-bytes c n (contextAt proof i) part (stretch-bytes c M n ask proof bytes i) (ask i))))
 
 service-fits : (buffer : List ℕ) → Bytes buffer → (j : Job) → JobFits j → OutcomeFits (serviceAt buffer j)
 unfolding serviceAt

@@ -9,11 +9,12 @@ use Prim.Native.Nat.{ℕ, zero, suc, _+_, _-_, _*_, _^_}
 use lib.Dec.{ltb}
 use lib.ListN.{length, take, drop, length-append, length-drop}
 use lib.Seq.{length-take-le}
+use Rattle.hashing.specs.declared.Context.{Context}
 use Rattle.keccak.proofs.Lengths.{length-shake128}
 use Rattle.tree.specs.Tree.{children, leftChild, rightChild, leavesBelow, siblingsBelow, openedBelow}
 
 -- each child of a node has 16 bytes
-module _ (j k : ℕ) (v : List ℕ) where
+module _ (j : Context) (k : ℕ) (v : List ℕ) where
   pub length-children : length (children j k v) ≡ 32
   unfolding children
   length-children = length-shake128 _ 32
@@ -34,7 +35,7 @@ module _ (j k : ℕ) (v : List ℕ) where
   length-right = ap length right-is ∙ (length-drop 16 (children j k v) ∙ omega (arith, length-children))
 
 -- 16 bytes for each leaf
-pub length-leaves : (j h k : ℕ) (v : List ℕ) → length v ≡ 16 → length (leavesBelow j h k v) ≡ 16 * 2 ^ h
+pub length-leaves : (j : Context) (h k : ℕ) (v : List ℕ) → length v ≡ 16 → length (leavesBelow j h k v) ≡ 16 * 2 ^ h
 unfolding leavesBelow
 length-leaves j zero k v l = l
 length-leaves j (suc h) k v l =
@@ -47,11 +48,11 @@ length-either true x y n p q = p
 length-either false x y n p q = q
 
 -- the sibling at the top comes first
-siblings-start : (j k p : ℕ) (v : List ℕ) → siblingsBelow j 0 k p v ≡ []
+siblings-start : (j : Context) (k p : ℕ) (v : List ℕ) → siblingsBelow j 0 k p v ≡ []
 unfolding siblingsBelow
 siblings-start j k p v = refl
 
-siblings-step : (j h k p : ℕ) (v : List ℕ)
+siblings-step : (j : Context) (h k p : ℕ) (v : List ℕ)
     → siblingsBelow j (suc h) k p v
     ≡ cond (ltb p (2 ^ h)) (rightChild j k v ++ siblingsBelow j h (2 * k) p (leftChild j k v))
     (leftChild j k v ++ siblingsBelow j h (2 * k + 1) (p - 2 ^ h) (rightChild j k v))
@@ -59,7 +60,7 @@ unfolding siblingsBelow
 siblings-step j h k p v = refl
 
 -- 16 bytes for each level
-pub length-siblings : (j h k p : ℕ) (v : List ℕ) → length (siblingsBelow j h k p v) ≡ 16 * h
+pub length-siblings : (j : Context) (h k p : ℕ) (v : List ℕ) → length (siblingsBelow j h k p v) ≡ 16 * h
 length-siblings j zero k p v = ap length (siblings-start j k p v)
 length-siblings j (suc h) k p v =
     ap length (siblings-step j h k p v)
@@ -68,7 +69,7 @@ length-siblings j (suc h) k p v =
     (length-append (rightChild j k v) _ ∙ omega (arith, length-right j k v, length-siblings j h (2 * k) p (leftChild j k v)))
     (length-append (leftChild j k v) _ ∙ omega (arith, length-left j k v, length-siblings j h (2 * k + 1) (p - 2 ^ h) (rightChild j k v)))
 
-pub length-opened : (j h k p : ℕ) (s : List ℕ) → length s ≡ 16 * h → length (openedBelow j h k p s) ≡ 16 * 2 ^ h
+pub length-opened : (j : Context) (h k p : ℕ) (s : List ℕ) → length s ≡ 16 * h → length (openedBelow j h k p s) ≡ 16 * 2 ^ h
 unfolding openedBelow
 length-opened j zero k p s l = refl
 length-opened j (suc h) k p s l =

@@ -7,6 +7,7 @@ use mathlib.Core.Path.{_≡_, sym, ap, _∙_}
 use mathlib.Core.List.{List, [], _∷_, _++_, append-nil}
 use Prim.Native.Nat.{ℕ, suc, _+_, _-_, _*_, _/_, _%_, _^_, _≤_, _<_}
 use mathlib.Core.Logic.{⊎-elim}
+use Rattle.hashing.specs.declared.Context.{Context}
 use Rattle.bits.proofs.Numbers.{lt-or-le}
 use borrow.Author.Tests.{lt-ltb, le-ltb}
 use lib.Pow.{pow-pos, pow-lt}
@@ -83,11 +84,11 @@ both-kept out L R a l w r =
     ap length (both-parts out L R a l) ∙ (length-append L R ∙ omega arith)
 
 -- the two children in 32 bytes
-pub left-part : (j k : ℕ) (v c : List ℕ) → c ≡ children j k v → take 16 c ≡ leftChild j k v
+pub left-part : (j : Context) (k : ℕ) (v c : List ℕ) → c ≡ children j k v → take 16 c ≡ leftChild j k v
 unfolding leftChild
 left-part j k v c e = ap (take 16) e
 
-pub right-part : (j k : ℕ) (v c : List ℕ) → c ≡ children j k v → length c ≡ 32 → take 16 (drop 16 c) ≡ rightChild j k v
+pub right-part : (j : Context) (k : ℕ) (v c : List ℕ) → c ≡ children j k v → length c ≡ 32 → take 16 (drop 16 c) ≡ rightChild j k v
 unfolding rightChild
 right-part j k v c e l = take-all 16 (drop 16 c) (rw length-drop (omega arith)) ∙ ap (drop 16) e
 
@@ -164,18 +165,18 @@ module _ (h : ℕ) (out L : List ℕ) (some : 1 ≤ h) (o : length out ≡ 16 * 
   first-kept R = both-kept out L R 16 (l ∙ first-length out some o) (first-fits some o)
 
 -- a leaf is its own subtree
-pub leaves-none : (j k h : ℕ) (v : List ℕ) → h ≡ 0 → v ≡ leavesBelow j h k v
+pub leaves-none : (j : Context) (k h : ℕ) (v : List ℕ) → h ≡ 0 → v ≡ leavesBelow j h k v
 unfolding leavesBelow
 leaves-none j k h v e = rw e
 
 -- a node's subtree is the same rule applied to its two children
-pub leaves-more : (j k h : ℕ) (v : List ℕ) → (h ≡ 0 → ⊥)
+pub leaves-more : (j : Context) (k h : ℕ) (v : List ℕ) → (h ≡ 0 → ⊥)
     → leavesBelow j h k v ≡ leavesBelow j (h - 1) (2 * k) (leftChild j k v) ++ leavesBelow j (h - 1) (2 * k + 1) (rightChild j k v)
 unfolding leavesBelow
 leaves-more j k h v more = ap (λ (x : ℕ). leavesBelow j x k v) (one-less h more)
 
 -- what the two calls below node k leave in the lent leaves
-pub leaves-joined : (j k h : ℕ) (v c out L R : List ℕ) → (h ≡ 0 → ⊥) → length out ≡ 16 * 2 ^ h
+pub leaves-joined : (j : Context) (k h : ℕ) (v c out L R : List ℕ) → (h ≡ 0 → ⊥) → length out ≡ 16 * 2 ^ h
     → c ≡ children j k v → length c ≡ 32
     → length L ≡ length (take (length out / 2) out)
     → L ≡ leavesBelow j (h - 1) (2 * k) (take 16 c)
@@ -186,38 +187,38 @@ leaves-joined j k h v c out L R more o e n l p q =
     ∙ (rw (p, q, left-part j k v c e, right-part j k v c e n) (sym (leaves-more j k h v more)))
 
 -- no siblings at height 0
-pub siblings-none : (j k h p : ℕ) (v out : List ℕ) → h ≡ 0 → length out ≡ 16 * h → out ≡ siblingsBelow j h k p v
+pub siblings-none : (j : Context) (k h p : ℕ) (v out : List ℕ) → h ≡ 0 → length out ≡ 16 * h → out ≡ siblingsBelow j h k p v
 unfolding siblingsBelow
 siblings-none j k h p v [] e l = rw e
 siblings-none j k h p v (x ∷ out) e l = absurd (omega arith)
 
 -- leaf p is below the left child, or below the right one
-pub siblings-left : (j k h p : ℕ) (v : List ℕ) → (h ≡ 0 → ⊥) → p < 2 ^ (h - 1)
+pub siblings-left : (j : Context) (k h p : ℕ) (v : List ℕ) → (h ≡ 0 → ⊥) → p < 2 ^ (h - 1)
     → siblingsBelow j h k p v ≡ rightChild j k v ++ siblingsBelow j (h - 1) (2 * k) p (leftChild j k v)
 unfolding siblingsBelow
 siblings-left j k h p v more w = ap (λ (x : ℕ). siblingsBelow j x k p v) (one-less h more) ∙ rw (lt-ltb _ _ w)
 
-pub siblings-right : (j k h p : ℕ) (v : List ℕ) → (h ≡ 0 → ⊥) → 2 ^ (h - 1) ≤ p
+pub siblings-right : (j : Context) (k h p : ℕ) (v : List ℕ) → (h ≡ 0 → ⊥) → 2 ^ (h - 1) ≤ p
     → siblingsBelow j h k p v ≡ leftChild j k v ++ siblingsBelow j (h - 1) (2 * k + 1) (p - 2 ^ (h - 1)) (rightChild j k v)
 unfolding siblingsBelow
 siblings-right j k h p v more w = ap (λ (x : ℕ). siblingsBelow j x k p v) (one-less h more) ∙ rw (le-ltb _ _ w)
 
-pub opened-left : (j k h p : ℕ) (s : List ℕ) → (h ≡ 0 → ⊥) → p < 2 ^ (h - 1)
+pub opened-left : (j : Context) (k h p : ℕ) (s : List ℕ) → (h ≡ 0 → ⊥) → p < 2 ^ (h - 1)
     → openedBelow j h k p s ≡ openedBelow j (h - 1) (2 * k) p (drop 16 s) ++ leavesBelow j (h - 1) (2 * k + 1) (take 16 s)
 unfolding openedBelow
 opened-left j k h p s more w = ap (λ (x : ℕ). openedBelow j x k p s) (one-less h more) ∙ rw (lt-ltb _ _ w)
 
-pub opened-right : (j k h p : ℕ) (s : List ℕ) → (h ≡ 0 → ⊥) → 2 ^ (h - 1) ≤ p
+pub opened-right : (j : Context) (k h p : ℕ) (s : List ℕ) → (h ≡ 0 → ⊥) → 2 ^ (h - 1) ≤ p
     → openedBelow j h k p s ≡ leavesBelow j (h - 1) (2 * k) (take 16 s) ++ openedBelow j (h - 1) (2 * k + 1) (p - 2 ^ (h - 1)) (drop 16 s)
 unfolding openedBelow
 opened-right j k h p s more w = ap (λ (x : ℕ). openedBelow j x k p s) (one-less h more) ∙ rw (le-ltb _ _ w)
 
-pub opened-none : (j k h p : ℕ) (s : List ℕ) (n : ℕ) → h ≡ 0 → n ≡ 16 * 2 ^ h → replicate n 0 ≡ openedBelow j h k p s
+pub opened-none : (j : Context) (k h p : ℕ) (s : List ℕ) (n : ℕ) → h ≡ 0 → n ≡ 16 * 2 ^ h → replicate n 0 ≡ openedBelow j h k p s
 unfolding openedBelow
 opened-none j k h p s n e l = rw (l, e)
 
 -- what a copy and a call leave in the lent siblings
-module _ (j k h p half : ℕ) (v c out L R : List ℕ) (more : h ≡ 0 → ⊥) (is : half ≡ 2 ^ (h - 1)) (e : c ≡ children j k v) (n : length c ≡ 32) where
+module _ (j : Context) (k h p half : ℕ) (v c out L R : List ℕ) (more : h ≡ 0 → ⊥) (is : half ≡ 2 ^ (h - 1)) (e : c ≡ children j k v) (n : length c ≡ 32) where
   pub siblings-joined-left : p < half → L ≡ take 16 (drop 16 c) → R ≡ siblingsBelow j (h - 1) (2 * k) p (take 16 c)
       → putMid 16 (length (L ++ drop 16 out) - 16) (L ++ drop 16 out) R ≡ siblingsBelow j h k p v
   siblings-joined-left w l r =
@@ -231,7 +232,7 @@ module _ (j k h p half : ℕ) (v c out L R : List ℕ) (more : h ≡ 0 → ⊥) 
       ∙ (rw (l, r, left-part j k v c e, right-part j k v c e n, is) (sym (siblings-right j k h p v more (omega arith))))
 
 -- what two calls leave in the lent leaves of an opening
-module _ (j k h p half : ℕ) (s out L R : List ℕ) (more : h ≡ 0 → ⊥) (is : half ≡ 2 ^ (h - 1)) (o : length out ≡ 16 * 2 ^ h) (n : length L ≡ length (take (length out / 2) out)) where
+module _ (j : Context) (k h p half : ℕ) (s out L R : List ℕ) (more : h ≡ 0 → ⊥) (is : half ≡ 2 ^ (h - 1)) (o : length out ≡ 16 * 2 ^ h) (n : length L ≡ length (take (length out / 2) out)) where
   rest : take (length s - 16) (drop 16 s) ≡ drop 16 s
   rest = take-all (length s - 16) (drop 16 s) (rw length-drop (omega arith))
 

@@ -11,6 +11,7 @@ use borrow.Author.Tests.{eq-eqb, ne-eqb}
 use lib.Dec.{eqb}
 use lib.ListN.{length, drop, length-append, length-drop}
 use lib.Seq.{take-all, take-append-le, drop-append-le, drop-append-add}
+use Rattle.hashing.specs.declared.Context.{Context}
 use Rattle.bits.specs.Bytes.{rowOf}
 use Rattle.bits.proofs.Numbers.{lt-or-le}
 use Rattle.bits.proofs.Rows.{row-inside}
@@ -20,7 +21,7 @@ use Rattle.tree.specs.Tree.{leftChild, rightChild, nodeValue, leavesBelo
 use Rattle.tree.proofs.Lengths.{length-left, length-right, length-leaves}
 
 -- nodes 2k and 2k + 1 are the children of node k
-module _ (j : ℕ) (m : List ℕ) (d k : ℕ) where
+module _ (j : Context) (m : List ℕ) (d k : ℕ) where
   pub node-left : nodeValue j m (suc d) (2 * k) ≡ leftChild j k (nodeValue j m d k)
   unfolding nodeValue
   node-left = let e : 2 * k / 2 ≡ k = omega arith in rw (eq-eqb (2 * k % 2) 0 (omega arith), e)
@@ -33,7 +34,7 @@ pub node-children : NodeChildren
 node-children = record { left = node-left; right = node-right }
 
 -- a node h levels below node c, which is a child of the node with value v, is h + 1 levels below that
-node-below : (j : ℕ) (v : List ℕ) (h c x : ℕ) → 2 ^ h * c ≤ x → x < 2 ^ h * c + 2 ^ h
+node-below : (j : Context) (v : List ℕ) (h c x : ℕ) → 2 ^ h * c ≤ x → x < 2 ^ h * c + 2 ^ h
     → nodeValue j v (suc h) x ≡ nodeValue j (nodeValue j v 1 c) h x
 unfolding nodeValue
 node-below j v zero c x l u = let e : x ≡ c = omega arith in rw e
@@ -63,12 +64,12 @@ row-whole v i l w =
     row-inside v 16 i (omega arith) ∙ rw e (take-all 16 v (omega arith))
 
 -- 0 levels below the master is the master
-leaf-self : (j x : ℕ) (v : List ℕ) → v ≡ nodeValue j v 0 x
+leaf-self : (j : Context) (x : ℕ) (v : List ℕ) → v ≡ nodeValue j v 0 x
 unfolding nodeValue
 leaf-self j x v = refl
 
 -- the leaves h levels below node k are the nodes from 2 ^ h * k on
-pub leaf-below : (j h k i : ℕ) (v : List ℕ) → length v ≡ 16 → i < 2 ^ h → rowOf (leavesBelow j h k v) 16 i ≡ nodeValue j v h (2 ^ h * k + i)
+pub leaf-below : (j : Context) (h k i : ℕ) (v : List ℕ) → length v ≡ 16 → i < 2 ^ h → rowOf (leavesBelow j h k v) 16 i ≡ nodeValue j v h (2 ^ h * k + i)
 unfolding leavesBelow
 leaf-below j zero k i v l w = row-whole v i l w ∙ leaf-self j (2 ^ 0 * k + i) v
 leaf-below j (suc h) k i v l w =

@@ -5,24 +5,27 @@ ghost use lib.ListN.{length};
 ghost use Rattle.tree.specs.Tree.{children as «children-of», leavesBelow, siblingsBelow, openedBelow};
 use bits::clear;
 use bits::copy;
+use hashing::Context;
 use hashing::shake128;
 
 // The values of nodes 2k and 2k + 1, from that of node k.
-pub fn children(j: u32, k: u32, value: &[u8], out: &mut [u8])
+pub fn children(j: Context, k: u32, value: &[u8], out: &mut [u8])
     requires { ⌜ length (now out) ≡ 32 ⌝ }
     ensures { λ _. ⌜ now (out .exit) ≡ «children-of» j k (now (value .entry)) ⌝ }
 {
+    let salt = j.salt;
+    let n = j.number;
     let head = [
-        (j % 256) as u8,
-        (j / 256 % 256) as u8,
+        (n % 256) as u8,
+        (n / 256 % 256) as u8,
         (k % 256) as u8,
         (k / 256 % 256) as u8,
     ];
-    shake128(2, &head, value, out);
+    shake128(2, &salt, &head, value, out);
 }
 
 // The leaves h levels below node k.
-pub fn leaves_below(j: u32, k: u32, h: u32, value: &[u8], out: &mut [u8])
+pub fn leaves_below(j: Context, k: u32, h: u32, value: &[u8], out: &mut [u8])
     requires { ⌜ (length (now value) ≡ 16) × ((length (now out) ≡ 16 * 2 ^ h) × ((k + 1) * 2 ^ h ≤ 65536)) ⌝ }
     ensures { λ _. ⌜ now (out .exit) ≡ leavesBelow j h k (now (value .entry)) ⌝ }
 {
@@ -46,7 +49,7 @@ fn leaves_of(h: u32) -> u32
 }
 
 // The siblings on the path from node k to its leaf p, h levels below, top first.
-pub fn siblings_below(j: u32, k: u32, h: u32, p: u32, value: &[u8], out: &mut [u8])
+pub fn siblings_below(j: Context, k: u32, h: u32, p: u32, value: &[u8], out: &mut [u8])
     requires { ⌜ (length (now value) ≡ 16) × ((length (now out) ≡ 16 * h) × (((k + 1) * 2 ^ h ≤ 65536) × (p < 2 ^ h))) ⌝ }
     ensures { λ _. ⌜ now (out .exit) ≡ siblingsBelow j h k p (now (value .entry)) ⌝ }
 {
@@ -65,7 +68,7 @@ pub fn siblings_below(j: u32, k: u32, h: u32, p: u32, value: &[u8], out: &mut [u
 }
 
 // The leaves h levels below node k that follow from the siblings on the path to leaf p, with zeros at leaf p.
-pub fn opened_below(j: u32, k: u32, h: u32, p: u32, siblings: &[u8], out: &mut [u8])
+pub fn opened_below(j: Context, k: u32, h: u32, p: u32, siblings: &[u8], out: &mut [u8])
     requires { ⌜ (length (now siblings) ≡ 16 * h) × ((length (now out) ≡ 16 * 2 ^ h) × (((k + 1) * 2 ^ h ≤ 65536) × (p < 2 ^ h))) ⌝ }
     ensures { λ _. ⌜ now (out .exit) ≡ openedBelow j h k p (now (siblings .entry)) ⌝ }
 {

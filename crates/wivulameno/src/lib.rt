@@ -327,6 +327,7 @@ pub extern "C" fn wv_prove(
     y: &[u8],
     message: &[u8],
     root: &[u8],
+    salt: &[u8],
     m: u32,
     tau: u32,
     n: u32,
@@ -334,9 +335,21 @@ pub extern "C" fn wv_prove(
     written: &mut [u64; 1],
     work: &mut [u8],
 ) -> u32
-    ensures { λ r. ⌜ (r ≡ status (proveOp (now (circuit .entry)) (now (witness .entry)) (now (y .entry)) (now (message .entry)) (now (root .entry)) m tau n (now (proof .entry)) (now (work .entry)) .answer)) × ((now (written .exit) ≡ values (proveOp (now (circuit .entry)) (now (witness .entry)) (now (y .entry)) (now (message .entry)) (now (root .entry)) m tau n (now (proof .entry)) (now (work .entry)) .answer) (now (written .entry))) × (now (proof .exit) ∷ now (work .exit) ∷ [] ≡ proveOp (now (circuit .entry)) (now (witness .entry)) (now (y .entry)) (now (message .entry)) (now (root .entry)) m tau n (now (proof .entry)) (now (work .entry)) .left)) ⌝ }
+    ensures { λ r. ⌜ (r ≡ status (proveOp (now (circuit .entry)) (now (witness .entry)) (now (y .entry)) (now (message .entry)) (now (root .entry)) (now (salt .entry)) m tau n (now (proof .entry)) (now (work .entry)) .answer)) × ((now (written .exit) ≡ values (proveOp (now (circuit .entry)) (now (witness .entry)) (now (y .entry)) (now (message .entry)) (now (root .entry)) (now (salt .entry)) m tau n (now (proof .entry)) (now (work .entry)) .answer) (now (written .entry))) × (now (proof .exit) ∷ now (work .exit) ∷ [] ≡ proveOp (now (circuit .entry)) (now (witness .entry)) (now (y .entry)) (now (message .entry)) (now (root .entry)) (now (salt .entry)) m tau n (now (proof .entry)) (now (work .entry)) .left)) ⌝ }
 {
-    let a = proving::prove(circuit, witness, y, message, root, m, tau, n, proof, work);
+    let a = proving::prove(
+        circuit,
+        witness,
+        y,
+        message,
+        root,
+        salt,
+        m,
+        tau,
+        n,
+        proof,
+        work,
+    );
     match a {
         proving::Answer::Written(k) => {
             *written = [k as u64];
@@ -458,10 +471,10 @@ pub extern "C" fn wv_draw(page: &mut [u8], count: u64, root: &mut [u8; 16]) -> u
 
 // Expands the tree of instance j from its master into its n leaves.
 #[no_mangle]
-pub extern "C" fn wv_expand(j: u32, n: u32, master: &[u8], leaves: &mut [u8]) -> u32
-    ensures { λ r. ⌜ (r ≡ status (expandOp j n (now (master .entry)) (now (leaves .entry)) .answer)) × (now (leaves .exit) ∷ [] ≡ expandOp j n (now (master .entry)) (now (leaves .entry)) .left) ⌝ }
+pub extern "C" fn wv_expand(j: u32, n: u32, salt: &[u8], master: &[u8], leaves: &mut [u8]) -> u32
+    ensures { λ r. ⌜ (r ≡ status (expandOp j n (now (salt .entry)) (now (master .entry)) (now (leaves .entry)) .answer)) × (now (leaves .exit) ∷ [] ≡ expandOp j n (now (salt .entry)) (now (master .entry)) (now (leaves .entry)) .left) ⌝ }
 {
-    let a = seeds::expand(j, n, master, leaves);
+    let a = seeds::expand(j, n, salt, master, leaves);
     match a {
         seeds::Answer::Done => 0,
         seeds::Answer::Refused(k) => refusal::number(k),
@@ -470,10 +483,17 @@ pub extern "C" fn wv_expand(j: u32, n: u32, master: &[u8], leaves: &mut [u8]) ->
 
 // Opens all leaves but p of the tree of instance j.
 #[no_mangle]
-pub extern "C" fn wv_open(j: u32, n: u32, p: u32, master: &[u8], siblings: &mut [u8]) -> u32
-    ensures { λ r. ⌜ (r ≡ status (openOp j n p (now (master .entry)) (now (siblings .entry)) .answer)) × (now (siblings .exit) ∷ [] ≡ openOp j n p (now (master .entry)) (now (siblings .entry)) .left) ⌝ }
+pub extern "C" fn wv_open(
+    j: u32,
+    n: u32,
+    p: u32,
+    salt: &[u8],
+    master: &[u8],
+    siblings: &mut [u8],
+) -> u32
+    ensures { λ r. ⌜ (r ≡ status (openOp j n p (now (salt .entry)) (now (master .entry)) (now (siblings .entry)) .answer)) × (now (siblings .exit) ∷ [] ≡ openOp j n p (now (salt .entry)) (now (master .entry)) (now (siblings .entry)) .left) ⌝ }
 {
-    let a = seeds::open(j, n, p, master, siblings);
+    let a = seeds::open(j, n, p, salt, master, siblings);
     match a {
         seeds::Answer::Done => 0,
         seeds::Answer::Refused(k) => refusal::number(k),
@@ -482,10 +502,10 @@ pub extern "C" fn wv_open(j: u32, n: u32, p: u32, master: &[u8], siblings: &mut 
 
 // Makes the masters of m instances from the root.
 #[no_mangle]
-pub extern "C" fn wv_masters(m: u32, root: &[u8], out: &mut [u8]) -> u32
-    ensures { λ r. ⌜ (r ≡ status (mastersOp m (now (root .entry)) (now (out .entry)) .answer)) × (now (out .exit) ∷ [] ≡ mastersOp m (now (root .entry)) (now (out .entry)) .left) ⌝ }
+pub extern "C" fn wv_masters(m: u32, salt: &[u8], root: &[u8], out: &mut [u8]) -> u32
+    ensures { λ r. ⌜ (r ≡ status (mastersOp m (now (salt .entry)) (now (root .entry)) (now (out .entry)) .answer)) × (now (out .exit) ∷ [] ≡ mastersOp m (now (salt .entry)) (now (root .entry)) (now (out .entry)) .left) ⌝ }
 {
-    let a = seeds::masters(m, root, out);
+    let a = seeds::masters(m, salt, root, out);
     match a {
         seeds::Answer::Done => 0,
         seeds::Answer::Refused(k) => refusal::number(k),
@@ -494,31 +514,32 @@ pub extern "C" fn wv_masters(m: u32, root: &[u8], out: &mut [u8]) -> u32
 
 // Opens the tree over m masters with the listed leaves hidden, a u16 each.
 #[no_mangle]
-pub extern "C" fn wv_cover(m: u32, hidden: &[u8], root: &[u8], out: &mut [u8]) -> u32
-    ensures { λ r. ⌜ (r ≡ status (coverOp m (now (hidden .entry)) (now (root .entry)) (now (out .entry)) .answer)) × (now (out .exit) ∷ [] ≡ coverOp m (now (hidden .entry)) (now (root .entry)) (now (out .entry)) .left) ⌝ }
+pub extern "C" fn wv_cover(m: u32, hidden: &[u8], salt: &[u8], root: &[u8], out: &mut [u8]) -> u32
+    ensures { λ r. ⌜ (r ≡ status (coverOp m (now (hidden .entry)) (now (salt .entry)) (now (root .entry)) (now (out .entry)) .answer)) × (now (out .exit) ∷ [] ≡ coverOp m (now (hidden .entry)) (now (salt .entry)) (now (root .entry)) (now (out .entry)) .left) ⌝ }
 {
-    let a = seeds::cover(m, hidden, root, out);
+    let a = seeds::cover(m, hidden, salt, root, out);
     match a {
         seeds::Answer::Done => 0,
         seeds::Answer::Refused(k) => refusal::number(k),
     }
 }
 
-// Derives the challenge from h*, bound to the counts, the digest of the circuit file, y and the message.
+// Derives the challenge from h*, bound to the salt, the counts, the digest of the circuit file, y and the message.
 #[no_mangle]
 pub extern "C" fn wv_challenge(
     m: u32,
     tau: u32,
     n: u32,
     hstar: &[u8],
+    salt: &[u8],
     digest: &[u8],
     y: &[u8],
     message: &[u8],
     out: &mut [u8],
 ) -> u32
-    ensures { λ r. ⌜ (r ≡ status (challengeOp m tau n (now (hstar .entry)) (now (digest .entry)) (now (y .entry)) (now (message .entry)) (now (out .entry)) .answer)) × (now (out .exit) ∷ [] ≡ challengeOp m tau n (now (hstar .entry)) (now (digest .entry)) (now (y .entry)) (now (message .entry)) (now (out .entry)) .left) ⌝ }
+    ensures { λ r. ⌜ (r ≡ status (challengeOp m tau n (now (hstar .entry)) (now (salt .entry)) (now (digest .entry)) (now (y .entry)) (now (message .entry)) (now (out .entry)) .answer)) × (now (out .exit) ∷ [] ≡ challengeOp m tau n (now (hstar .entry)) (now (salt .entry)) (now (digest .entry)) (now (y .entry)) (now (message .entry)) (now (out .entry)) .left) ⌝ }
 {
-    let a = seeds::challenge(m, tau, n, hstar, digest, y, message, out);
+    let a = seeds::challenge(m, tau, n, hstar, salt, digest, y, message, out);
     match a {
         seeds::Answer::Done => 0,
         seeds::Answer::Refused(k) => refusal::number(k),

@@ -34,15 +34,20 @@ fn hashes(function: Function, input: usize, output: usize, times: usize) -> Hash
     }
 }
 
+/// The inputs of a node: the tag, the salt, j, k and a value; of a leaf or a tape: the
+/// tag, the salt, j, i and a value. A commitment has another value, r, behind that.
+const NODE: usize = 1 + 32 + 2 + 2 + 16;
+const LEAF: usize = 1 + 32 + 2 + 1 + 16;
+
 /// The hash calls for `leaves` opened leaves in all, of which `last` are those
 /// of the last party, below `nodes` nodes: seeds, tapes and commitments.
 fn of_leaves(sizes: Sizes, nodes: usize, leaves: usize, last: usize) -> [Hashes; 5] {
     [
-        hashes(Shake128, 21, 32, nodes),
-        hashes(Shake128, 20, 32, leaves),
-        hashes(Shake128, 20, sizes.tape_row_len(), leaves),
-        hashes(Sha3, 36, 32, leaves - last),
-        hashes(Sha3, 36 + sizes.corrections_len(), 32, last),
+        hashes(Shake128, NODE, 32, nodes),
+        hashes(Shake128, LEAF, 32, leaves),
+        hashes(Shake128, LEAF, sizes.tape_row_len(), leaves),
+        hashes(Sha3, LEAF + 16, 32, leaves - last),
+        hashes(Sha3, LEAF + 16 + sizes.corrections_len(), 32, last),
     ]
 }
 
@@ -61,8 +66,8 @@ fn of_digests(
         y,
         message,
     } = statement;
-    // The tag, h*, M, tau, n, the circuit's digest, y, the message and its length.
-    let challenge = 1 + 32 + 2 + 2 + 1 + 32 + y.len() + 2 + message.len();
+    // The tag, h*, the salt, M, tau, n, the circuit's digest, y, the message and its length.
+    let challenge = 1 + 32 + 32 + 2 + 2 + 1 + 32 + y.len() + 2 + message.len();
     [
         hashes(Sha3, 3 + 32 * n, 32, m),
         hashes(Sha3, 3 + rows, 32, broadcasts),
@@ -94,7 +99,7 @@ fn nodes_regrown(hidden: &[bool]) -> usize {
 /// What a prover hashes, each input once.
 pub fn of_prove(sizes: Sizes, counts: Counts, statement: Statement) -> Vec<Hashes> {
     let [m, n] = [counts.m, counts.n].map(|count| count as usize);
-    let masters = [hashes(Shake128, 21, 32, nodes_grown(m))];
+    let masters = [hashes(Shake128, NODE, 32, nodes_grown(m))];
     let leaves = of_leaves(sizes, m * (n - 1), m * n, m);
     let digests = of_digests(sizes, counts, statement, m);
     [&masters[..], &leaves, &digests].concat()
@@ -102,11 +107,12 @@ pub fn of_prove(sizes: Sizes, counts: Counts, statement: Statement) -> Vec<Hashe
 
 /// What the check of this proof hashes, each input once.
 pub fn of_check(sizes: Sizes, statement: Statement, proof: &[u8]) -> Vec<Hashes> {
-    let (counts, h_star) = header(proof).expect("a header");
+    let header = header(proof).expect("a header");
+    let counts = header.counts;
     let [m, tau, n] = [counts.m, counts.tau, counts.n].map(|count| count as usize);
-    let hidden = hidden_parties(statement, counts, h_star);
+    let hidden = hidden_parties(statement, header);
     let chosen: Vec<bool> = hidden.iter().map(Option::is_some).collect();
-    let masters = [hashes(Shake128, 21, 32, nodes_regrown(&chosen))];
+    let masters = [hashes(Shake128, NODE, 32, nodes_regrown(&chosen))];
     let hidden = hidden.into_iter().flatten();
     let last_hidden = hidden.filter(|&p| usize::from(p) == n - 1).count();
     // The nodes on the way to a hidden leaf are not known.
@@ -169,10 +175,11 @@ mod tests {
         let counts = Counts { m: 4, tau: 1, n: 2 };
         let mut proof = vec![0; longest(sizes, counts)];
         let mut work = vec![0; work_len(sizes)];
-        let len = prove(STATEMENT, &[3], &[7; 16], counts, &mut proof, &mut work).unwrap();
+        let (root, salt, out) = ([7; 16], [9; 32], &mut proof);
+        let len = prove(STATEMENT, &[3], &root, &salt, counts, out, &mut work);
         [
             of_prove(sizes, counts, STATEMENT),
-            of_check(sizes, STATEMENT, &proof[..len]),
+            of_check(sizes, STATEMENT, &proof[..len.unwrap()]),
         ]
     }
 
@@ -201,7 +208,7 @@ mod tests {
         assert_eq!([of(&[0, 2, 4]), of(&[0, 1, 2, 3, 4])], [0, 0]);
     }
 
-    /// The circuit file has 36 bytes. The challenge's input has 72, and those of y
+    /// The circuit file has 36 bytes. The challenge's input has 104, and those of y
     /// and of the message; 9 bytes choose an instance and its party.
     #[test]
     fn both_hash_the_circuit_and_the_statement_once() {
@@ -211,13 +218,10 @@ mod tests {
                 let lens = found.map(|hashes| (hashes.input, hashes.output, hashes.times));
                 lens.collect::<Vec<_>>()
             };
-            // A commitment's input is of 36 bytes too.
-            let circuit = of(|hashes| {
-                matches!(hashes.function, Sha3) && hashes.input == 36 && hashes.times == 1
-            });
+            let circuit = of(|hashes| matches!(hashes.function, Sha3) && hashes.input == 36);
             assert_eq!(circuit, [(36, 32, 1)]);
             let challenge = of(|hashes| matches!(hashes.function, Shake256));
-            assert_eq!(challenge, [(72 + 1 + 5, 9, 1)]);
+            assert_eq!(challenge, [(104 + 1 + 5, 9, 1)]);
         }
     }
 }

@@ -83,8 +83,10 @@ fn tapes_row(openssl: Option<&OpenSsl>) -> Row<'_> {
 
 fn tapes(out: &mut [u8], shake128: impl Fn(&[u8], &mut [u8])) {
     for (i, row) in out.chunks_mut(TAPE_ROW).enumerate() {
-        let mut input = [0x5a; 20];
-        input[..4].copy_from_slice(&[4, 7, 0, i as u8]);
+        // The tag, the salt, j, i and the seed.
+        let mut input = [0x5a; 1 + 32 + 2 + 1 + 16];
+        input[0] = 4;
+        input[33..36].copy_from_slice(&[7, 0, i as u8]);
         shake128(black_box(&input), row);
     }
 }

@@ -210,6 +210,7 @@ macro_rules! challenge_call {
         call(3 * $tau as usize, move |out| {
             let input = seeds::ChallengeInput {
                 h_star: black_box(&[0x5a; 32]),
+                salt: black_box(&[0xa5; 32]),
                 circuit_digest: black_box(&[0xa5; 32]),
                 y: black_box(&[1]),
                 message: b"",

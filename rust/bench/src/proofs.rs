@@ -13,6 +13,7 @@ use wivulameno::Work;
 
 pub const MESSAGE: &[u8] = b"order 17 of depot 4, 2026-03-01.";
 const ROOT: [u8; 16] = [0x5a; 16];
+const SALT: [u8; 32] = [0xa5; 32];
 const INSTANCES: [u32; 3] = [64, 256, 512];
 
 /// The numbers of parties in the table of the examples, and in that of the worst
@@ -102,8 +103,9 @@ impl Example {
         let counts = wivulameno::proof::Counts { m, tau, n };
         let mut work = self.work();
         let witness = &self.witness;
-        let len =
-            wivulameno::proof::prove(statement, witness, &ROOT, counts, &mut proof, &mut work);
+        let len = wivulameno::proof::prove(
+            statement, witness, &ROOT, &SALT, counts, &mut proof, &mut work,
+        );
         proof.truncate(len.expect("no refusal"));
         proof
     }
@@ -141,7 +143,8 @@ macro_rules! prove_call {
             };
             let witness = black_box(&$example.witness);
             let counts = proof::Counts { m, tau, n };
-            proof::prove(statement, witness, &ROOT, counts, out, &mut work).expect("no refusal");
+            proof::prove(statement, witness, &ROOT, &SALT, counts, out, &mut work)
+                .expect("no refusal");
         })
     }};
 }

@@ -1,4 +1,6 @@
-//! Circuits that several tests use.
+//! Circuits and a salt that several tests use.
+
+use crate::seeds::Salt;
 
 /// The bytes of a file whose fields are these.
 pub const fn file<const WORDS: usize, const BYTES: usize>(words: [u32; WORDS]) -> [u8; BYTES] {
@@ -24,3 +26,14 @@ pub const FOUR: [u8; 92] = file([
     2, 1, 4, 1, // slot 3
     1, 3, 1, 0, // slot 4
 ]);
+
+/// The salt of the known answers: 0xb0, 0xb1 and so on.
+pub const SALT: Salt = {
+    let mut salt = [0; 32];
+    let mut place = 0;
+    while place < 32 {
+        salt[place] = 0xb0 + place as u8;
+        place += 1;
+    }
+    salt
+};

@@ -5,33 +5,41 @@
 //! power of two that is at least M. Leaf j, which is node N + j, is the master of
 //! instance j; leaves from M on are spare.
 
-use crate::seeds::{children, subtree_leaves, tree_leaves, Value};
+use crate::seeds::{children, of_length, subtree_leaves, tree_leaves, Context, Salt, Value};
 use crate::{u16_at, Refusal};
 
-/// The j of the node rule in this tree.
-const J: u16 = 65_535;
+/// The j of the node rule in this tree, beside the salt of the proof.
+fn context(salt: Salt) -> Context {
+    Context { salt, j: 65_535 }
+}
 
 /// Fills `out` with the masters of the instances 0 to M - 1: refusals 8 and 6.
-pub fn masters(m: u32, root: &[u8], out: &mut [u8]) -> Result<(), Refusal> {
+pub fn masters(m: u32, salt: &[u8], root: &[u8], out: &mut [u8]) -> Result<(), Refusal> {
     let m = instances(m)?;
-    let root: Value = root.try_into().map_err(|_| 6_u32)?;
+    let (salt, root) = (of_length(salt)?, of_length(root)?);
     if out.len() != 16 * m {
         return Err(6);
     }
-    out.copy_from_slice(&all_masters(m, root).concat());
+    out.copy_from_slice(&all_masters(m, salt, root).concat());
     Ok(())
 }
 
 /// Fills `out` with the values of the nodes that are opened when these leaves are
 /// hidden: a u16 for each, in any order, repeats allowed. Refusals 8, 9 and 6.
-pub fn cover(m: u32, hidden: &[u8], root: &[u8], out: &mut [u8]) -> Result<(), Refusal> {
+pub fn cover(
+    m: u32,
+    hidden: &[u8],
+    salt: &[u8],
+    root: &[u8],
+    out: &mut [u8],
+) -> Result<(), Refusal> {
     let m = instances(m)?;
     let leaves: Vec<usize> = hidden.chunks_exact(2).map(|leaf| u16_at(leaf, 0)).collect();
     if leaves.is_empty() || leaves.iter().any(|&leaf| leaf >= m) {
         return Err(9);
     }
-    let root: Value = root.try_into().map_err(|_| 6_u32)?;
-    let values = opened_values(&hidden_among(m, &leaves), root);
+    let (salt, root) = (of_length(salt)?, of_length(root)?);
+    let values = opened_values(&hidden_among(m, &leaves), salt, root);
     // A last odd byte is no leaf.
     if hidden.len() != 2 * leaves.len() || out.len() != 16 * values.len() {
         return Err(6);
@@ -58,17 +66,17 @@ fn leaves_over(m: usize) -> usize {
     m.next_power_of_two()
 }
 
-pub(crate) fn all_masters(m: usize, root: Value) -> Vec<Value> {
-    let mut leaves = tree_leaves(J, leaves_over(m), root);
+pub(crate) fn all_masters(m: usize, salt: Salt, root: Value) -> Vec<Value> {
+    let mut leaves = tree_leaves(context(salt), leaves_over(m), root);
     leaves.truncate(m);
     leaves
 }
 
 /// The value of node k.
-fn node_value(k: usize, root: Value) -> Value {
+fn node_value(k: usize, salt: Salt, root: Value) -> Value {
     match k {
         1 => root,
-        _ => children(J, k / 2, node_value(k / 2, root))[k % 2],
+        _ => children(context(salt), k / 2, node_value(k / 2, salt, root))[k % 2],
     }
 }
 
@@ -90,17 +98,17 @@ pub fn opened_nodes(hidden: &[bool]) -> Vec<usize> {
 }
 
 /// The values of the opened nodes.
-pub fn opened_values(hidden: &[bool], root: Value) -> Vec<Value> {
+pub fn opened_values(hidden: &[bool], salt: Salt, root: Value) -> Vec<Value> {
     let nodes = opened_nodes(hidden).into_iter();
-    nodes.map(|k| node_value(k, root)).collect()
+    nodes.map(|k| node_value(k, salt, root)).collect()
 }
 
 /// Each of the m leaves that follows from the values of the opened nodes.
-pub fn opened_masters(hidden: &[bool], values: &[Value]) -> Vec<Option<Value>> {
+pub fn opened_masters(hidden: &[bool], salt: Salt, values: &[Value]) -> Vec<Option<Value>> {
     let n = leaves_over(hidden.len());
     let mut masters = vec![None; n];
     for (k, &value) in opened_nodes(hidden).into_iter().zip(values) {
-        for (leaf, master) in leaves_below(n, k).zip(subtree_leaves(J, n, k, value)) {
+        for (leaf, master) in leaves_below(n, k).zip(subtree_leaves(context(salt), n, k, value)) {
             masters[leaf] = Some(master);
         }
     }
@@ -111,6 +119,7 @@ pub fn opened_masters(hidden: &[bool], values: &[Value]) -> Vec<Option<Value>> {
 #[cfg(test)]
 mod tests {
     use super::*;
+    use crate::examples::SALT;
     use crate::fips202::sha3_256;
 
     const ROOT: Value = [0, 1, 2, 3, 4, 5, 6, 7, 8, 9, 10, 11, 12, 13, 14, 15];
@@ -126,57 +135,57 @@ mod tests {
 
     // The known answers were made with Python's hashlib over the same inputs.
     const FIVE: [&str; 5] = [
-        "9767c62a4a365e621716280180a48b2a",
-        "c4b967b4b1a67f6e8557f066ed7b8eb2",
-        "b665367ac02cab931544d0f536e6ed85",
-        "d8d746c209f58a9e0b8a3e04a109f4d8",
-        "06de7fec51bc7fe16392e35e23dde9b9",
+        "29bfab30082768d1592751022be6b1a8",
+        "db52ac64ccdcaee834d2a7658aafd155",
+        "9074ac25418f36ff5024c6221e9ee151",
+        "3c35b348101caa28b56cf5cd22c65ea7",
+        "d0499e59b7d708a9d233bcb5541752fd",
     ];
 
     /// SHA3-256 over all masters.
     const KNOWN_MASTERS: [(u32, &str); 8] = [
         (
             2,
-            "c022b5c9e96b0bac9d1207f916f9c994b91d6c569e769ad54b770516112e041f",
+            "200d650163e674515810986b59ff5d95cea81cc9efe4004a539099a4c76cb972",
         ),
         (
             3,
-            "a506acd81d1dc1dd9c3af4a936ee7d04e7478ebe98cb3f3fe092386689672ed9",
+            "b5592e07b2ff5cb7f2ec5c63db00bb1bb265c3bef6bb35b95900c8d4a4102055",
         ),
         (
             5,
-            "c716a5e6dd059c9420594e89c41e9dcd17fd8d3266fb4169cad9b798870cfd57",
+            "2eab0ace3f254b3d414cebb6de4f4e51f411a077cb76cd8ed675b77801463fc2",
         ),
         (
             8,
-            "6983734c1d75fa68f3e59b8f7cf9eba27eeb3ea0c5cdf7195a3542f52138f3da",
+            "1d3ba782585cb655024ca7f18c93e8f8a862d3b2d4476fc04fd1e606908fbbc1",
         ),
         (
             9,
-            "fd7aab488c56d3f45f1006a71b650453bff6191491b2575de1e4986fbd50f7a1",
+            "ef5528c7e2c2093a356f5dcd3fa73661778161e8ec9b3035de1f3eace927e853",
         ),
         (
             300,
-            "c42516c093960010397454f125ea77f2f1987acb75e1199e0123b44533ba6eae",
+            "e6749b99b1aa7e5071fa5097e2916cf134a5c85863289b1735b36b4a378318c7",
         ),
         (
             343,
-            "048980c4cf1805c9649e49a0a95edcc57943dfd673388660a55595d49a74a024",
+            "5e7387e00b4de245a7de030a47b916f67518ecdd7c680daef3b8832a8982f191",
         ),
         (
             512,
-            "2b7515b32b7c34282d5ed751cfd44a812db84b38402e26597157e86fd10377e4",
+            "98b44b2d8fa9d4ebc0be4ebd5507ee727c21029837216f95cec47876f196b7e3",
         ),
     ];
 
     #[test]
     fn known_masters() {
         let mut out = [0; 80];
-        assert_eq!(masters(5, &ROOT, &mut out), Ok(()));
+        assert_eq!(masters(5, &SALT, &ROOT, &mut out), Ok(()));
         assert_eq!(hex(&out), FIVE.concat());
         for (m, digest) in KNOWN_MASTERS {
             let mut out = vec![0; 16 * m as usize];
-            assert_eq!(masters(m, &ROOT, &mut out), Ok(()));
+            assert_eq!(masters(m, &SALT, &ROOT, &mut out), Ok(()));
             assert_eq!(hex(&sha3_256(&out)), digest, "M {m}");
         }
     }
@@ -191,60 +200,60 @@ mod tests {
                 2,
                 &[0],
                 1,
-                "b8d4093da7f6f90293c9d9353cd9fcb8bd252c8fd2e569119e163928343b3d08",
+                "425ef657bdc8e50d319fa9a0d1360e6fecc5c534ff9493f9e2f2cfc252a1fcbb",
             ),
             (
                 5,
                 &[2],
                 3,
-                "193fea2b18ce1a36f36b9b7b13fc23ba0a4b4ee6d196481dd821765bc408c546",
+                "2b68909dd98c0d4d5ef02fdd4dfa73d22347538cde2ba40fa471fa181e20f1a9",
             ),
             (
                 5,
                 &[3, 0, 3],
                 3,
-                "ce69de2a5a6820ab0f2418d3b54f98842a408c43b8a0098db3d25d845a90ccd9",
+                "017532de285a97fe277a99cf59f5353019f62c2d6b4ad54de1dcbfdbf4345164",
             ),
             (
                 9,
                 &[8],
                 1,
-                "c683b45c211a6e8a07f0e2bfa87fd82882682d4a56b5187d0a87012198484b41",
+                "95827e5a45a1fd94031021e435a9e30cb3d85f95882705d3e10441a267a83976",
             ),
             (
                 9,
                 &[8, 0],
                 3,
-                "f859991f2e72c1caf45d2aa7f05990293f49925f692cd00458d177a3504bcad0",
+                "c4a90a793695095c41a1928414dd5f9796bbe0689d0207d4a1547342f6bbaf4a",
             ),
             (
                 343,
                 &[0, 1, 2, 200, 342],
                 17,
-                "67daa56bd2c4d67a385e47ea31de277c672f753cc4a0dc5d49176a62bfee4bc6",
+                "cb44e92b3baee7465951da8e030ddb89416358a9adf95a87b3a93694b8304c41",
             ),
             (
                 512,
                 &[511],
                 9,
-                "8293ed2485797bb3310846de7daa362a708ee323ef02bc547093f1ab7597e783",
+                "15d3665dc43bf524d3c6a2d3d8bf1129ea7d756499218f3235cb0a459f64eb85",
             ),
             (
                 512,
                 &every_second,
                 256,
-                "cb38dd1665e5d5a1e01aa87a60fa3347c19b2701db0330fc7614aba87c6ef6dd",
+                "ee75122d09b1085529aa12d8bea4d719552ea3b36646066b1b93daf87f1c8a9a",
             ),
             (
                 300,
                 &sevens,
                 115,
-                "599d2474cdc82e3a116179610430d7be319d9857894c366a91c56860c8066935",
+                "2bf6841da1e73edbf6494750b38bab417eec1b65eae03e69d1d4c77c3d2dbe55",
             ),
         ];
         for (m, hidden, nodes, digest) in known {
             let mut out = vec![0; 16 * nodes];
-            let answer = cover(m, &bytes_of(hidden), &ROOT, &mut out);
+            let answer = cover(m, &bytes_of(hidden), &SALT, &ROOT, &mut out);
             assert_eq!(answer, Ok(()), "M {m}, {hidden:?}");
             assert_eq!(hex(&sha3_256(&out)), digest, "M {m}, {hidden:?}");
         }
@@ -267,10 +276,11 @@ mod tests {
     #[test]
     fn a_cover_gives_all_masters_but_the_hidden_ones() {
         for m in 2..=9 {
-            let all = all_masters(m, ROOT);
+            let all = all_masters(m, SALT, ROOT);
             for set in 1..1_usize << m {
                 let hidden: Vec<bool> = (0..m).map(|leaf| set >> leaf & 1 != 0).collect();
-                let opened = opened_masters(&hidden, &opened_values(&hidden, ROOT));
+                let values = opened_values(&hidden, SALT, ROOT);
+                let opened = opened_masters(&hidden, SALT, &values);
                 let expected = all.iter().zip(&hidden);
                 let expected = expected.map(|(&master, &hidden)| (!hidden).then_some(master));
                 assert_eq!(opened, expected.collect::<Vec<_>>(), "M {m}, {hidden:?}");
@@ -280,38 +290,45 @@ mod tests {
 
     #[test]
     fn refusals_of_masters_in_order() {
-        let ask = |m, root: usize, len| {
+        let ask = |m, [salt, root]: [usize; 2], len| {
             let mut out = vec![0xee; len];
-            let answer = masters(m, &vec![7; root], &mut out);
+            let answer = masters(m, &vec![9; salt], &vec![7; root], &mut out);
             assert!(answer.is_ok() || out == vec![0xee; len]);
             answer
         };
-        assert_eq!(ask(2, 16, 32), Ok(()));
-        assert_eq!(ask(512, 16, 8192), Ok(()));
+        assert_eq!(ask(2, [32, 16], 32), Ok(()));
+        assert_eq!(ask(512, [32, 16], 8192), Ok(()));
         for m in [0, 1, 513, 65_536 + 2, u32::MAX] {
-            assert_eq!(ask(m, 0, 0), Err(8));
+            assert_eq!(ask(m, [0, 0], 0), Err(8));
         }
         for (root, len) in [(15, 32), (17, 32), (16, 31), (16, 33), (16, 64)] {
-            assert_eq!(ask(2, root, len), Err(6));
+            assert_eq!(ask(2, [32, root], len), Err(6));
+        }
+        for salt in [0, 16, 31, 33, 64] {
+            assert_eq!(ask(2, [salt, 16], 32), Err(6));
         }
     }
 
     #[test]
     fn refusals_of_cover_in_order() {
-        let ask = |m, hidden: &[u8], root: usize, len| {
+        let ask_salted = |m, hidden: &[u8], [salt, root]: [usize; 2], len| {
             let mut out = vec![0xee; len];
-            let answer = cover(m, hidden, &vec![7; root], &mut out);
+            let answer = cover(m, hidden, &vec![9; salt], &vec![7; root], &mut out);
             assert!(answer.is_ok() || out == vec![0xee; len]);
             answer
         };
+        let ask = |m, hidden: &[u8], root, len| ask_salted(m, hidden, [32, root], len);
         assert_eq!(ask(5, &[2, 0], 16, 48), Ok(()));
         assert_eq!(ask(2, &[1, 0, 0, 0], 16, 0), Ok(()));
         for m in [0, 1, 513, 65_536 + 5] {
-            assert_eq!(ask(m, &[], 0, 0), Err(8));
+            assert_eq!(ask_salted(m, &[], [0, 0], 0), Err(8));
         }
         let no_leaves: [&[u8]; 5] = [&[], &[0], &[5, 0], &[2, 0, 0, 1], &[5, 0, 0]];
         for hidden in no_leaves {
-            assert_eq!(ask(5, hidden, 0, 0), Err(9), "{hidden:?}");
+            assert_eq!(ask_salted(5, hidden, [0, 0], 0), Err(9), "{hidden:?}");
+        }
+        for salt in [0, 16, 31, 33, 64] {
+            assert_eq!(ask_salted(5, &[2, 0], [salt, 16], 48), Err(6), "{salt}");
         }
         for (hidden, root, len) in [
             (&[2, 0][..], 15, 48),

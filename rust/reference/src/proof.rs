@@ -5,11 +5,11 @@ use crate::circuit::{legal, Circuit, Sizes};
 use crate::fips202::sha3_256;
 use crate::masters::{all_masters, opened_masters, opened_nodes, opened_values};
 use crate::mpc::{right_corrections, run_parties, run_shown, Showing};
-use crate::seeds::{self, ChallengeInput, Digest, Value};
+use crate::seeds::{self, of_length, ChallengeInput, Context, Digest, Salt, Value};
 use crate::work::Work;
 use crate::{u16_at, Refusal};
 
-const HEADER_LEN: usize = 38;
+const HEADER_LEN: usize = 70;
 const VALUE_LEN: usize = 16;
 const DIGEST_LEN: usize = 32;
 const LONGEST_MESSAGE: usize = 4096;
@@ -35,7 +35,41 @@ impl Counts {
     fn are_in_limits(&self) -> bool {
         (2..=512).contains(&self.m)
             && (1..self.m).contains(&self.tau)
-            && [2, 4, 8, 16].contains(&self.n)
+            && seeds::parties(self.n).is_ok()
+    }
+}
+
+/// What a proof starts with: M, tau, n, a zero byte, h*, the salt.
+#[derive(Clone, Copy, Debug, PartialEq, Eq)]
+pub struct Header {
+    pub counts: Counts,
+    pub h_star: Digest,
+    pub salt: Salt,
+}
+
+impl Header {
+    /// That of these instances, which follow from the salt.
+    pub fn of(instances: &[Instance], salt: Salt, counts: Counts) -> Header {
+        Header {
+            counts,
+            h_star: h_star(instances),
+            salt,
+        }
+    }
+
+    fn bytes(&self) -> Vec<u8> {
+        let Counts { m, tau, n } = self.counts;
+        let mut bytes = [m as u16, tau as u16].map(u16::to_le_bytes).concat();
+        bytes.extend([n as u8, 0]);
+        bytes.extend(self.h_star);
+        bytes.extend(self.salt);
+        bytes
+    }
+
+    /// That of instance j.
+    fn context(&self, j: u16) -> Context {
+        let salt = self.salt;
+        Context { salt, j }
     }
 }
 
@@ -45,6 +79,7 @@ pub fn prove(
     statement: Statement,
     witness: &[u8],
     root: &[u8],
+    salt: &[u8],
     counts: Counts,
     proof: &mut [u8],
     work: &mut [u8],
@@ -55,7 +90,7 @@ pub fn prove(
     if !counts.are_in_limits() {
         return Err(8);
     }
-    let root: Value = root.try_into().map_err(|_| 6_u32)?;
+    let (root, salt) = (of_length(root)?, of_length(salt)?);
     if witness.len() != sizes.inputs_len() || proof.len() < longest(sizes, counts) {
         return Err(6);
     }
@@ -66,8 +101,9 @@ pub fn prove(
     if circuit.output(witness) != statement.y {
         return Err(10);
     }
-    let instances = all_instances(&circuit, witness, root, counts);
-    let file = written(root, &instances, statement, counts, h_star(&instances));
+    let instances = all_instances(&circuit, witness, root, salt, counts);
+    let header = Header::of(&instances, salt, counts);
+    let file = written(root, &instances, statement, header);
     proof[..file.len()].copy_from_slice(&file);
     Ok(file.len())
 }
@@ -98,8 +134,7 @@ pub fn check_answers(
 pub struct Checkable<'a> {
     circuit: Circuit,
     y: &'a [u8],
-    n: usize,
-    h_star: Digest,
+    header: Header,
     instances: Vec<Received<'a>>,
 }
 
@@ -120,8 +155,8 @@ impl<'a> Checkable<'a> {
         if !rest_is_zero(statement.y, sizes.outputs) {
             return Err(7);
         }
-        let (counts, h_star) = header(proof).ok_or(11_u32)?;
-        let hidden = hidden_parties(statement, counts, h_star);
+        let header = header(proof).ok_or(11_u32)?;
+        let hidden = hidden_parties(statement, header);
         Checkable::answering(circuit, statement.y, &hidden, proof)
     }
 
@@ -132,17 +167,16 @@ impl<'a> Checkable<'a> {
         hidden: &[Option<u8>],
         proof: &'a [u8],
     ) -> Result<Checkable<'a>, Refusal> {
-        let (counts, h_star) = header(proof).expect("a header");
-        let (sizes, n) = (circuit.sizes(), counts.n as usize);
-        let instances = received(sizes, n, hidden, proof).ok_or(12_u32)?;
+        let header = header(proof).expect("a header");
+        let sizes = circuit.sizes();
+        let instances = received(sizes, header, hidden, proof).ok_or(12_u32)?;
         if !instances.iter().all(|part| part.unused_is_zero(sizes)) {
             return Err(7);
         }
         Ok(Checkable {
             circuit,
             y,
-            n,
-            h_star,
+            header,
             instances,
         })
     }
@@ -154,8 +188,8 @@ impl<'a> Checkable<'a> {
 
     /// Checks instance j and gives h_j and h'_j; 10 if its output is not y.
     pub fn instance(&self, j: usize) -> Result<[Digest; 2], Refusal> {
-        let Checked { digests, output } =
-            self.instances[j].checked(&self.circuit, j as u16, self.n);
+        let (context, n) = (self.header.context(j as u16), self.header.counts.n as usize);
+        let Checked { digests, output } = self.instances[j].checked(&self.circuit, context, n);
         match output.is_some_and(|output| output != self.y) {
             true => Err(10),
             false => Ok(digests),
@@ -164,7 +198,7 @@ impl<'a> Checkable<'a> {
 
     /// Is h* that of these h_j and h'_j? Else 13.
     pub fn fits(&self, digests: &[[Digest; 2]]) -> Result<(), Refusal> {
-        match digest_of_all(digests) == self.h_star {
+        match digest_of_all(digests) == self.header.h_star {
             true => Ok(()),
             false => Err(13),
         }
@@ -206,10 +240,11 @@ pub fn stretch_len(sizes: Sizes, n: u32, hidden: Option<u8>) -> usize {
 }
 
 /// For each instance its hidden party, if the challenge chooses it.
-pub fn hidden_parties(statement: Statement, counts: Counts, h_star: Digest) -> Vec<Option<u8>> {
-    let Counts { m, tau, n } = counts;
+pub fn hidden_parties(statement: Statement, header: Header) -> Vec<Option<u8>> {
+    let Counts { m, tau, n } = header.counts;
     let input = ChallengeInput {
-        h_star: &h_star,
+        h_star: &header.h_star,
+        salt: &header.salt,
         circuit_digest: &sha3_256(statement.circuit),
         y: statement.y,
         message: statement.message,
@@ -226,16 +261,20 @@ pub fn asked(m: u32, chosen: &[(u16, u8)]) -> Vec<Option<u8>> {
     hidden
 }
 
-/// M, tau, n and h*, if these bytes start with a header.
-pub fn header(proof: &[u8]) -> Option<(Counts, Digest)> {
-    let header = proof.get(..HEADER_LEN)?;
+/// The header, if these bytes start with one.
+pub fn header(proof: &[u8]) -> Option<Header> {
+    let bytes = proof.get(..HEADER_LEN)?;
     let counts = Counts {
-        m: u16_at(header, 0) as u32,
-        tau: u16_at(header, 2) as u32,
-        n: header[4].into(),
+        m: u16_at(bytes, 0) as u32,
+        tau: u16_at(bytes, 2) as u32,
+        n: bytes[4].into(),
     };
-    let good = counts.are_in_limits() && header[5] == 0;
-    good.then(|| (counts, header[6..].try_into().unwrap()))
+    let header = Header {
+        counts,
+        h_star: bytes[6..38].try_into().unwrap(),
+        salt: bytes[38..].try_into().unwrap(),
+    };
+    (counts.are_in_limits() && bytes[5] == 0).then_some(header)
 }
 
 /// The chosen instances: their masters are the hidden leaves of the masters' tree.
@@ -284,7 +323,7 @@ fn digest_of_all(digests: &[[Digest; 2]]) -> Digest {
 /// What follows from the master of instance j: the seed and the r of each
 /// party, the tapes and the corrections.
 pub struct Preprocessing {
-    pub j: u16,
+    pub context: Context,
     pub master: Value,
     pub seeds: Vec<[Value; 2]>,
     pub tapes: Vec<u8>,
@@ -292,18 +331,18 @@ pub struct Preprocessing {
 }
 
 impl Preprocessing {
-    fn of(circuit: &Circuit, j: u16, n: usize, master: Value) -> Preprocessing {
-        let leaves = seeds::tree_leaves(j, n, master);
+    fn of(circuit: &Circuit, context: Context, n: usize, master: Value) -> Preprocessing {
+        let leaves = seeds::tree_leaves(context, n, master);
         let seeds: Vec<[Value; 2]> = (0..)
             .zip(leaves)
-            .map(|(i, leaf)| seeds::seed_and_r(j, i, leaf))
+            .map(|(i, leaf)| seeds::seed_and_r(context, i, leaf))
             .collect();
         let sizes = circuit.sizes();
         let rows = (0..).zip(&seeds);
-        let rows = rows.map(|(i, [seed, _])| tape_row(sizes, j, i, n, *seed));
+        let rows = rows.map(|(i, [seed, _])| tape_row(sizes, context, i, n, *seed));
         let tapes = rows.collect::<Vec<_>>().concat();
         Preprocessing {
-            j,
+            context,
             master,
             corrections: right_corrections(circuit, n, &tapes),
             seeds,
@@ -313,16 +352,16 @@ impl Preprocessing {
 
     /// The commitments of all parties.
     pub fn commitments(&self) -> Vec<Digest> {
-        let n = self.seeds.len();
+        let (context, n) = (self.context, self.seeds.len());
         let parties = (0..).zip(&self.seeds);
         parties
-            .map(|(i, [seed, r])| seeds::commitment(self.j, i, n, *seed, &self.corrections, *r))
+            .map(|(i, [seed, r])| seeds::commitment(context, i, n, *seed, &self.corrections, *r))
             .collect()
     }
 }
 
-fn tape_row(sizes: Sizes, j: u16, i: u8, n: usize, seed: Value) -> Vec<u8> {
-    seeds::tape_row(j, i, n, seed, sizes.inputs, sizes.ands)
+fn tape_row(sizes: Sizes, context: Context, i: u8, n: usize, seed: Value) -> Vec<u8> {
+    seeds::tape_row(context, i, n, seed, sizes.inputs, sizes.ands)
 }
 
 /// One instance as the prover works it.
@@ -346,21 +385,25 @@ impl Instance {
     }
 
     fn h(&self) -> Digest {
-        seeds::commitments_digest(self.preprocessing.j, &self.preprocessing.commitments())
+        let j = self.preprocessing.context.j;
+        seeds::commitments_digest(j, &self.preprocessing.commitments())
     }
 
     fn h_prime(&self) -> Digest {
-        seeds::broadcasts_digest(self.preprocessing.j, &self.masked_inputs, &self.rows)
+        let j = self.preprocessing.context.j;
+        seeds::broadcasts_digest(j, &self.masked_inputs, &self.rows)
     }
 
     /// What the proof has of this instance.
     fn stretch(&self, hidden: Option<u8>) -> Vec<u8> {
-        let Preprocessing { j, master, .. } = self.preprocessing;
+        let Preprocessing {
+            context, master, ..
+        } = self.preprocessing;
         let Some(p) = hidden.map(usize::from) else {
             return self.h_prime().to_vec();
         };
         let n = self.preprocessing.seeds.len();
-        let siblings = seeds::tree_opening(j, n, p, master).concat();
+        let siblings = seeds::tree_opening(context, n, p, master).concat();
         let corrections: &[u8] = match p == n - 1 {
             true => &[],
             false => &self.preprocessing.corrections,
@@ -372,18 +415,30 @@ impl Instance {
     }
 }
 
-/// All instances that follow from a root, for a circuit file that is legal and a
-/// witness in form. The witness may give any output.
-pub fn instances(file: &[u8], witness: &[u8], root: Value, counts: Counts) -> Vec<Instance> {
+/// All instances that follow from a root and a salt, for a circuit file that is legal and
+/// a witness in form. The witness may give any output.
+pub fn instances(
+    file: &[u8],
+    witness: &[u8],
+    root: Value,
+    salt: Salt,
+    counts: Counts,
+) -> Vec<Instance> {
     let circuit = legal(file).expect("a legal circuit");
-    all_instances(&circuit, witness, root, counts)
+    all_instances(&circuit, witness, root, salt, counts)
 }
 
-fn all_instances(circuit: &Circuit, witness: &[u8], root: Value, counts: Counts) -> Vec<Instance> {
+fn all_instances(
+    circuit: &Circuit,
+    witness: &[u8],
+    root: Value,
+    salt: Salt,
+    counts: Counts,
+) -> Vec<Instance> {
     let (m, n) = (counts.m as usize, counts.n as usize);
-    let masters = (0..).zip(all_masters(m, root));
+    let masters = (0..).zip(all_masters(m, salt, root));
     let instances = masters.map(|(j, master)| {
-        let preprocessing = Preprocessing::of(circuit, j, n, master);
+        let preprocessing = Preprocessing::of(circuit, Context { salt, j }, n, master);
         Instance::of(circuit, n, witness, preprocessing)
     });
     instances.collect()
@@ -396,33 +451,28 @@ pub fn h_star(instances: &[Instance]) -> Digest {
     digest_of_all(&digests)
 }
 
-/// The proof file with this h*: the header, and what its challenge asks for. The
-/// cover is that of the masters of this root.
+/// The proof file with this header, and what its challenge asks for. The cover is that
+/// of the masters of this root under the header's salt.
 pub fn written(
     root: Value,
     instances: &[Instance],
     statement: Statement,
-    counts: Counts,
-    h_star: Digest,
+    header: Header,
 ) -> Vec<u8> {
-    let hidden = hidden_parties(statement, counts, h_star);
-    written_answers(root, instances, counts, h_star, &hidden)
+    let hidden = hidden_parties(statement, header);
+    written_answers(root, instances, header, &hidden)
 }
 
-/// The proof file with this h*: the header, and what a challenge asks for that
-/// hides these parties.
+/// The proof file with this header, and what a challenge asks for that hides these
+/// parties.
 pub fn written_answers(
     root: Value,
     instances: &[Instance],
-    counts: Counts,
-    h_star: Digest,
+    header: Header,
     hidden: &[Option<u8>],
 ) -> Vec<u8> {
-    let Counts { m, tau, n } = counts;
-    let mut file = [m as u16, tau as u16].map(u16::to_le_bytes).concat();
-    file.extend([n as u8, 0]);
-    file.extend(h_star);
-    file.extend(opened_values(&is_chosen(hidden), root).concat());
+    let mut file = header.bytes();
+    file.extend(opened_values(&is_chosen(hidden), header.salt, root).concat());
     for (instance, &p) in instances.iter().zip(hidden) {
         file.extend(instance.stretch(p));
     }
@@ -449,17 +499,18 @@ struct Opened<'a> {
 /// All parts of the proof, each taken apart.
 fn received<'a>(
     sizes: Sizes,
-    n: usize,
+    header: Header,
     hidden: &[Option<u8>],
     proof: &'a [u8],
 ) -> Option<Vec<Received<'a>>> {
-    let Parts { cover, stretches } = parts(sizes, n as u32, hidden, proof)?;
+    let n = header.counts.n;
+    let Parts { cover, stretches } = parts(sizes, n, hidden, proof)?;
     let values = cover.chunks(VALUE_LEN);
     let values: Vec<Value> = values.map(|value| value.try_into().unwrap()).collect();
-    let masters = opened_masters(&is_chosen(hidden), &values);
+    let masters = opened_masters(&is_chosen(hidden), header.salt, &values);
     let each = stretches.into_iter().zip(hidden).zip(masters);
     let received = each.map(|((stretch, &hidden), master)| match (hidden, master) {
-        (Some(p), _) => Received::Chosen(Opened::of(sizes, n, p.into(), stretch)),
+        (Some(p), _) => Received::Chosen(Opened::of(sizes, n as usize, p.into(), stretch)),
         (None, master) => Received::NotChosen {
             master: master.expect("every unhidden leaf follows"),
             h_prime: stretch.try_into().unwrap(),
@@ -485,16 +536,19 @@ impl Received<'_> {
             && rest_is_zero(opened.row, sizes.ands + sizes.outputs)
     }
 
-    fn checked(&self, circuit: &Circuit, j: u16, n: usize) -> Checked {
+    fn checked(&self, circuit: &Circuit, context: Context, n: usize) -> Checked {
         match self {
             Received::NotChosen { master, h_prime } => {
-                let commitments = Preprocessing::of(circuit, j, n, *master).commitments();
+                let made = Preprocessing::of(circuit, context, n, *master);
                 Checked {
-                    digests: [seeds::commitments_digest(j, &commitments), *h_prime],
+                    digests: [
+                        seeds::commitments_digest(context.j, &made.commitments()),
+                        *h_prime,
+                    ],
                     output: None,
                 }
             }
-            Received::Chosen(opened) => opened.replayed(circuit, j, n),
+            Received::Chosen(opened) => opened.replayed(circuit, context, n),
         }
     }
 }
@@ -523,19 +577,20 @@ impl<'a> Opened<'a> {
 
     /// The commitments and tapes of the parties that are opened, com_p and a row
     /// of zeros for p; then the run of the others.
-    fn replayed(&self, circuit: &Circuit, j: u16, n: usize) -> Checked {
+    fn replayed(&self, circuit: &Circuit, context: Context, n: usize) -> Checked {
         let sizes = circuit.sizes();
         let (mut commitments, mut tapes) = (vec![], vec![]);
-        let leaves = seeds::opened_leaves(j, n, self.p, &self.siblings);
+        let leaves = seeds::opened_leaves(context, n, self.p, &self.siblings);
         for (i, leaf) in (0..).zip(leaves) {
             let Some(leaf) = leaf else {
                 commitments.push(self.com);
                 tapes.extend(vec![0; sizes.tape_row_len()]);
                 continue;
             };
-            let [seed, r] = seeds::seed_and_r(j, i, leaf);
-            commitments.push(seeds::commitment(j, i, n, seed, &self.corrections, r));
-            tapes.extend(tape_row(sizes, j, i, n, seed));
+            let [seed, r] = seeds::seed_and_r(context, i, leaf);
+            let com = seeds::commitment(context, i, n, seed, &self.corrections, r);
+            commitments.push(com);
+            tapes.extend(tape_row(sizes, context, i, n, seed));
         }
         let showing = Showing {
             tapes: &tapes,
@@ -544,8 +599,8 @@ impl<'a> Opened<'a> {
             row: self.row,
         };
         let (rows, output) = run_shown(circuit, n, self.p, showing);
-        let h = seeds::commitments_digest(j, &commitments);
-        let h_prime = seeds::broadcasts_digest(j, self.masked_inputs, &rows);
+        let h = seeds::commitments_digest(context.j, &commitments);
+        let h_prime = seeds::broadcasts_digest(context.j, self.masked_inputs, &rows);
         Checked {
             digests: [h, h_prime],
             output: Some(output),
@@ -556,7 +611,7 @@ impl<'a> Opened<'a> {
 #[cfg(test)]
 mod tests {
     use super::*;
-    use crate::examples::{FOUR, K};
+    use crate::examples::{FOUR, K, SALT};
 
     /// The statement that `FOUR` gives 6, as it does for the witness 6.
     const FOUR_GIVES_6: Statement = Statement {
@@ -587,9 +642,21 @@ mod tests {
         counts: Counts,
         more: usize,
     ) -> Result<Vec<u8>, Refusal> {
+        salted(statement, witness, [root, &SALT], counts, more)
+    }
+
+    /// The same, with a root and a salt.
+    fn salted(
+        statement: Statement,
+        witness: &[u8],
+        [root, salt]: [&[u8]; 2],
+        counts: Counts,
+        more: usize,
+    ) -> Result<Vec<u8>, Refusal> {
         let sizes = crate::circuit::read(statement.circuit)?;
         let mut proof = vec![0xa5; longest(sizes, counts) + more];
-        let len = prove(statement, witness, root, counts, &mut proof, &mut a_work())?;
+        let work = &mut a_work();
+        let len = prove(statement, witness, root, salt, counts, &mut proof, work)?;
         assert!(proof[len..].iter().all(|&byte| byte == 0xa5));
         proof.truncate(len);
         Ok(proof)
@@ -605,37 +672,79 @@ mod tests {
         let known = [
             (
                 counts(4, 1, 2),
-                217,
-                "e821c86b35bb2fd53be62abc95cd7b7e248fcc4a86b131c82929f9669ffea9b2",
+                248,
+                "93f070eeaed4d6effb44ffb7e0e80b14e1f5c750cde6d9ebb03e5f6ff6b355b5",
             ),
             (
                 counts(5, 2, 4),
-                299,
-                "5c3181da69f72cb2f5ad9df81749bbfdce1eacaa03b35959804b0fa95eba3d31",
+                332,
+                "2f446ce6cb0d0e9a56edc2520e850ce8eca4fea3396872b966941e377a5ab889",
             ),
             (
                 counts(6, 5, 8),
-                500,
-                "2a78de2c0efdd061897c20c419ea6078ed5d275000bddf49956869d126324131",
+                532,
+                "4e3c2e6da9b086e65899797ddcf4956aecb5e6ad68a3ed267cb797e9438108e6",
             ),
             (
                 counts(20, 7, 16),
-                1291,
-                "9200631907febbaa62af1b755bf340012b8817e07f69850f7a477e353d2f3c64",
+                1322,
+                "896c1ab81bc571cce1d7f0a015b5aac6f9d3db112998c7bcc3272189c0cd56bc",
             ),
             (
                 counts(300, 9, 16),
-                10912,
-                "d52b11539c8647124bafecd16d21950f01b8eb8aad6b25db7f04dd7ce3f9136a",
+                10961,
+                "e437f59c8229b73ee8d7bea1d3dd1c81ee8e24841211f1210cb7dfc6d235e896",
             ),
         ];
-        for (counts, len, digest) in known {
+        let wide = [
+            (
+                counts(5, 2, 32),
+                428,
+                "d8ae0a829f9ceac319c70df2a7487a3dd4372a5954cf95b3b5c4247f00fc8e78",
+            ),
+            (
+                counts(4, 1, 64),
+                329,
+                "75023891866dc2812831fdd1518ce9771d86710d98fd057675509a4d9f71d225",
+            ),
+            (
+                counts(20, 7, 64),
+                1531,
+                "b70f5182869dfe955492534d93b715d23d1d497d5008c3bcdb4bacf757d9c237",
+            ),
+        ];
+        for (counts, len, digest) in known.into_iter().chain(wide) {
             let proof = proved(FOUR_GIVES_6, &[6], &ROOT, counts, 9).unwrap();
             assert_eq!(
                 (proof.len(), hex(&sha3_256(&proof)).as_str()),
                 (len, digest)
             );
             assert_eq!(checked(FOUR_GIVES_6, &proof), Ok(()), "{counts:?}");
+        }
+    }
+
+    /// The same with a salt of zeros, which is a salt like others.
+    #[test]
+    fn a_known_proof_with_a_salt_of_zeros() {
+        let salt = [0; 32];
+        let proof = salted(FOUR_GIVES_6, &[6], [&ROOT, &salt], counts(5, 2, 4), 0).unwrap();
+        let digest = "1c172fe19df86f879f195a2098e04b2208b360dc4df05735a89b3298d41a71c1";
+        assert_eq!(
+            (proof.len(), hex(&sha3_256(&proof)).as_str()),
+            (331, digest)
+        );
+        assert_eq!(checked(FOUR_GIVES_6, &proof), Ok(()));
+    }
+
+    /// The salt stands after h*, and another one is refused.
+    #[test]
+    fn the_salt_of_a_proof() {
+        let proof = proved(FOUR_GIVES_6, &[6], &ROOT, counts(20, 7, 16), 0).unwrap();
+        assert_eq!(proof[38..70], SALT);
+        for bit in 0..256 {
+            let mut other = proof.clone();
+            other[38 + bit / 8] ^= 1 << (bit % 8);
+            assert!(checked(FOUR_GIVES_6, &other).is_err(), "bit {bit}");
         }
     }
 
@@ -646,10 +755,9 @@ mod tests {
             y: &[1],
             message: b"message",
         };
-        for (root, p, len) in [(2, 0, 217), (1, 1, 216)] {
+        for (root, p, len) in [(3, 0, 249), (1, 1, 248)] {
             let proof = proved(statement, &[3], &[root; 16], counts(4, 1, 2), 0).unwrap();
-            let (counts, h_star) = header(&proof).unwrap();
-            let hidden = hidden_parties(statement, counts, h_star);
+            let hidden = hidden_parties(statement, header(&proof).unwrap());
             let chosen: Vec<u8> = hidden.into_iter().flatten().collect();
             assert_eq!((chosen, proof.len()), (vec![p], len));
         }
@@ -677,24 +785,34 @@ mod tests {
             message: &[0; 4097],
             ..of(&FOUR, &[6])
         };
-        let ask = |statement, witness: &[u8], root: &[u8], counts, len: usize| {
-            let mut proof = vec![0xa5; len];
-            let answer = prove(statement, witness, root, counts, &mut proof, &mut a_work());
+        let ask_salted = |statement, witness: &[u8], [root, salt]: [&[u8]; 2], counts, len| {
+            let (mut proof, work) = (vec![0xa5; len], &mut a_work());
+            let answer = prove(statement, witness, root, salt, counts, &mut proof, work);
             assert!(answer.is_ok() || proof == vec![0xa5; len]);
             answer
         };
-        assert_eq!(ask(of(&[], &[]), &[], &[], counts(1, 1, 1), 0), Err(1));
+        let ask = |statement, witness: &[u8], root: &[u8], counts, len| {
+            ask_salted(statement, witness, [root, &SALT], counts, len)
+        };
+        let nothing: [&[u8]; 2] = [&[], &[]];
+        let answer = ask_salted(of(&[], &[]), &[], nothing, counts(1, 1, 1), 0);
+        assert_eq!(answer, Err(1));
         for counts in [counts(513, 1, 2), counts(4, 4, 2), counts(4, 1, 3)] {
-            assert_eq!(ask(of(&FOUR, &[]), &[], &[], counts, 0), Err(8));
+            let answer = ask_salted(of(&FOUR, &[]), &[], nothing, counts, 0);
+            assert_eq!(answer, Err(8));
         }
-        assert_eq!(ask(long, &[6], &ROOT, good, 233), Err(6));
-        assert_eq!(ask(of(&FOUR, &[6]), &[255; 2], &ROOT, good, 233), Err(6));
-        assert_eq!(ask(of(&FOUR, &[255; 2]), &[6], &ROOT, good, 233), Err(6));
-        assert_eq!(ask(of(&FOUR, &[255]), &[6], &ROOT[1..], good, 233), Err(6));
-        assert_eq!(ask(of(&FOUR, &[255]), &[255], &ROOT, good, 232), Err(6));
-        assert_eq!(ask(of(&FOUR, &[5]), &[8], &ROOT, good, 233), Err(7));
-        assert_eq!(ask(of(&FOUR, &[14]), &[6], &ROOT, good, 233), Err(7));
-        assert_eq!(ask(of(&FOUR, &[5]), &[6], &ROOT, good, 233), Err(10));
+        for salt in [&[][..], &SALT[1..], &[SALT, SALT].concat()[..33]] {
+            let answer = ask_salted(of(&FOUR, &[255]), &[255], [&ROOT, salt], good, 265);
+            assert_eq!(answer, Err(6));
+        }
+        assert_eq!(ask(long, &[6], &ROOT, good, 265), Err(6));
+        assert_eq!(ask(of(&FOUR, &[6]), &[255; 2], &ROOT, good, 265), Err(6));
+        assert_eq!(ask(of(&FOUR, &[255; 2]), &[6], &ROOT, good, 265), Err(6));
+        assert_eq!(ask(of(&FOUR, &[255]), &[6], &ROOT[1..], good, 265), Err(6));
+        assert_eq!(ask(of(&FOUR, &[255]), &[255], &ROOT, good, 264), Err(6));
+        assert_eq!(ask(of(&FOUR, &[5]), &[8], &ROOT, good, 265), Err(7));
+        assert_eq!(ask(of(&FOUR, &[14]), &[6], &ROOT, good, 265), Err(7));
+        assert_eq!(ask(of(&FOUR, &[5]), &[6], &ROOT, good, 265), Err(10));
     }
 
     #[test]
@@ -725,47 +843,56 @@ mod tests {
         assert_eq!(checked(long, &[]), Err(6));
         assert_eq!(checked(of_y(&[255, 0]), &[]), Err(6));
         assert_eq!(checked(of_y(&[14]), &[]), Err(7));
-        assert_eq!(checked(FOUR_GIVES_6, &proof[..37]), Err(11));
-        for (place, byte) in [(0, 1), (1, 2), (2, 0), (2, 5), (4, 3), (4, 32), (5, 1)] {
+        assert_eq!(checked(FOUR_GIVES_6, &proof[..69]), Err(11));
+        for (place, byte) in [
+            (0, 1),
+            (1, 2),
+            (2, 0),
+            (2, 5),
+            (4, 3),
+            (4, 63),
+            (4, 128),
+            (5, 1),
+        ] {
             assert_eq!(checked(FOUR_GIVES_6, &with(place, byte)), Err(11));
         }
-        assert_eq!(checked(FOUR_GIVES_6, &proof[..298]), Err(12));
+        assert_eq!(checked(FOUR_GIVES_6, &proof[..331]), Err(12));
         // The last stretch is of instance 4, which is chosen, with its row at the end:
         // 2 bits of AND gates, 3 of outputs, 3 out of use. Before it is the digest of
         // instance 3.
-        let (row, last) = (298, 299 - (2 * 16 + 1 + 32 + 1 + 1) - 1);
+        let (row, last) = (331, 332 - (2 * 16 + 1 + 32 + 1 + 1) - 1);
         assert_eq!(checked(FOUR_GIVES_6, &turned(&[(row, 0x24)])), Err(7));
         let output = turned(&[(row, 0x04), (last, 0xff)]);
         assert_eq!(checked(FOUR_GIVES_6, &output), Err(10));
         assert_eq!(checked(FOUR_GIVES_6, &turned(&[(last, 0xff)])), Err(13));
-        let output = turned(&[(row, 0x04), (38, 0xff)]);
+        let output = turned(&[(row, 0x04), (70, 0xff)]);
         assert_eq!(checked(FOUR_GIVES_6, &output), Err(10));
-        assert_eq!(checked(FOUR_GIVES_6, &turned(&[(38, 0xff)])), Err(13));
+        assert_eq!(checked(FOUR_GIVES_6, &turned(&[(70, 0xff)])), Err(13));
         assert_eq!(checked(FOUR_GIVES_6, &proof), Ok(()));
     }
 
-    /// Instances 0 and 4 are chosen of five: nodes 5 and 9 are opened, after the
+    /// Instances 2 and 4 are chosen of five: nodes 4 and 11 are opened, after the
     /// header and before the stretches.
     #[test]
     fn the_cover_of_a_proof() {
         let proof = proved(FOUR_GIVES_6, &[6], &ROOT, counts(5, 2, 4), 0).unwrap();
-        let (counts, h_star) = header(&proof).unwrap();
-        let hidden = hidden_parties(FOUR_GIVES_6, counts, h_star);
-        assert_eq!(hidden, [Some(3), None, None, None, Some(2)]);
-        assert_eq!(opened_nodes(&is_chosen(&hidden)), [5, 9]);
-        let [two, _] = seeds::children(65_535, 1, ROOT);
-        let [_, five] = seeds::children(65_535, 2, two);
-        let masters = all_masters(5, ROOT);
-        assert_eq!(proof[38..70], [five, masters[1]].concat());
+        let hidden = hidden_parties(FOUR_GIVES_6, header(&proof).unwrap());
+        assert_eq!(hidden, [None, None, Some(0), None, Some(2)]);
+        assert_eq!(opened_nodes(&is_chosen(&hidden)), [4, 11]);
+        let (salt, j) = (SALT, 65_535);
+        let [two, _] = seeds::children(Context { salt, j }, 1, ROOT);
+        let [four, _] = seeds::children(Context { salt, j }, 2, two);
+        let masters = all_masters(5, SALT, ROOT);
+        assert_eq!(proof[70..102], [four, masters[3]].concat());
     }
 
     /// A witness for another output: each replay shows it.
     #[test]
     fn a_forged_output() {
         let counts = counts(5, 2, 4);
-        let instances = instances(&FOUR, &[5], ROOT, counts);
-        let h_star = h_star(&instances);
-        let proof = written(ROOT, &instances, FOUR_GIVES_6, counts, h_star);
+        let instances = instances(&FOUR, &[5], ROOT, SALT, counts);
+        let header = Header::of(&instances, SALT, counts);
+        let proof = written(ROOT, &instances, FOUR_GIVES_6, header);
         assert_eq!(checked(FOUR_GIVES_6, &proof), Err(10));
     }
 }

@@ -1,6 +1,7 @@
 //! Seed trees, tapes, commitments, digests and the challenge.
 //!
-//! Each hash input starts with a tag byte; j is a u16 and i is a u8.
+//! Each hash input starts with a tag byte; j is a u16 and i is a u8. Tags 1 to 4 take
+//! the salt straight after the tag.
 
 use crate::bits::{clear_rest, oct};
 use crate::fips202::{sha3_256, shake128, shake256};
@@ -9,29 +10,64 @@ use crate::Refusal;
 /// A root, a master, a node of a tree, a seed or an r.
 pub type Value = [u8; 16];
 pub type Digest = [u8; 32];
+pub type Salt = [u8; 32];
+
+/// What the hashes of an instance with tags 1 to 4 share: the salt of the proof and the
+/// instance's number j.
+#[derive(Clone, Copy, Debug)]
+pub struct Context {
+    pub salt: Salt,
+    pub j: u16,
+}
+
+impl Context {
+    /// A hash input: the tag, the salt, j, and then what the tag takes.
+    fn input(&self, tag: u8, rest: &[&[u8]]) -> Vec<u8> {
+        let head = [&[tag], &self.salt[..], &self.j.to_le_bytes()].concat();
+        [head, rest.concat()].concat()
+    }
+}
 
 /// Fills `leaves` with the n leaves of the tree of `master`: refusals 8 and 6.
-pub fn expand(j: u32, n: u32, master: &[u8], leaves: &mut [u8]) -> Result<(), Refusal> {
+pub fn expand(
+    j: u32,
+    n: u32,
+    salt: &[u8],
+    master: &[u8],
+    leaves: &mut [u8],
+) -> Result<(), Refusal> {
     let (j, n) = (instance(j)?, parties(n)?);
-    let master: Value = master.try_into().map_err(|_| 6_u32)?;
+    let (salt, master) = (of_length(salt)?, of_length(master)?);
     if leaves.len() != 16 * n {
         return Err(6);
     }
-    leaves.copy_from_slice(&tree_leaves(j, n, master).concat());
+    leaves.copy_from_slice(&tree_leaves(Context { salt, j }, n, master).concat());
     Ok(())
 }
 
+/// 6 for bytes that are not as many as asked for.
+pub(crate) fn of_length<const N: usize>(bytes: &[u8]) -> Result<[u8; N], Refusal> {
+    bytes.try_into().map_err(|_| 6)
+}
+
 /// Fills `siblings` with the opening of all leaves but p: refusals 8, 9 and 6.
-pub fn open(j: u32, n: u32, p: u32, master: &[u8], siblings: &mut [u8]) -> Result<(), Refusal> {
+pub fn open(
+    j: u32,
+    n: u32,
+    p: u32,
+    salt: &[u8],
+    master: &[u8],
+    siblings: &mut [u8],
+) -> Result<(), Refusal> {
     let (j, n, p) = (instance(j)?, parties(n)?, p as usize);
     if p >= n {
         return Err(9);
     }
-    let master: Value = master.try_into().map_err(|_| 6_u32)?;
+    let (salt, master) = (of_length(salt)?, of_length(master)?);
     if siblings.len() != 16 * height(n) {
         return Err(6);
     }
-    siblings.copy_from_slice(&tree_opening(j, n, p, master).concat());
+    siblings.copy_from_slice(&tree_opening(Context { salt, j }, n, p, master).concat());
     Ok(())
 }
 
@@ -39,6 +75,7 @@ pub fn open(j: u32, n: u32, p: u32, master: &[u8], siblings: &mut [u8]) -> Resul
 #[derive(Clone, Copy, Debug)]
 pub struct ChallengeInput<'a> {
     pub h_star: &'a [u8],
+    pub salt: &'a [u8],
     /// SHA3-256 of the circuit file.
     pub circuit_digest: &'a [u8],
     pub y: &'a [u8],
@@ -48,6 +85,7 @@ pub struct ChallengeInput<'a> {
 impl ChallengeInput<'_> {
     fn lengths_are_good(&self) -> bool {
         self.h_star.len() == 32
+            && self.salt.len() == 32
             && self.circuit_digest.len() == 32
             && (1..=32).contains(&self.y.len())
             && self.message.len() <= 4096
@@ -60,6 +98,7 @@ impl ChallengeInput<'_> {
         [
             &[6],
             self.h_star,
+            self.salt,
             &m,
             &tau,
             &[n as u8],
@@ -147,9 +186,8 @@ fn height(n: usize) -> usize {
 }
 
 /// Tag 2: the values of nodes 2k and 2k + 1.
-pub(crate) fn children(j: u16, k: usize, value: Value) -> [Value; 2] {
-    let (j, k) = (j.to_le_bytes(), (k as u16).to_le_bytes());
-    two_values(&[&[2], &j[..], &k, &value].concat())
+pub(crate) fn children(context: Context, k: usize, value: Value) -> [Value; 2] {
+    two_values(&context.input(2, &[&(k as u16).to_le_bytes(), &value]))
 }
 
 /// The 32 bytes that SHAKE128 gives, as two values.
@@ -161,19 +199,19 @@ fn two_values(input: &[u8]) -> [Value; 2] {
 }
 
 /// The leaves in the subtree of node k, which are nodes of n and above.
-pub(crate) fn subtree_leaves(j: u16, n: usize, k: usize, value: Value) -> Vec<Value> {
+pub(crate) fn subtree_leaves(context: Context, n: usize, k: usize, value: Value) -> Vec<Value> {
     if k >= n {
         return vec![value];
     }
-    let [left, right] = children(j, k, value);
-    let mut leaves = subtree_leaves(j, n, 2 * k, left);
-    leaves.extend(subtree_leaves(j, n, 2 * k + 1, right));
+    let [left, right] = children(context, k, value);
+    let mut leaves = subtree_leaves(context, n, 2 * k, left);
+    leaves.extend(subtree_leaves(context, n, 2 * k + 1, right));
     leaves
 }
 
 /// The n leaves of a tree. Leaf i is node n + i.
-pub fn tree_leaves(j: u16, n: usize, master: Value) -> Vec<Value> {
-    subtree_leaves(j, n, 1, master)
+pub fn tree_leaves(context: Context, n: usize, master: Value) -> Vec<Value> {
+    subtree_leaves(context, n, 1, master)
 }
 
 /// The nodes from below the top to leaf p.
@@ -183,10 +221,10 @@ fn path(n: usize, p: usize) -> Vec<usize> {
 }
 
 /// The siblings on the path to leaf p, top first.
-pub fn tree_opening(j: u16, n: usize, p: usize, master: Value) -> Vec<Value> {
+pub fn tree_opening(context: Context, n: usize, p: usize, master: Value) -> Vec<Value> {
     let mut value = master;
     let siblings = path(n, p).into_iter().map(|node| {
-        let both = children(j, node / 2, value);
+        let both = children(context, node / 2, value);
         value = both[node % 2];
         both[1 - node % 2]
     });
@@ -194,11 +232,16 @@ pub fn tree_opening(j: u16, n: usize, p: usize, master: Value) -> Vec<Value> {
 }
 
 /// All leaves but leaf p, from the siblings on the path to it.
-pub fn opened_leaves(j: u16, n: usize, p: usize, siblings: &[Value]) -> Vec<Option<Value>> {
+pub fn opened_leaves(
+    context: Context,
+    n: usize,
+    p: usize,
+    siblings: &[Value],
+) -> Vec<Option<Value>> {
     let mut leaves = vec![None; n];
     for (node, &value) in path(n, p).into_iter().zip(siblings) {
         let sibling = node ^ 1;
-        let below = subtree_leaves(j, n, sibling, value);
+        let below = subtree_leaves(context, n, sibling, value);
         // Node k has its first leaf at node k times their number.
         let first = sibling * below.len() - n;
         for (leaf, value) in leaves[first..].iter_mut().zip(below) {
@@ -209,18 +252,22 @@ pub fn opened_leaves(j: u16, n: usize, p: usize, siblings: &[Value]) -> Vec<Opti
 }
 
 /// Tag 3: the seed and the r of a leaf.
-pub fn seed_and_r(j: u16, i: u8, leaf: Value) -> [Value; 2] {
-    two_values(&[&[3], &j.to_le_bytes()[..], &[i], &leaf].concat())
+pub fn seed_and_r(context: Context, i: u8, leaf: Value) -> [Value; 2] {
+    two_values(&context.input(3, &[&[i], &leaf]))
 }
 
 /// Tag 4: the tape row of party i of n, its unused bits cleared. The last A
 /// places of party n - 1 are unused.
-pub fn tape_row(j: u16, i: u8, n: usize, seed: Value, inputs: usize, ands: usize) -> Vec<u8> {
+pub fn tape_row(
+    context: Context,
+    i: u8,
+    n: usize,
+    seed: Value,
+    inputs: usize,
+    ands: usize,
+) -> Vec<u8> {
     let mut row = vec![0; oct(inputs + 2 * ands)];
-    shake128(
-        &[&[4], &j.to_le_bytes()[..], &[i], &seed].concat(),
-        &mut row,
-    );
+    shake128(&context.input(4, &[&[i], &seed]), &mut row);
     let last = usize::from(i) == n - 1;
     let used = if last { ands } else { 2 * ands };
     clear_rest(&mut row, inputs + used);
@@ -228,10 +275,17 @@ pub fn tape_row(j: u16, i: u8, n: usize, seed: Value, inputs: usize, ands: usize
 }
 
 /// Tag 1: the commitment of party i of n; the last party's takes the corrections.
-pub fn commitment(j: u16, i: u8, n: usize, seed: Value, corrections: &[u8], r: Value) -> Digest {
+pub fn commitment(
+    context: Context,
+    i: u8,
+    n: usize,
+    seed: Value,
+    corrections: &[u8],
+    r: Value,
+) -> Digest {
     let last = usize::from(i) == n - 1;
     let corrections = if last { corrections } else { &[] };
-    sha3_256(&[&[1], &j.to_le_bytes()[..], &[i], &seed, corrections, &r].concat())
+    sha3_256(&context.input(1, &[&[i], &seed, corrections, &r]))
 }
 
 /// Tag 7: h_j, over all commitments of an instance.
@@ -262,26 +316,28 @@ pub fn h_star(h: Digest, h_prime: Digest) -> Digest {
 #[cfg(test)]
 mod tests {
     use super::*;
+    use crate::examples::SALT;
 
     // The known answers were made with Python's hashlib over the same inputs.
     const J: u16 = 0x0102;
+    const CONTEXT: Context = Context { salt: SALT, j: J };
     const MASTER: &str = "ed0ead082955f86b1c5cf2e10f93c409";
     const LEAVES: [&str; 4] = [
-        "ab8b2f07783708de4df6175bcdbfe5b9",
-        "bad1cdfe6b3762949ba0ed06a2352027",
-        "d3047ebf39bedb8bcf80f7a4c6d9e888",
-        "d629e04f65d641714775d86fb4ab585d",
+        "0e5db9de6101534ed5590ab2067c6482",
+        "acae4f47631b9c9dfecad541cbe83c85",
+        "e2bca0d790e01fb55796de67409371cc",
+        "824fe91e39a6abc65455e7f4c129640f",
     ];
-    const NODE_2: &str = "1d3d5c903de7db64a3881ba00a91ff6e";
-    const SEED: &str = "c9c9d53fb441128be6aed7038051c22b";
-    const R: &str = "ee2963a177a44efbdec85fa7ba7b4ad6";
-    const COM_LAST: &str = "477fc5fee5f8383cfbd02f38df146bb054a3b32233e26659b47fb174e74cd8bc";
-    const COM: &str = "f128e4b3e1a63566a47df49184622bf85d45a37668f77ae582de72967f4be83c";
-    const H_J: &str = "6e9703127bf9bf57970f63e1fc497a75b91fcd940a29738b4bc154d5ce3da304";
+    const NODE_2: &str = "5aa9202b0aad14c3a7fcb24fc6f07536";
+    const SEED: &str = "eb321bef18524e52a358b5cf3fa03ccd";
+    const R: &str = "558e9300537f84befe4dcbf85aed89ef";
+    const COM_LAST: &str = "eaee5c6c1743e1ae3625d8874b003f05b42b744723e8549c53358cded9e3a705";
+    const COM: &str = "8e5f07c7e77a67e6234879492ba0303d0814b255fa3cc05213c41cb7a22de393";
+    const H_J: &str = "65d42c798a6e5fd270ca8b79935e52666275c60437a379b76ea8b66c98c6a2bf";
     const H_PRIME_J: &str = "98a44d731c6f99a49ba8e243ce6e1239d5c7857dd03077403b9ddc94eb2d70df";
-    const H: &str = "22d69c5a1881f458803d0f7dcfea9650a26f787d9c2a4bc278083e019f425174";
+    const H: &str = "d578d155e562b773ec17ecaf8cc645bf9cd6017c4d463d31a3d8495e2b4a1d42";
     const H_PRIME: &str = "d4a059c4a6350b08ffd62be421456ae36bbb03160ea98d71e9830293e255cfa2";
-    const H_STAR: &str = "14e550aab97e91510ec05530574ad499f5689287b0dfad9e3d31f7507a30aa4d";
+    const H_STAR: &str = "1c7c582eca8da12ca05676f011d7fb2ff7c37a145ead0043f39beb2064b6996a";
 
     fn hex(bytes: &[u8]) -> String {
         bytes.iter().map(|byte| format!("{byte:02x}")).collect()
@@ -295,25 +351,25 @@ mod tests {
     fn known_tree() {
         let master: Value = unhex(MASTER);
         let mut leaves = [0; 64];
-        assert_eq!(expand(J.into(), 4, &master, &mut leaves), Ok(()));
+        assert_eq!(expand(J.into(), 4, &SALT, &master, &mut leaves), Ok(()));
         assert_eq!(hex(&leaves), LEAVES.concat());
         let mut siblings = [0; 32];
-        assert_eq!(open(J.into(), 4, 2, &master, &mut siblings), Ok(()));
+        assert_eq!(open(J.into(), 4, 2, &SALT, &master, &mut siblings), Ok(()));
         assert_eq!(hex(&siblings), [NODE_2, LEAVES[3]].concat());
     }
 
     #[test]
     fn known_seed_and_row() {
-        let [seed, r] = seed_and_r(J, 3, unhex(LEAVES[3]));
+        let [seed, r] = seed_and_r(CONTEXT, 3, unhex(LEAVES[3]));
         assert_eq!((hex(&seed), hex(&r)), (SEED.into(), R.into()));
-        assert_eq!(tape_row(J, 3, 8, seed, 3, 5), [0x43, 0x1f]);
-        assert_eq!(tape_row(J, 3, 4, seed, 3, 5), [0x43, 0x00]);
+        assert_eq!(tape_row(CONTEXT, 3, 8, seed, 3, 5), [0xcc, 0x07]);
+        assert_eq!(tape_row(CONTEXT, 3, 4, seed, 3, 5), [0xcc, 0x00]);
     }
 
     #[test]
     fn known_commitments_and_digests() {
-        let last = commitment(J, 3, 4, unhex(SEED), &[0x15], unhex(R));
-        let other = commitment(J, 3, 8, unhex(SEED), &[0x15], unhex(R));
+        let last = commitment(CONTEXT, 3, 4, unhex(SEED), &[0x15], unhex(R));
+        let other = commitment(CONTEXT, 3, 8, unhex(SEED), &[0x15], unhex(R));
         assert_eq!((hex(&last), hex(&other)), (COM_LAST.into(), COM.into()));
         let h_j = commitments_digest(J, &[last, other]);
         let h_prime_j = broadcasts_digest(J, &[5], &[1, 2, 3, 4]);
@@ -330,25 +386,27 @@ mod tests {
         let digest: Digest = std::array::from_fn(|i| 0x40 + i as u8);
         let input = |y, message| ChallengeInput {
             h_star: &h_star,
+            salt: &SALT,
             circuit_digest: &digest,
             y,
             message,
         };
         let short = chosen([300, 5, 16], input(&[0xf5, 1, 0], b"message"));
-        assert_eq!(short, [(50, 6), (109, 11), (115, 14), (153, 0), (245, 5)]);
+        assert_eq!(short, [(146, 3), (196, 8), (221, 15), (272, 15), (292, 7)]);
         let long = chosen([300, 5, 16], input(&[0xa5; 32], &[7; 4096]));
-        assert_eq!(long, [(2, 8), (4, 15), (35, 4), (100, 13), (245, 3)]);
+        assert_eq!(long, [(99, 0), (114, 9), (121, 1), (244, 15), (258, 13)]);
         let mut out = [0xee; 3];
         assert_eq!(challenge(2, 1, 2, input(&[1], b""), &mut out), Ok(()));
-        assert_eq!(out, [1, 0, 1]);
+        assert_eq!(out, [0, 0, 0]);
     }
 
     #[test]
     fn an_opening_gives_all_leaves_but_one() {
         for n in [2, 4, 8, 16] {
-            let leaves = tree_leaves(J, n, [3; 16]);
+            let leaves = tree_leaves(CONTEXT, n, [3; 16]);
             for p in 0..n {
-                let opened = opened_leaves(J, n, p, &tree_opening(J, n, p, [3; 16]));
+                let opening = tree_opening(CONTEXT, n, p, [3; 16]);
+                let opened = opened_leaves(CONTEXT, n, p, &opening);
                 let mut expected: Vec<_> = leaves.iter().copied().map(Some).collect();
                 expected[p] = None;
                 assert_eq!(opened, expected, "n {n}, p {p}");
@@ -359,37 +417,72 @@ mod tests {
     #[test]
     fn refusals_in_order() {
         let mut none = [];
-        assert_eq!(expand(65_536, 2, &[0; 16], &mut [0; 32]), Err(8));
-        assert_eq!(expand(0, 3, &[], &mut none), Err(8));
-        assert_eq!(expand(0, 2, &[], &mut [0; 32]), Err(6));
-        assert_eq!(expand(0, 2, &[0; 16], &mut [0; 31]), Err(6));
-        assert_eq!(open(0, 1, 9, &[], &mut none), Err(8));
-        assert_eq!(open(0, 2, 2, &[], &mut none), Err(9));
-        assert_eq!(open(0, 2, 1, &[0; 16], &mut [0; 32]), Err(6));
+        assert_eq!(expand(65_536, 2, &SALT, &[0; 16], &mut [0; 32]), Err(8));
+        assert_eq!(expand(0, 3, &[], &[], &mut none), Err(8));
+        assert_eq!(expand(0, 2, &SALT, &[], &mut [0; 32]), Err(6));
+        assert_eq!(expand(0, 2, &SALT, &[0; 16], &mut [0; 31]), Err(6));
+        assert_eq!(open(0, 1, 9, &[], &[], &mut none), Err(8));
+        assert_eq!(open(0, 2, 2, &[], &[], &mut none), Err(9));
+        assert_eq!(open(0, 2, 1, &SALT, &[0; 16], &mut [0; 32]), Err(6));
     }
 
-    /// The lengths are those of h*, the digest, y, the message and the output.
+    #[test]
+    fn salts_of_another_length() {
+        for len in [0, 1, 16, 31, 33, 64, 256 + 32] {
+            let salt = vec![0; len];
+            assert_eq!(expand(0, 2, &salt, &[0; 16], &mut [0; 32]), Err(6));
+            assert_eq!(open(0, 2, 1, &salt, &[0; 16], &mut [0; 16]), Err(6));
+        }
+        assert_eq!(expand(0, 2, &[0; 32], &[0; 16], &mut [0; 32]), Ok(()));
+    }
+
+    /// Of two salts no leaf, no seed, no r, no row and no commitment is the same.
+    #[test]
+    fn two_salts() {
+        let of = |salt| {
+            let context = Context { salt, j: J };
+            let leaves = tree_leaves(context, 4, [3; 16]);
+            let [seed, r] = seed_and_r(context, 1, [3; 16]);
+            let row = tape_row(context, 1, 4, [3; 16], 100, 14);
+            let com = commitment(context, 1, 4, [3; 16], &[], [3; 16]);
+            let values = [seed, r].concat();
+            [leaves.concat(), values, row, com.to_vec()]
+        };
+        for place in 0..32 {
+            let mut other = SALT;
+            other[place] ^= 0x10;
+            for (one, other) in of(SALT).iter().zip(&of(other)) {
+                let mut pairs = one.chunks(16).zip(other.chunks(16));
+                assert!(pairs.all(|(one, other)| one != other), "byte {place}");
+            }
+        }
+    }
+
+    /// The lengths are those of h*, the salt, the digest, y, the message and the output.
     #[test]
     fn refusals_of_challenge_in_order() {
-        let of_lengths = |tau, lens: [usize; 5]| {
+        let of_lengths = |tau, lens: [usize; 6]| {
             let bytes = [0xee; 4097];
-            let [h_star, circuit_digest, y, message] = [0, 1, 2, 3].map(|i| &bytes[..lens[i]]);
+            let [h_star, salt, circuit_digest, y, message] =
+                [0, 1, 2, 3, 4].map(|i| &bytes[..lens[i]]);
             let input = ChallengeInput {
                 h_star,
+                salt,
                 circuit_digest,
                 y,
                 message,
             };
-            let mut out = vec![0xee; lens[4]];
+            let mut out = vec![0xee; lens[5]];
             let answer = challenge(4, tau, 2, input, &mut out);
-            assert!(answer.is_ok() || out == vec![0xee; lens[4]]);
+            assert!(answer.is_ok() || out == vec![0xee; lens[5]]);
             answer
         };
-        let good = [32, 32, 1, 0, 9];
+        let good = [32, 32, 32, 1, 0, 9];
         assert_eq!(of_lengths(3, good), Ok(()));
-        assert_eq!(of_lengths(3, [32, 32, 32, 4096, 9]), Ok(()));
+        assert_eq!(of_lengths(3, [32, 32, 32, 32, 4096, 9]), Ok(()));
         assert_eq!(of_lengths(4, good), Err(8));
-        let bad: [&[usize]; 5] = [&[0, 31, 33], &[0, 31, 33], &[0, 33], &[4097], &[0, 8, 10]];
+        let wrong: &[usize] = &[0, 31, 33];
+        let bad: [&[usize]; 6] = [wrong, wrong, wrong, &[0, 33], &[4097], &[0, 8, 10]];
         for (place, lens) in bad.into_iter().enumerate() {
             for &len in lens {
                 let mut lens = good;

@@ -189,7 +189,15 @@ mod tests {
                 let counts = Counts { m, tau: 1, n: 2 };
                 let mut proof = vec![0; longest(sizes, counts)];
                 let work = &mut vec![0; work_len(sizes)];
-                let len = prove(statement, &[6], &[m as u8; 16], counts, &mut proof, work);
+                let len = prove(
+                    statement,
+                    &[6],
+                    &[m as u8; 16],
+                    &[9; 32],
+                    counts,
+                    &mut proof,
+                    work,
+                );
                 let [start, len] = [buffer.len(), len.expect("proved")];
                 let proof_place = [start as u64, len as u64];
                 buffer.extend(&proof[..len]);

@@ -9,6 +9,7 @@ use crate::random::Random;
 pub struct Challenge {
     pub counts: [u32; 3],
     pub h_star: Vec<u8>,
+    pub salt: Vec<u8>,
     pub circuit_digest: Vec<u8>,
     pub y: Vec<u8>,
     pub message: Vec<u8>,
@@ -20,9 +21,10 @@ macro_rules! challenge_by {
     ($module:path, $counts:expr, $inputs:expr, $out:expr) => {{
         use $module as seeds;
         let [m, tau, n] = $counts;
-        let [h_star, circuit_digest, y, message] = $inputs;
+        let [h_star, salt, circuit_digest, y, message] = $inputs;
         let input = seeds::ChallengeInput {
             h_star,
+            salt,
             circuit_digest,
             y,
             message,
@@ -32,31 +34,40 @@ macro_rules! challenge_by {
 }
 
 impl Challenge {
-    /// Any bytes of these lengths: h*, the circuit's digest, y, the message; and
-    /// the length of the output.
-    pub fn of_lengths(random: &mut Random, counts: [u32; 3], lens: [usize; 5]) -> Challenge {
+    /// Any bytes of these lengths: h*, the salt, the circuit's digest, y, the message;
+    /// and the length of the output.
+    pub fn of_lengths(random: &mut Random, counts: [u32; 3], lens: [usize; 6]) -> Challenge {
         Challenge {
             counts,
             h_star: random.bytes(lens[0]),
-            circuit_digest: random.bytes(lens[1]),
-            y: random.bytes(lens[2]),
-            message: random.bytes(lens[3]),
-            out_len: lens[4],
+            salt: random.bytes(lens[1]),
+            circuit_digest: random.bytes(lens[2]),
+            y: random.bytes(lens[3]),
+            message: random.bytes(lens[4]),
+            out_len: lens[5],
         }
     }
 
     /// A good call, for good counts and lengths of y and of the message.
     pub fn any(random: &mut Random, counts: [u32; 3], y: usize, message: usize) -> Challenge {
-        let lens = [32, 32, y, message, 3 * counts[1] as usize];
+        let lens = [32, 32, 32, y, message, 3 * counts[1] as usize];
         Challenge::of_lengths(random, counts, lens)
     }
 
-    pub fn inputs(&self) -> [&[u8]; 4] {
-        [&self.h_star, &self.circuit_digest, &self.y, &self.message]
+    pub fn inputs(&self) -> [&[u8]; 5] {
+        let Challenge {
+            h_star,
+            salt,
+            circuit_digest,
+            y,
+            message,
+            ..
+        } = self;
+        [h_star, salt, circuit_digest, y, message]
     }
 
     /// The library's answer, with these buffers lent.
-    pub fn with(&self, inputs: [&[u8]; 4], out: &mut [u8]) -> Result<(), wivulameno::Refusal> {
+    pub fn with(&self, inputs: [&[u8]; 5], out: &mut [u8]) -> Result<(), wivulameno::Refusal> {
         challenge_by!(wivulameno::seeds, self.counts, inputs, out)
     }
 

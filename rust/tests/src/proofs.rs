@@ -11,6 +11,11 @@ use reference::proof::{cover_len, header, hidden_parties, parts, Statement};
 use std::ops::Range;
 use wivulameno::Work;
 
+/// The places of h* and of the salt in a proof, and the bytes before the opened nodes.
+pub const H_STAR: Range<usize> = 6..38;
+pub const SALT: Range<usize> = 38..70;
+pub const HEADER: usize = 70;
+
 /// One call of prove. The counts are M, tau and n.
 #[derive(Clone, Debug)]
 pub struct Prove {
@@ -19,6 +24,7 @@ pub struct Prove {
     pub y: Vec<u8>,
     pub message: Vec<u8>,
     pub root: Vec<u8>,
+    pub salt: Vec<u8>,
     pub counts: [u32; 3],
     pub proof_len: usize,
     pub work_len: usize,
@@ -38,10 +44,10 @@ pub struct Check {
 macro_rules! prove_by {
     ($module:path, $counts:expr, $inputs:expr, $prove:ident $(, $out:expr)+) => {{
         use $module as proof;
-        let [circuit, witness, y, message, root] = $inputs;
+        let [circuit, witness, y, message, root, salt] = $inputs;
         let statement = proof::Statement { circuit, y, message };
         let [m, tau, n] = $counts;
-        proof::$prove(statement, witness, root, proof::Counts { m, tau, n } $(, $out)+)
+        proof::$prove(statement, witness, root, salt, proof::Counts { m, tau, n } $(, $out)+)
     }};
 }
 
@@ -69,22 +75,24 @@ impl Prove {
             y: setting.y(),
             message: random.bytes(message),
             root: random.bytes(16),
+            salt: random.bytes(32),
             counts,
             proof_len: longest(setting.sizes, counts),
             work_len: works::least(&setting.circuit),
         }
     }
 
-    fn inputs(&self) -> [&[u8]; 5] {
+    fn inputs(&self) -> [&[u8]; 6] {
         let Prove {
             circuit,
             witness,
             y,
             message,
             root,
+            salt,
             ..
         } = self;
-        [circuit, witness, y, message, root]
+        [circuit, witness, y, message, root, salt]
     }
 
     /// The reference's proof, without guards.
@@ -151,8 +159,7 @@ impl Check {
 
     /// For each instance its hidden party, if the challenge chooses it.
     pub fn hidden(&self) -> Vec<Option<u8>> {
-        let (counts, h_star) = header(&self.proof).expect("a header");
-        hidden_parties(self.statement(), counts, h_star)
+        hidden_parties(self.statement(), header(&self.proof).expect("a header"))
     }
 
     /// The reference's answer, without guards.
@@ -172,7 +179,7 @@ impl Check {
     }
 }
 
-/// What document 01 asks of the proof's buffer.
+/// What the papers ask of the proof's buffer.
 pub fn longest(sizes: Sizes, [m, tau, n]: [u32; 3]) -> usize {
     let [m, tau] = [m, tau].map(|count| count as usize);
     let Sizes {
@@ -183,7 +190,7 @@ pub fn longest(sizes: Sizes, [m, tau, n]: [u32; 3]) -> usize {
     } = sizes;
     let siblings = 16 * n.ilog2() as usize;
     let chosen = siblings + oct(ands) + 32 + oct(inputs) + oct(ands + outputs);
-    38 + 48 * (m - tau) + tau * chosen
+    HEADER + 48 * (m - tau) + tau * chosen
 }
 
 /// Proves by both; gives the proof or the refusal. What is lent must be the same
@@ -250,7 +257,7 @@ pub fn places(sizes: Sizes, call: &Check) -> Vec<(Option<u8>, usize, usize)> {
     let hidden = call.hidden();
     let n = u32::from(call.proof[4]);
     let parts = parts(sizes, n, &hidden, &call.proof).expect("all parts");
-    let mut start = 38 + parts.cover.len();
+    let mut start = HEADER + parts.cover.len();
     let places = hidden.into_iter().zip(parts.stretches).map(|(p, part)| {
         start += part.len();
         (p, start - part.len(), part.len())
@@ -260,5 +267,5 @@ pub fn places(sizes: Sizes, call: &Check) -> Vec<(Option<u8>, usize, usize)> {
 
 /// The place of the opened nodes in a proof that is in form.
 pub fn cover_place(call: &Check) -> Range<usize> {
-    38..38 + cover_len(&call.hidden())
+    HEADER..HEADER + cover_len(&call.hidden())
 }

@@ -18,6 +18,7 @@ const NOT_AN_M: [u32; 10] = [
     u32::MAX - 1,
     u32::MAX,
 ];
+const SALT: [u8; 32] = [9; 32];
 const ROOT: [u8; 16] = [7; 16];
 
 fn masters(call: &Masters, expected: Result<(), u32>) {
@@ -30,46 +31,68 @@ fn covered(call: &Cover, expected: Result<(), u32>) {
     assert_eq!(answer.map(|_| ()), expected, "{}", call.shown());
 }
 
-/// The masters of two instances; the lengths are those of the root and the output.
-fn two_masters(m: u32, root: usize, out_len: usize) -> Masters {
-    let root = vec![7; root];
-    Masters { m, root, out_len }
+/// The masters of so many instances; the lengths are those of the root and the output.
+fn some_masters(m: u32, root: usize, out_len: usize) -> Masters {
+    let (salt, root) = (SALT.to_vec(), vec![7; root]);
+    Masters {
+        m,
+        salt,
+        root,
+        out_len,
+    }
 }
+
+/// The same with a salt of this length.
+fn salted(len: usize, call: Masters) -> Masters {
+    let salt = vec![9; len];
+    Masters { salt, ..call }
+}
+
+/// What is no length of a salt.
+const NO_SALT: [usize; 8] = [0, 1, 16, 31, 33, 48, 64, 256 + 32];
 
 #[test]
 fn refusals_of_masters() {
-    masters(&two_masters(2, 16, 32), Ok(()));
+    masters(&some_masters(2, 16, 32), Ok(()));
     for m in NOT_AN_M {
         let len = 16 * m.min(1024) as usize;
         for (root, out_len) in [(16, len), (16, 0), (15, len), (0, 0)] {
-            masters(&two_masters(m, root, out_len), Err(8));
+            masters(&some_masters(m, root, out_len), Err(8));
         }
     }
     for root in [0, 1, 15, 17, 32, 256 + 16] {
-        masters(&two_masters(2, root, 32), Err(6));
-        masters(&two_masters(2, root, 31), Err(6));
+        masters(&some_masters(2, root, 32), Err(6));
+        masters(&some_masters(2, root, 31), Err(6));
     }
     for out_len in [0, 1, 16, 31, 33, 48, 64, 256 + 32] {
-        masters(&two_masters(2, 16, out_len), Err(6));
+        masters(&some_masters(2, 16, out_len), Err(6));
     }
+    for len in NO_SALT {
+        masters(&salted(len, some_masters(2, 16, 32)), Err(6));
+        masters(&salted(len, some_masters(512, 16, 8192)), Err(6));
+        masters(&salted(len, some_masters(1, 16, 16)), Err(8));
+    }
+    // Exchanged with the root, and right only in sum.
+    masters(&salted(16, some_masters(2, 32, 32)), Err(6));
+    masters(&salted(31, some_masters(2, 17, 32)), Err(6));
     for m in [3_u32, 5, 9, 257, 511, 512] {
         let len = 16 * m as usize;
         // All leaves of the tree, the spare ones too, are too many.
         let whole = 16 * m.next_power_of_two() as usize;
         for out_len in [len - 1, len + 1, len - 16, len + 16, whole + 16] {
-            masters(&two_masters(m, 16, out_len), Err(6));
+            masters(&some_masters(m, 16, out_len), Err(6));
         }
         assert_eq!(whole != len, m != 512);
         if whole != len {
-            masters(&two_masters(m, 16, whole), Err(6));
+            masters(&some_masters(m, 16, whole), Err(6));
         }
-        masters(&two_masters(m, 16, len), Ok(()));
+        masters(&some_masters(m, 16, len), Ok(()));
     }
 }
 
 /// Five leaves of eight, of which 2 is hidden: nodes 3, 4 and 11.
 fn of_five() -> Cover {
-    let call = Cover::of(5, &[2], &ROOT);
+    let call = Cover::of(5, &[2], &SALT, &ROOT);
     assert_eq!(call.out_len, 48);
     call
 }
@@ -129,7 +152,7 @@ fn refusals_of_cover_for_leaves() {
         covered(&hiding(&odd), Err(9));
     }
     for m in [2, 3, 4, 5, 8, 9, 255, 256, 257, 511, 512] {
-        let mut call = Cover::of(m, &[m - 1], &ROOT);
+        let mut call = Cover::of(m, &[m - 1], &SALT, &ROOT);
         covered(&call, Ok(()));
         call.hidden = bytes_of(&[m]);
         covered(&call, Err(9));
@@ -143,6 +166,10 @@ fn refusals_of_cover_for_lengths() {
     for len in [0, 1, 15, 17, 32, 256 + 16] {
         let root = vec![7; len];
         covered(&Cover { root, ..of_five() }, Err(6));
+    }
+    for len in NO_SALT {
+        let salt = vec![9; len];
+        covered(&Cover { salt, ..of_five() }, Err(6));
     }
     // Of one node less or more, of all leaves, of all unhidden ones, and between.
     for out_len in [0, 1, 16, 32, 47, 49, 64, 80, 128, 256 + 48] {
@@ -177,6 +204,9 @@ const FAULTS: [&[Fault]; 3] = [
         (9, |call| call.hidden[1] = 1),
     ],
     &[
+        (6, |call| call.salt.clear()),
+        (6, |call| call.salt.truncate(31)),
+        (6, |call| call.salt.push(9)),
         (6, |call| call.root.truncate(15)),
         (6, |call| call.root.push(7)),
         (6, |call| call.out_len -= 1),
@@ -212,7 +242,7 @@ fn buffers_beside_the_right_length() {
         for _ in 0..10 {
             let count = random.from_to(1, m);
             let leaves: Vec<usize> = (0..count).map(|_| random.below(m)).collect();
-            let call = Cover::of(m, &leaves, &random.bytes(16));
+            let call = Cover::of(m, &leaves, &random.bytes(32), &random.bytes(16));
             let len = call.out_len;
             covered(&call, Ok(()));
             let lens = [len + 1, len + 16, len.wrapping_sub(1), len.wrapping_sub(16)];
@@ -232,7 +262,7 @@ fn buffers_beside_the_right_length() {
 fn lists_of_one_set() {
     let mut random = Random::new(3);
     let cover = |leaves: &[usize]| {
-        let call = Cover::of(9, leaves, &ROOT);
+        let call = Cover::of(9, leaves, &SALT, &ROOT);
         compare_cover(&mut Random::new(1), &call).expect("no refusal")
     };
     let sorted = cover(&[1, 4, 8]);
@@ -258,13 +288,16 @@ fn all_are_hidden() {
     let mut random = Random::new(4);
     for m in [2, 3, 4, 5, 8, 9, 255, 256, 257, 512] {
         let leaves: Vec<usize> = random.order(m).into_iter().map(|k| k - 1).collect();
-        let mut call = Cover::of(m, &leaves, &ROOT);
+        let mut call = Cover::of(m, &leaves, &SALT, &ROOT);
         assert_eq!(call.out_len, 0);
         covered(&call, Ok(()));
         call.out_len = 16;
         covered(&call, Err(6));
         call.out_len = 0;
         call.root.pop();
+        covered(&call, Err(6));
+        call.root = ROOT.to_vec();
+        call.salt.pop();
         covered(&call, Err(6));
     }
 }

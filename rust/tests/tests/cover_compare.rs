@@ -4,7 +4,7 @@
 //! fewer nodes do this.
 
 use reference::masters::{hidden_among, opened_masters, opened_nodes};
-use reference::seeds::Value;
+use reference::seeds::{Salt, Value};
 use tests::covers::{compare_cover, compare_masters, Cover, Masters};
 use tests::random::Random;
 use wivulameno::proof::most_opened;
@@ -20,9 +20,16 @@ fn values(bytes: &[u8]) -> Vec<Value> {
     values.map(|value| value.try_into().unwrap()).collect()
 }
 
+/// The salt of most trees here.
+const SALT: Salt = [0xd5; 32];
+
 /// The masters, after they were compared.
 fn masters_of(random: &mut Random, m: usize, root: &[u8]) -> Vec<Value> {
-    let masters = compare_masters(random, &Masters::of(m, root));
+    salted_masters(random, m, &SALT, root)
+}
+
+fn salted_masters(random: &mut Random, m: usize, salt: &Salt, root: &[u8]) -> Vec<Value> {
+    let masters = compare_masters(random, &Masters::of(m, salt, root));
     values(&masters.expect("no refusal"))
 }
 
@@ -30,10 +37,10 @@ fn masters_of(random: &mut Random, m: usize, root: &[u8]) -> Vec<Value> {
 /// but the hidden ones.
 fn check_cover(random: &mut Random, masters: &[Value], leaves: &[usize], root: &[u8]) -> usize {
     let m = masters.len();
-    let cover = compare_cover(random, &Cover::of(m, leaves, root));
+    let cover = compare_cover(random, &Cover::of(m, leaves, &SALT, root));
     let cover = values(&cover.expect("no refusal"));
     let hidden = hidden_among(m, leaves);
-    let opened = opened_masters(&hidden, &cover);
+    let opened = opened_masters(&hidden, SALT, &cover);
     for leaf in 0..m {
         let expected = (!hidden[leaf]).then_some(masters[leaf]);
         assert_eq!(opened[leaf], expected, "M {m}, leaf {leaf}, {leaves:?}");
@@ -41,13 +48,14 @@ fn check_cover(random: &mut Random, masters: &[Value], leaves: &[usize], root: &
     cover.len()
 }
 
-/// Every M, from any root.
+/// Every M, from any root and with any salt.
 #[test]
 fn masters_for_every_m() {
     let mut random = Random::new(151);
     for m in 2..=512 {
-        let root = random.bytes(16);
-        let masters = masters_of(&mut random, m, &root);
+        let (root, mut salt) = (random.bytes(16), SALT);
+        random.fill(&mut salt);
+        let masters = salted_masters(&mut random, m, &salt, &root);
         assert_eq!(masters.len(), m);
     }
 }
@@ -78,13 +86,13 @@ fn trees_of_parties() {
             let root = random.bytes(16);
             let masters = masters_of(&mut random, n, &root);
             let mut leaves = vec![0; 16 * n];
-            assert_eq!(expand(65_535, n as u32, &root, &mut leaves), Ok(()));
+            assert_eq!(expand(65_535, n as u32, &SALT, &root, &mut leaves), Ok(()));
             assert_eq!(masters.concat(), leaves);
             for p in 0..n {
-                let call = Cover::of(n, &[p], &root);
+                let call = Cover::of(n, &[p], &SALT, &root);
                 let cover = compare_cover(&mut random, &call).expect("no refusal");
                 let mut siblings = vec![0; cover.len()];
-                let opened = open(65_535, n as u32, p as u32, &root, &mut siblings);
+                let opened = open(65_535, n as u32, p as u32, &SALT, &root, &mut siblings);
                 assert_eq!(opened, Ok(()));
                 assert_eq!(cover, siblings, "n {n}, p {p}");
             }
@@ -249,7 +257,7 @@ fn one_hidden_and_all_but_one() {
                 assert_eq!(count, levels, "M {m}, leaf {leaf}");
             }
             let others: Vec<usize> = (0..m).filter(|&other| other != leaf).collect();
-            let call = Cover::of(m, &others, &root);
+            let call = Cover::of(m, &others, &SALT, &root);
             let cover = compare_cover(&mut random, &call).expect("no refusal");
             // A leaf whose sibling is spare has its parent opened in its place.
             if leaf + 1 < m || m % 2 == 0 {
@@ -265,7 +273,7 @@ fn one_hidden_and_all_but_one() {
 fn roots_differ() {
     let mut random = Random::new(157);
     let root = random.bytes(16);
-    let call = Cover::of(9, &[1, 8], &root);
+    let call = Cover::of(9, &[1, 8], &SALT, &root);
     let masters = masters_of(&mut random, 9, &root);
     let nodes = values(&compare_cover(&mut random, &call).expect("no refusal"));
     assert_eq!(nodes.len(), 3);
@@ -276,5 +284,42 @@ fn roots_differ() {
         assert!(masters.iter().zip(others).all(|(a, b)| *a != b), "{bit}");
         let others = values(&compare_cover(&mut random, &call).expect("no refusal"));
         assert!(nodes.iter().zip(others).all(|(a, b)| *a != b), "{bit}");
+    }
+}
+
+/// Every bit of the salt too.
+#[test]
+fn salts_differ() {
+    let mut random = Random::new(158);
+    let root = random.bytes(16);
+    let call = Cover::of(9, &[1, 8], &SALT, &root);
+    let masters = masters_of(&mut random, 9, &root);
+    let nodes = values(&compare_cover(&mut random, &call).expect("no refusal"));
+    for bit in 0..256 {
+        let mut salt = SALT;
+        salt[bit / 8] ^= 1 << (bit % 8);
+        let others = salted_masters(&mut random, 9, &salt, &root);
+        assert!(masters.iter().zip(others).all(|(a, b)| *a != b), "{bit}");
+        let call = Cover::of(9, &[1, 8], &salt, &root);
+        let others = values(&compare_cover(&mut random, &call).expect("no refusal"));
+        assert!(nodes.iter().zip(others).all(|(a, b)| *a != b), "{bit}");
+    }
+}
+
+/// A salt of zeros is a salt: masters follow from their cover, and the masters without
+/// a salt, SHAKE128 of 2, 65,535, k and the value, are others.
+#[test]
+fn a_salt_of_zeros() {
+    let mut random = Random::new(159);
+    let root = random.bytes(16);
+    let masters = salted_masters(&mut random, 2, &[0; 32], &root);
+    let call = Cover::of(2, &[0], &[0; 32], &root);
+    let node = compare_cover(&mut random, &call).expect("no refusal");
+    assert_eq!(node, masters[1]);
+    for (salt, alike) in [(&[0; 32][..], true), (&[], false)] {
+        let input = [&[2], salt, &[255, 255, 1, 0], &root].concat();
+        let mut children = [0; 32];
+        wivulameno::shake128(&input, &mut children);
+        assert_eq!(masters.concat() == children, alike);
     }
 }

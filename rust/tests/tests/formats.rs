@@ -194,6 +194,7 @@ struct Made<'a> {
     counts: Counts,
     proof: Vec<u8>,
     hashes: Hashes,
+    salt: [u8; 32],
 }
 
 /// What an instance has before the challenge.
@@ -211,7 +212,9 @@ impl Made<'_> {
     fn hash(&self, tag: u8, len: usize, numbers: &Numbers, bytes: &Bytes) -> Vec<u8> {
         let n = [("n", self.counts.n as usize)];
         let numbers: Vec<_> = numbers.iter().copied().chain(n).collect();
-        self.hashes.hash(tag, len, &numbers, bytes)
+        let salt = [("salt", self.salt.as_slice())];
+        let bytes: Vec<_> = bytes.iter().copied().chain(salt).collect();
+        self.hashes.hash(tag, len, &numbers, &bytes)
     }
 
     /// The nodes of a tree from its top, node 1, on; 0 is nothing.
@@ -364,7 +367,7 @@ fn follow(name: &str, m: u32, tau: u32, n: u32) {
     let sizes = sizes(&circuit).expect("a legal circuit");
     let mut y = vec![0; sizes.y_len()];
     evaluate(&circuit, &witness, &mut y).expect("no refusal");
-    let (counts, root) = (Counts { m, tau, n }, [0x5a; 16]);
+    let (counts, root, salt) = (Counts { m, tau, n }, [0x5a; 16], [0x3c; 32]);
     let statement = Statement {
         circuit: &circuit,
         y: &y,
@@ -372,7 +375,9 @@ fn follow(name: &str, m: u32, tau: u32, n: u32) {
     };
     let mut proof = vec![0; longest_proof(sizes, counts).expect("legal counts")];
     let mut work = Work::for_sizes(sizes);
-    let len = prove(statement, &witness, &root, counts, &mut proof, &mut work);
+    let len = prove(
+        statement, &witness, &root, &salt, counts, &mut proof, &mut work,
+    );
     proof.truncate(len.expect("no refusal"));
     check(statement, &proof, &mut work).expect("accepted");
 
@@ -385,6 +390,7 @@ fn follow(name: &str, m: u32, tau: u32, n: u32) {
         counts,
         proof,
         hashes: Hashes::read(),
+        salt,
     };
     followed(&made, &layouts, &root);
 }
@@ -402,6 +408,7 @@ fn followed(made: &Made, layouts: &[Layout], root: &[u8]) {
     ] {
         assert_eq!(header.number(proof, field, &[]), value as usize, "{field}");
     }
+    assert_eq!(header.get(proof, "salt", &[]), made.salt);
     let m = counts.m as usize;
     let leaves = m.next_power_of_two();
     let masters = made.tree(65_535, root, leaves);
@@ -465,7 +472,7 @@ fn proofs() {
     let [header, not_chosen, chosen] = &layouts("Proof file")[..] else {
         panic!("three tables");
     };
-    let fields = ["M", "τ", "n", "zero", "h*", "nodes", "instances"];
+    let fields = ["M", "τ", "n", "zero", "h*", "salt", "nodes", "instances"];
     has_fields(header, &fields);
     has_fields(not_chosen, &["h'_j", "end"]);
     let fields = [

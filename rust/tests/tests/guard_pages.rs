@@ -413,13 +413,16 @@ fn any_instance(random: &mut Random) -> u32 {
 
 fn expand(random: &mut Random) -> Result<(), u32> {
     let (j, n) = (any_instance(random), parties(random));
-    let (len, leaves_len) = (near(random, 16), near(random, 16 * n.min(32) as usize));
-    let (master, leaves) = (random.bytes(len), random.bytes(leaves_len));
-    let (answer, filled) = lend(random, &[&master], from_ref(&leaves), |inputs, mut out| {
-        seeds::expand(j, n, inputs[0], out[0])
+    let lens = [near(random, 32), near(random, 16)];
+    let [salt, master] = lens.map(|len| random.bytes(len));
+    let leaves_len = near(random, 16 * n.min(32) as usize);
+    let leaves = random.bytes(leaves_len);
+    let given = [&salt[..], &master];
+    let (answer, filled) = lend(random, &given, from_ref(&leaves), |inputs, mut out| {
+        seeds::expand(j, n, inputs[0], inputs[1], out[0])
     });
     let mut expected = leaves;
-    let plain = seeds::expand(j, n, &master, &mut expected);
+    let plain = seeds::expand(j, n, &salt, &master, &mut expected);
     assert_eq!(answer, plain.map_err(|refusal| refusal.number()));
     assert_eq!(filled[0], expected);
     answer
@@ -429,16 +432,16 @@ fn open(random: &mut Random) -> Result<(), u32> {
     let (j, n) = (any_instance(random), parties(random));
     let p = random.pick(&[0, 1, n - n.min(1), n, u32::MAX]);
     let levels = n.max(1).ilog2() as usize;
-    let (len, siblings_len) = (near(random, 16), near(random, 16 * levels));
-    let (master, siblings) = (random.bytes(len), random.bytes(siblings_len));
-    let (answer, filled) = lend(
-        random,
-        &[&master],
-        from_ref(&siblings),
-        |inputs, mut out| seeds::open(j, n, p, inputs[0], out[0]),
-    );
+    let lens = [near(random, 32), near(random, 16)];
+    let [salt, master] = lens.map(|len| random.bytes(len));
+    let siblings_len = near(random, 16 * levels);
+    let siblings = random.bytes(siblings_len);
+    let given = [&salt[..], &master];
+    let (answer, filled) = lend(random, &given, from_ref(&siblings), |inputs, mut out| {
+        seeds::open(j, n, p, inputs[0], inputs[1], out[0])
+    });
     let mut expected = siblings;
-    let plain = seeds::open(j, n, p, &master, &mut expected);
+    let plain = seeds::open(j, n, p, &salt, &master, &mut expected);
     assert_eq!(answer, plain.map_err(|refusal| refusal.number()));
     assert_eq!(filled[0], expected);
     answer
@@ -446,18 +449,20 @@ fn open(random: &mut Random) -> Result<(), u32> {
 
 fn masters(random: &mut Random) -> Result<(), u32> {
     let m = random.pick(&[2, 3, 5, 8, 64, 343, 511, 512, 1, 513]);
-    let (len, out_len) = (near(random, 16), near(random, 16 * m as usize));
+    let lens = [near(random, 32), near(random, 16)];
+    let [salt, root] = lens.map(|len| random.bytes(len));
     let call = Masters {
         m,
-        root: random.bytes(len),
-        out_len,
+        salt,
+        root,
+        out_len: near(random, 16 * m as usize),
     };
     let out = random.bytes(call.out_len);
-    let (answer, filled) = lend(random, &[&call.root], from_ref(&out), |inputs, mut out| {
-        call.with(inputs[0], out[0])
+    let (answer, filled) = lend(random, &call.inputs(), from_ref(&out), |inputs, mut out| {
+        call.with(inputs.try_into().expect("two inputs"), out[0])
     });
     let mut expected = out;
-    let plain = call.with(&call.root, &mut expected);
+    let plain = call.with(call.inputs(), &mut expected);
     assert_eq!(answer, plain.map_err(|refusal| refusal.number()));
     assert_eq!(filled[0], expected);
     answer
@@ -468,8 +473,9 @@ fn cover(random: &mut Random) -> Result<(), u32> {
     let m = random.pick(&[2, 3, 5, 8, 64, 343, 511, 512]);
     let count = random.pick(&[1, 1, 2, m / 2, m, 2 * m, 3 * m]).max(1);
     let leaves: Vec<usize> = (0..count).map(|_| random.below(m)).collect();
-    let len = near(random, 16);
-    let mut call = Cover::of(m, &leaves, &random.bytes(len));
+    let lens = [near(random, 32), near(random, 16)];
+    let [salt, root] = lens.map(|len| random.bytes(len));
+    let mut call = Cover::of(m, &leaves, &salt, &root);
     call.out_len = near(random, call.out_len);
     match random.below(12) {
         0 => call.m = random.pick(&[0, 1, 513, 65_536 + 5]),
@@ -497,6 +503,7 @@ fn challenge(random: &mut Random) -> Result<(), u32> {
     let lens = [
         near(random, 32),
         near(random, 32),
+        near(random, 32),
         random.pick(&[1, 1, 3, 17, 32, 32, 0, 33]),
         random.pick(&[0, 1, 100, 4096, 4097]),
         near(random, 3 * tau as usize),
@@ -504,7 +511,7 @@ fn challenge(random: &mut Random) -> Result<(), u32> {
     let call = Challenge::of_lengths(random, [m, tau, n], lens);
     let out = random.bytes(call.out_len);
     let (answer, filled) = lend(random, &call.inputs(), from_ref(&out), |inputs, mut out| {
-        call.with(inputs.try_into().expect("four inputs"), out[0])
+        call.with(inputs.try_into().expect("five inputs"), out[0])
     });
     let mut expected = out;
     let plain = call.with(call.inputs(), &mut expected);
@@ -586,18 +593,19 @@ fn empty_buffers_are_not_touched() {
             circuit::from_bristol(inputs[0], out[0]).map(|_| ())
         });
         assert_eq!(answer, Err(22));
-        let (answer, _) = lend(&mut random, &[&[]], &[vec![]], |inputs, mut out| {
-            seeds::masters(2, inputs[0], out[0])
+        let (answer, _) = lend(&mut random, &[&[], &[]], &[vec![]], |inputs, mut out| {
+            seeds::masters(2, inputs[0], inputs[1], out[0])
         });
         assert_eq!(answer, Err(6));
-        let (answer, _) = lend(&mut random, &[&[], &[]], &[vec![]], |inputs, mut out| {
-            seeds::cover(2, inputs[0], inputs[1], out[0])
+        let nothing: [&[u8]; 3] = [&[]; 3];
+        let (answer, _) = lend(&mut random, &nothing, &[vec![]], |inputs, mut out| {
+            seeds::cover(2, inputs[0], inputs[1], inputs[2], out[0])
         });
         assert_eq!(answer, Err(9));
         // All leaves are hidden: nothing is written.
-        let (all, root) = (&[0, 0, 1, 0], &[7; 16]);
-        let (answer, _) = lend(&mut random, &[all, root], &[vec![]], |inputs, mut out| {
-            seeds::cover(2, inputs[0], inputs[1], out[0])
+        let given: [&[u8]; 3] = [&[0, 0, 1, 0], &[9; 32], &[7; 16]];
+        let (answer, _) = lend(&mut random, &given, &[vec![]], |inputs, mut out| {
+            seeds::cover(2, inputs[0], inputs[1], inputs[2], out[0])
         });
         assert_eq!(answer, Ok(()));
         let text = b"0 1\n1 1\n1 1\n";

@@ -14,7 +14,7 @@ const BUDGET: usize = 500;
 /// What a call of prove is lent.
 struct Asked {
     setting: Setting,
-    parts: [Vec<u8>; 5],
+    parts: [Vec<u8>; 6],
     counts: [u32; 3],
     room: usize,
     work_len: usize,
@@ -25,6 +25,7 @@ const WITNESS: usize = 1;
 const Y: usize = 2;
 const MESSAGE: usize = 3;
 const ROOT: usize = 4;
+const SALT: usize = 5;
 
 impl Asked {
     fn any(random: &mut Random) -> Asked {
@@ -38,6 +39,7 @@ impl Asked {
             setting.y(),
             random.bytes(message_len),
             random.bytes(16),
+            random.bytes(32),
         ];
         let room = reference::proof::longest(setting.sizes, reference_counts(counts));
         Asked {
@@ -57,7 +59,7 @@ impl Asked {
             2 => self.room -= 1,
             3 => self.parts[MESSAGE] = vec![0; 4097],
             _ => {
-                let part = random.pick(&[WITNESS, Y, ROOT]);
+                let part = random.pick(&[WITNESS, Y, ROOT, SALT]);
                 damage_bytes(random, &mut self.parts[part]);
             }
         }
@@ -76,12 +78,12 @@ impl Asked {
                 let [m, tau, n] = self.counts;
                 let counts = wivulameno::proof::Counts { m, tau, n };
                 let statement = statement(inputs[CIRCUIT], inputs[Y], inputs[MESSAGE]);
-                let [witness, root] = [inputs[WITNESS], inputs[ROOT]];
+                let [witness, root, salt] = [WITNESS, ROOT, SALT].map(|part| inputs[part]);
                 // SAFETY: these are eight bytes, and aligned.
                 let written = unsafe { &mut *written };
                 let work = &mut Work::lent(work);
                 wivulameno::proof::prove_into(
-                    statement, witness, root, counts, proof, written, work,
+                    statement, witness, root, salt, counts, proof, written, work,
                 )
             });
         answer?;
@@ -92,15 +94,15 @@ impl Asked {
 
     fn by_reference(&self) -> Result<Vec<u8>, u32> {
         let mut proof = vec![0; self.room];
-        let [circuit, witness, y, message, root] = &self.parts;
+        let [circuit, witness, y, message, root, salt] = &self.parts;
         let statement = reference::proof::Statement {
             circuit,
             y,
             message,
         };
         let counts = reference_counts(self.counts);
-        let work = &mut vec![0; self.work_len];
-        let len = reference::proof::prove(statement, witness, root, counts, &mut proof, work)?;
+        let (out, work) = (&mut proof, &mut vec![0; self.work_len]);
+        let len = reference::proof::prove(statement, witness, root, salt, counts, out, work)?;
         proof.truncate(len);
         Ok(proof)
     }
@@ -138,7 +140,7 @@ fn damage_bytes(random: &mut Random, bytes: &mut Vec<u8>) {
 
 #[test]
 fn proofs() {
-    let mut random = Random::new(0x6b1);
+    let mut random = Random::new(0x6b3);
     let mut outcomes = Outcomes::default();
     for _ in 0..BUDGET {
         let mut asked = Asked::any(&mut random);
@@ -159,7 +161,7 @@ fn checks() {
     for _ in 0..BUDGET {
         let asked = Asked::any(&mut random);
         let mut proof = asked.prove(&mut random).expect("no refusal");
-        let [mut circuit, _, mut y, mut message, _] = asked.parts;
+        let [mut circuit, _, mut y, mut message, ..] = asked.parts;
         match random.below(9) {
             0 => circuit = damaged(&mut random, &asked.setting.file, &asked.setting.slots),
             1 => damage_bytes(&mut random, &mut y),

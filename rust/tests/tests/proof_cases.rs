@@ -6,6 +6,7 @@ use reference::circuit::Sizes;
 use tests::calls::NOT_A_COUNT;
 use tests::circuits::{faults_of_five, FIVE, K};
 use tests::proofs::{compare_check, compare_prove, cover_place, longest, places, Check, Prove};
+use tests::proofs::{HEADER, SALT};
 use tests::random::Random;
 
 const FIVE_SIZES: Sizes = Sizes {
@@ -22,7 +23,7 @@ const Y: u8 = 0b111;
 /// M is 6, tau 3 and n 4; the room that is asked for has 16 bytes of an opened node for
 /// each of the 3 instances that are not chosen.
 const COUNTS: [u32; 3] = [6, 3, 4];
-const LONGEST: usize = 38 + 48 * 3 + 3 * (16 * 2 + 1 + 32 + 1 + 1);
+const LONGEST: usize = 70 + 48 * 3 + 3 * (16 * 2 + 1 + 32 + 1 + 1);
 
 /// The least work buffer for `FIVE`, which has 5 inputs and 5 gates.
 const WORK: usize = 64 * 10 + 4096;
@@ -34,8 +35,9 @@ fn prove_k(root: [u8; 16]) -> Prove {
         y: vec![1],
         message: vec![],
         root: root.to_vec(),
+        salt: vec![9; 32],
         counts: [4, 1, 2],
-        proof_len: 233,
+        proof_len: 265,
         work_len: 64 * 3 + 4096,
     }
 }
@@ -47,6 +49,7 @@ fn prove_five() -> Prove {
         y: vec![Y],
         message: b"message".to_vec(),
         root: vec![7; 16],
+        salt: vec![9; 32],
         counts: COUNTS,
         proof_len: LONGEST,
         work_len: WORK,
@@ -81,7 +84,7 @@ fn checked(name: &str, call: &Check, expected: Result<(), u32>) {
     assert_eq!(answer, expected, "{name}: {}", call.shown());
 }
 
-/// 217 bytes if party 0 is hidden, 216 if party 1 is; the room is 233 all the same.
+/// 249 bytes if party 0 is hidden, 248 if party 1 is; the room is 265 all the same.
 #[test]
 fn m10() {
     let mut times = [0; 2];
@@ -98,14 +101,18 @@ fn m10() {
         let [p] = hidden[..] else {
             panic!("one chosen instance");
         };
-        assert_eq!(proof.len(), [217, 216][usize::from(p)], "root {root}");
-        assert_eq!(cover_place(&check), 38..70, "two opened nodes, root {root}");
+        assert_eq!(proof.len(), [249, 248][usize::from(p)], "root {root}");
+        assert_eq!(
+            cover_place(&check),
+            70..102,
+            "two opened nodes, root {root}"
+        );
         times[usize::from(p)] += 1;
     }
     assert!(times.iter().all(|&times| times > 4), "{times:?}");
 }
 
-/// The first bytes are M, tau, n and 0.
+/// The first bytes are M, tau, n and 0; the last of the header are the salt.
 #[test]
 fn the_header() {
     for (counts, expected) in [
@@ -118,6 +125,7 @@ fn the_header() {
         call.proof_len = longest(FIVE_SIZES, counts);
         let proof = compare_prove(&mut Random::new(1), &call).expect("proved");
         assert_eq!(proof[..6], expected);
+        assert_eq!(proof[SALT], [9; 32]);
         checked("header", &call.check(&proof), Ok(()));
     }
 }
@@ -204,7 +212,25 @@ fn lengths_of_prove() {
         };
         proved("root", &call, Err(6));
     }
-    for proof_len in [0, 1, 37, 38, 39, LONGEST - 48, LONGEST - 1] {
+    for len in [0, 1, 16, 31, 33, 64, 256 + 32] {
+        let salt = vec![9; len];
+        let call = Prove {
+            salt,
+            ..good.clone()
+        };
+        proved("salt", &call, Err(6));
+    }
+    for proof_len in [
+        0,
+        1,
+        38,
+        69,
+        70,
+        71,
+        LONGEST - 48,
+        LONGEST - 32,
+        LONGEST - 1,
+    ] {
         let call = Prove {
             proof_len,
             ..good.clone()
@@ -286,6 +312,9 @@ fn faults_of_prove() -> Vec<Vec<Fault<Prove>>> {
             in_prove(6, |call| call.y.push(0xff)),
             in_prove(6, |call| call.message = vec![0; 4097]),
             in_prove(6, |call| call.root.push(7)),
+            in_prove(6, |call| call.salt.clear()),
+            in_prove(6, |call| call.salt.truncate(31)),
+            in_prove(6, |call| call.salt.push(9)),
             in_prove(6, |call| call.proof_len = LONGEST - 1),
         ],
         vec![
@@ -329,10 +358,10 @@ fn faults_of_check() -> Vec<Vec<Fault<Check>>> {
     faults.push(vec![
         in_check(12, |call| call.proof.push(0)),
         in_check(12, |call| call.proof.truncate(call.proof.len() - 1)),
-        in_check(12, |call| call.proof.truncate(38)),
-        in_check(12, |call| call.proof.truncate(38 + 16)),
-        in_check(12, |call| drop(call.proof.drain(38..54))),
-        in_check(12, |call| drop(call.proof.splice(38..38, [7; 16]))),
+        in_check(12, |call| call.proof.truncate(HEADER)),
+        in_check(12, |call| call.proof.truncate(HEADER + 16)),
+        in_check(12, |call| drop(call.proof.drain(HEADER..HEADER + 16))),
+        in_check(12, |call| drop(call.proof.splice(HEADER..HEADER, [7; 16]))),
     ]);
     faults.extend(faults_of_stretches());
     faults
@@ -340,7 +369,8 @@ fn faults_of_check() -> Vec<Vec<Fault<Check>>> {
 
 fn faults_of_the_header() -> Vec<Fault<Check>> {
     let mut faults = vec![
-        in_check(11, |call| call.proof.truncate(37)),
+        in_check(11, |call| call.proof.truncate(69)),
+        in_check(11, |call| call.proof.truncate(38)),
         in_check(11, |call| call.proof.clear()),
     ];
     for (place, byte) in [(0, 1), (1, 3), (2, 0), (2, 6), (4, 3), (5, 1)] {
@@ -370,8 +400,8 @@ fn faults_of_stretches() -> [Vec<Fault<Check>>; 3] {
             turn(13, chosen + 33, 1),
             turn(13, not_chosen, 1),
             turn(13, not_chosen + 31, 1),
-            turn(13, 38, 1),
-            turn(13, 38 + 31, 0x80),
+            turn(13, HEADER, 1),
+            turn(13, HEADER + 31, 0x80),
         ],
     ]
 }

@@ -5,7 +5,7 @@
 use reference::masters::{hidden_among, opened_nodes};
 use tests::calls::{Setting, COUNTS};
 use tests::circuits::{any_slots, legal, File, AND, XOR};
-use tests::proofs::{compare_check, compare_prove, longest, Prove};
+use tests::proofs::{compare_check, compare_prove, longest, Prove, HEADER, H_STAR, SALT};
 use tests::random::Random;
 use tests::works;
 use wivulameno::circuit::sizes;
@@ -36,12 +36,14 @@ fn compare_lengths(call: &Prove, proof: &[u8]) {
     let [m, tau, n] = call.counts;
     let counts = Counts { m, tau, n };
     assert_eq!(Counts::of_proof(proof), Some(counts), "{}", call.shown());
+    assert_eq!(proof[SALT], call.salt, "{}", call.shown());
     let sizes = sizes(&call.circuit).expect("a legal circuit");
     let longest = longest_proof(sizes, counts);
     assert_eq!(longest, Some(call.proof_len), "{}", call.shown());
     let mut chosen = vec![0; 3 * tau as usize];
     let input = ChallengeInput {
-        h_star: &proof[6..38],
+        h_star: &proof[H_STAR],
+        salt: &proof[SALT],
         circuit_digest: &wivulameno::sha3_256(&call.circuit),
         y: &call.y,
         message: &call.message,
@@ -66,9 +68,9 @@ fn compare_opened(call: &Prove, chosen: &[u8], proof: &[u8]) -> u32 {
     let opened = opened_nodes(&hidden_among(m, &leaves)).len();
     let mut nodes = vec![0; 16 * opened];
     let numbers = numbers.collect::<Vec<_>>().concat();
-    let answer = cover(m as u32, &numbers, &call.root, &mut nodes);
+    let answer = cover(m as u32, &numbers, &call.salt, &call.root, &mut nodes);
     assert_eq!(answer, Ok(()), "{}", call.shown());
-    assert!(proof[38..].starts_with(&nodes), "{}", call.shown());
+    assert!(proof[HEADER..].starts_with(&nodes), "{}", call.shown());
     opened as u32
 }
 
@@ -134,12 +136,12 @@ fn any_settings() {
     }
 }
 
-/// Every length about the ends of the challenge's blocks of 136 bytes, of which 72
-/// and those of y come before the message, and both ends.
+/// Every length about the ends of the challenge's blocks of 136 bytes, of which 104
+/// and those of y, 1 or 2, come before the message, and both ends.
 #[test]
 fn message_lengths() {
     let mut random = Random::new(75);
-    let near_rate = (58..=66).chain(194..=202);
+    let near_rate = (26..=34).chain(162..=170);
     let ends = [0, 1, 2, 255, 256, 257, 2048, 4000, 4095, 4096];
     for message in near_rate.chain(ends) {
         for n in COUNTS {
@@ -149,9 +151,9 @@ fn message_lengths() {
     }
 }
 
-/// The message and the root each have their part in every proof.
+/// The message, the root and the salt each have their part in every proof.
 #[test]
-fn messages_and_roots_differ() {
+fn messages_roots_and_salts_differ() {
     let mut random = Random::new(76);
     let setting = a_small_setting(&mut random, 4);
     let call = Prove::of(&mut random, &setting, [9, 3], 20);
@@ -160,13 +162,39 @@ fn messages_and_roots_differ() {
         let mut other = call.clone();
         other.message[bit / 8] ^= 1 << (bit % 8);
         let other = compare_prove(&mut random, &other).expect("proved");
-        assert!(other[..38] == proof[..38] && other != proof, "bit {bit}");
+        assert!(
+            other[..HEADER] == proof[..HEADER] && other != proof,
+            "bit {bit}"
+        );
     }
     for bit in 0..128 {
         let mut other = call.clone();
         other.root[bit / 8] ^= 1 << (bit % 8);
         let other = compare_prove(&mut random, &other).expect("proved");
-        assert!(other[6..38] != proof[6..38], "bit {bit}");
+        assert!(other[H_STAR] != proof[H_STAR], "bit {bit}");
+    }
+    for bit in 0..256 {
+        let mut other = call.clone();
+        other.salt[bit / 8] ^= 1 << (bit % 8);
+        let other = compare_prove(&mut random, &other).expect("proved");
+        assert!(other[H_STAR] != proof[H_STAR], "bit {bit}");
+    }
+}
+
+/// A salt of zeros, of ones, and one whose bytes are all others.
+#[test]
+fn any_salt_is_good() {
+    let mut random = Random::new(80);
+    for n in COUNTS {
+        let setting = a_small_setting(&mut random, n);
+        for salt in [[0; 32], [255; 32], std::array::from_fn(|k| k as u8)] {
+            let mut call = Prove::of(&mut random, &setting, [9, 3], 20);
+            call.salt = salt.to_vec();
+            let proof = compare_prove(&mut random, &call).expect("proved");
+            compare_lengths(&call, &proof);
+            let answer = compare_check(&mut random, &call.check(&proof));
+            assert_eq!(answer, Ok(()), "{}", call.shown());
+        }
     }
 }
 
@@ -250,6 +278,7 @@ fn an_example() {
         y: vec![0xff, 0xbb, 0xa0, 0x65, 0x01],
         message: b"order 17".to_vec(),
         root: random.bytes(16),
+        salt: random.bytes(32),
         counts,
         proof_len: longest(sizes, counts),
         work_len: works::least(circuit),
@@ -267,7 +296,7 @@ fn an_example() {
     let counts = Counts { m, tau, n };
     let mut again = vec![0; call.proof_len];
     let mut work = Work::for_circuit(circuit).expect("a circuit");
-    let root = &call.root;
-    let len = wivulameno::proof::prove(statement, witness, root, counts, &mut again, &mut work);
+    let (root, salt, out) = (&call.root, &call.salt, &mut again);
+    let len = wivulameno::proof::prove(statement, witness, root, salt, counts, out, &mut work);
     assert!(len == Ok(proof.len()) && again[..proof.len()] == proof);
 }

@@ -2,20 +2,21 @@
 //! chosen and no other, and a forged cover is refused with 12 or 13.
 
 use reference::masters::{opened_masters, opened_nodes, opened_values};
-use reference::proof::{h_star, instances, written, written_answers, Counts, Instance};
-use reference::seeds::{tree_leaves, Value};
+use reference::proof::{h_star, instances, written, written_answers, Counts, Header, Instance};
+use reference::seeds::{tree_leaves, Context, Salt, Value};
 use tests::calls::{Setting, COUNTS};
 use tests::outcomes::Outcomes;
-use tests::proofs::{compare_check, compare_prove, cover_place, places, Check, Prove};
+use tests::proofs::{compare_check, compare_prove, cover_place, places, Check, Prove, HEADER};
 use tests::random::Random;
 
 /// The j of the node rule in the masters' tree.
 const J: u16 = 65_535;
 
-/// A proof by both, with its root and the instances that it chooses.
+/// A proof by both, with its root, its salt and the instances that it chooses.
 struct Proved {
     setting: Setting,
     root: Value,
+    salt: Salt,
     check: Check,
     chosen: Vec<bool>,
 }
@@ -30,6 +31,7 @@ impl Proved {
         Proved {
             setting,
             root: call.root[..].try_into().expect("16 bytes"),
+            salt: call.salt[..].try_into().expect("32 bytes"),
             chosen: check.hidden().iter().map(Option::is_some).collect(),
             check,
         }
@@ -63,7 +65,8 @@ impl Proved {
     fn masters(&self) -> Vec<Value> {
         let m = self.chosen.len();
         let mut masters = vec![0; 16 * m];
-        let answer = wivulameno::seeds::masters(m as u32, &self.root, &mut masters);
+        let (salt, root) = (&self.salt, &self.root);
+        let answer = wivulameno::seeds::masters(m as u32, salt, root, &mut masters);
         answer.expect("no refusal");
         let values = masters.chunks(16);
         values.map(|value| value.try_into().unwrap()).collect()
@@ -84,13 +87,13 @@ const SOME: [[u32; 2]; 9] = [
 ];
 
 /// The values of all nodes, by their numbers from 1: those of nodes 2k and 2k + 1 are
-/// SHAKE128 of 2, 65,535, k and the value of k.
-fn all_nodes(root: Value, leaves: usize) -> Vec<Value> {
+/// SHAKE128 of 2, the salt, 65,535, k and the value of k.
+fn all_nodes(salt: Salt, root: Value, leaves: usize) -> Vec<Value> {
     let mut nodes = vec![[0; 16], root];
     for k in 1..leaves {
         let mut children = [0; 32];
         let (low, high) = ((k % 256) as u8, (k / 256) as u8);
-        let input = [&[2, 255, 255, low, high], &nodes[k][..]].concat();
+        let input = [&[2], &salt[..], &[255, 255, low, high], &nodes[k]].concat();
         wivulameno::shake128(&input, &mut children);
         nodes.extend(
             children
@@ -103,8 +106,9 @@ fn all_nodes(root: Value, leaves: usize) -> Vec<Value> {
 
 #[test]
 fn nodes_by_the_rule() {
-    let nodes = all_nodes([3; 16], 8);
-    assert_eq!(nodes[8..], tree_leaves(J, 8, [3; 16]));
+    let salt = [5; 32];
+    let nodes = all_nodes(salt, [3; 16], 8);
+    assert_eq!(nodes[8..], tree_leaves(Context { salt, j: J }, 8, [3; 16]));
 }
 
 /// Every master that is not chosen follows, no chosen one does; and neither a chosen
@@ -115,14 +119,14 @@ fn a_proof_gives_the_masters_that_are_not_chosen() {
     for n in COUNTS {
         for counts in SOME {
             let proved = Proved::of(&mut random, counts, n);
-            let opened = opened_masters(&proved.chosen, &proved.nodes());
+            let opened = opened_masters(&proved.chosen, proved.salt, &proved.nodes());
             let masters = proved.masters();
             for (j, &chosen) in proved.chosen.iter().enumerate() {
                 let expected = (!chosen).then_some(masters[j]);
                 assert_eq!(opened[j], expected, "{counts:?}, instance {j}");
             }
             let leaves = proved.chosen.len().next_power_of_two();
-            let all = all_nodes(proved.root, leaves);
+            let all = all_nodes(proved.salt, proved.root, leaves);
             let chosen = (0..).zip(&proved.chosen).filter(|(_, chosen)| **chosen);
             for (j, _) in chosen {
                 let mut node = leaves + j;
@@ -168,7 +172,7 @@ fn another_number_of_nodes() {
             let proved = Proved::of(&mut random, counts, n);
             let (nodes, numbers) = (proved.nodes(), opened_nodes(&proved.chosen));
             let leaves = proved.chosen.len().next_power_of_two();
-            let all = all_nodes(proved.root, leaves);
+            let all = all_nodes(proved.salt, proved.root, leaves);
             for place in 0..nodes.len() {
                 let mut refused = |change: &dyn Fn(&mut Vec<Value>)| {
                     let mut other = nodes.clone();
@@ -209,7 +213,7 @@ fn another_number_of_nodes_in_the_right_length() {
             let mut more = proved.with(&[&proved.nodes()[..], &[[0; 16]]].concat());
             more.proof.truncate(len);
             let mut moved = proved.check.clone();
-            moved.proof[38..end + 32].rotate_left(16);
+            moved.proof[HEADER..end + 32].rotate_left(16);
             for call in [less, more, moved] {
                 assert_eq!(call.proof.len(), len);
                 let refusal = compare_check(&mut random, &call).expect_err("forged");
@@ -220,8 +224,8 @@ fn another_number_of_nodes_in_the_right_length() {
     outcomes.expect(&[7, 10, 13], 20);
 }
 
-/// In the place of a node: each other node of the tree, the one of another root, and
-/// one with the bytes turned round.
+/// In the place of a node: each other node of the tree, the one of another root, the one
+/// of another salt, and one with the bytes turned round.
 #[test]
 fn another_node_in_its_place() {
     let mut random = Random::new(165);
@@ -230,13 +234,14 @@ fn another_node_in_its_place() {
             let proved = Proved::of(&mut random, counts, n);
             let (nodes, numbers) = (proved.nodes(), opened_nodes(&proved.chosen));
             let leaves = proved.chosen.len().next_power_of_two();
-            let all = all_nodes(proved.root, leaves);
-            let others = all_nodes([0x33; 16], leaves);
+            let all = all_nodes(proved.salt, proved.root, leaves);
+            let others = all_nodes(proved.salt, [0x33; 16], leaves);
+            let other_salt = all_nodes([0x33; 32], proved.root, leaves);
             for (place, &k) in numbers.iter().enumerate() {
                 assert_eq!(nodes[place], all[k]);
                 let same_tree = (1..2 * leaves).filter(|&node| node != k);
                 let mut values: Vec<Value> = same_tree.map(|node| all[node]).collect();
-                values.push(others[k]);
+                values.extend([others[k], other_salt[k]]);
                 let mut turned = all[k];
                 turned.reverse();
                 values.push(turned);
@@ -251,7 +256,7 @@ fn another_node_in_its_place() {
     }
 }
 
-fn made(proved: &Proved, root: Value) -> (Vec<Instance>, Counts) {
+fn made(proved: &Proved, salt: Salt, root: Value) -> (Vec<Instance>, Counts) {
     let Setting {
         circuit, witness, ..
     } = &proved.setting;
@@ -260,7 +265,7 @@ fn made(proved: &Proved, root: Value) -> (Vec<Instance>, Counts) {
         tau: proved.chosen.iter().filter(|chosen| **chosen).count() as u32,
         n: proved.setting.n,
     };
-    (instances(circuit, witness, root, counts), counts)
+    (instances(circuit, witness, root, salt, counts), counts)
 }
 
 /// The cover of other hidden leaves, of each set of as many as are chosen: accepted only
@@ -276,7 +281,7 @@ fn the_cover_of_another_set() {
             if set.count_ones() != 2 {
                 continue;
             }
-            let cover = opened_values(&hidden, proved.root);
+            let cover = opened_values(&hidden, proved.salt, proved.root);
             let answer = compare_check(&mut random, &proved.with(&cover));
             let expected = match cover.len() == proved.nodes().len() {
                 _ if hidden == proved.chosen => Ok(()),
@@ -290,6 +295,40 @@ fn the_cover_of_another_set() {
     }
 }
 
+/// Instances of a proof of which some are those of another salt or another root, and which
+/// ones these are.
+fn mixed(random: &mut Random, proved: &Proved, other: (Salt, Value)) -> (Vec<Instance>, Vec<bool>) {
+    let (mut mixed, _) = made(proved, proved.salt, proved.root);
+    let (others, _) = made(proved, other.0, other.1);
+    let mut is_other = vec![false; mixed.len()];
+    for (j, other) in others.into_iter().enumerate() {
+        if random.once_in(3) {
+            mixed[j] = other;
+            is_other[j] = true;
+        }
+    }
+    (mixed, is_other)
+}
+
+/// The check of the file that these instances lead to under the proof's salt.
+fn forged(proved: &Proved, instances: &[Instance]) -> Check {
+    let (_, counts) = made(proved, proved.salt, proved.root);
+    let header = Header::of(instances, proved.salt, counts);
+    let statement = proved.check.statement();
+    let proof = written(proved.root, instances, statement, header);
+    Check {
+        proof,
+        ..proved.check.clone()
+    }
+}
+
+fn a_small_proof(random: &mut Random) -> Proved {
+    let n = random.pick(&COUNTS);
+    let m = random.from_to(2, 7);
+    let tau = random.from_to(1, m - 1);
+    Proved::of(random, [m as u32, tau as u32], n)
+}
+
 /// A prover with two roots: some instances, and their digests, are those of another
 /// tree. Accepted exactly where all of these are chosen.
 #[test]
@@ -297,33 +336,42 @@ fn masters_of_two_trees() {
     let mut random = Random::new(167);
     let mut outcomes = Outcomes::default();
     for _ in 0..300 {
-        let n = random.pick(&COUNTS);
-        let m = random.from_to(2, 7);
-        let tau = random.from_to(1, m - 1);
-        let proved = Proved::of(&mut random, [m as u32, tau as u32], n);
-        let (mut forged, counts) = made(&proved, proved.root);
-        let (others, _) = made(&proved, [0x33; 16]);
-        let mut is_other = vec![false; m];
-        for (j, other) in others.into_iter().enumerate() {
-            if random.once_in(3) {
-                forged[j] = other;
-                is_other[j] = true;
-            }
-        }
-        let statement = proved.check.statement();
-        let proof = written(proved.root, &forged, statement, counts, h_star(&forged));
-        let call = Check {
-            proof,
-            ..proved.check.clone()
-        };
+        let proved = a_small_proof(&mut random);
+        let other = (proved.salt, [0x33; 16]);
+        let (instances, is_other) = mixed(&mut random, &proved, other);
+        let call = forged(&proved, &instances);
         let mut hidden = call.hidden().into_iter().zip(is_other);
         let met = hidden.any(|(hidden, is_other)| is_other && hidden.is_none());
         let expected = if met { Err(13) } else { Ok(()) };
         let answer = compare_check(&mut random, &call);
-        assert_eq!(answer, expected, "{counts:?}");
+        assert_eq!(answer, expected, "{}", call.shown());
         outcomes.add_answer(&answer);
     }
     outcomes.expect(&[0, 13], 50);
+}
+
+/// A prover with two salts: some instances are made with another one than the header's.
+/// Refused wherever there is such an instance, chosen or not.
+#[test]
+fn instances_of_two_salts() {
+    let mut random = Random::new(160);
+    let mut outcomes = Outcomes::default();
+    for _ in 0..300 {
+        let proved = a_small_proof(&mut random);
+        let mut salt = proved.salt;
+        salt[random.below(32)] ^= 1 << random.below(8);
+        let (instances, is_other) = mixed(&mut random, &proved, (salt, proved.root));
+        let call = forged(&proved, &instances);
+        let answer = compare_check(&mut random, &call);
+        let shown = call.shown();
+        assert_eq!(answer.is_err(), is_other.contains(&true), "{shown}");
+        assert!(
+            matches!(answer, Ok(()) | Err(10 | 13)),
+            "{answer:?}, {shown}"
+        );
+        outcomes.add_answer(&answer);
+    }
+    outcomes.expect(&[0, 10, 13], 30);
 }
 
 /// The layout with a master in each stretch that is not chosen, and no nodes: the master
@@ -336,7 +384,7 @@ fn masters_in_the_stretches() {
     for n in COUNTS {
         for counts in SOME {
             let proved = Proved::of(&mut random, counts, n);
-            let mut proof = proved.check.proof[..38].to_vec();
+            let mut proof = proved.check.proof[..HEADER].to_vec();
             let masters = proved.masters();
             let places = places(proved.setting.sizes, &proved.check);
             for (master, (hidden, start, len)) in masters.iter().zip(places) {
@@ -372,15 +420,17 @@ fn the_layout() {
     for n in COUNTS {
         for counts in SOME {
             let proved = Proved::of(&mut random, counts, n);
-            let (made, counts) = made(&proved, proved.root);
+            let (made, counts) = made(&proved, proved.salt, proved.root);
             let mut file = vec![counts.m as u8, 0, counts.tau as u8, 0, n as u8, 0];
             file.extend(h_star(&made));
+            file.extend(proved.salt);
             for k in opened_nodes(&proved.chosen) {
                 let leaves = proved.chosen.len().next_power_of_two();
-                file.extend(all_nodes(proved.root, leaves)[k]);
+                file.extend(all_nodes(proved.salt, proved.root, leaves)[k]);
             }
             let hidden = proved.check.hidden();
-            let answers = written_answers(proved.root, &made, counts, h_star(&made), &hidden);
+            let header = Header::of(&made, proved.salt, counts);
+            let answers = written_answers(proved.root, &made, header, &hidden);
             let places = places(proved.setting.sizes, &proved.check);
             for (hidden, start, len) in places {
                 assert_eq!(start, file.len());

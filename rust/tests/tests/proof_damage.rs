@@ -7,6 +7,7 @@ use tests::calls::{Setting, COUNTS, NOT_A_COUNT};
 use tests::circuits::damaged;
 use tests::outcomes::Outcomes;
 use tests::proofs::{compare_check, compare_prove, cover_place, places, Check, Prove};
+use tests::proofs::{HEADER, SALT};
 use tests::random::Random;
 
 const CIRCUITS: usize = 2_000;
@@ -89,7 +90,7 @@ fn allowed(proved: &Proved, bit: usize) -> &'static [u32] {
     match bit / 8 {
         0..5 => return &[7, 10, 11, 12, 13],
         5 => return &[11],
-        6..38 => return &[7, 10, 12, 13],
+        6..HEADER => return &[7, 10, 12, 13],
         byte if cover_place(&proved.call).contains(&byte) => return &[13],
         _ => {}
     }
@@ -155,7 +156,7 @@ fn every_cut() {
     for proved in small_proofs(&mut random) {
         for len in 0..proved.call.proof.len() {
             let call = proved.with(proved.call.proof[..len].to_vec());
-            let expected = if len < 38 { 11 } else { 12 };
+            let expected = if len < HEADER { 11 } else { 12 };
             assert_eq!(compare_check(&mut random, &call), Err(expected), "{len}");
         }
     }
@@ -229,7 +230,7 @@ fn stretches_of_another_proof() {
             assert!(compare_check(&mut random, &call).is_err(), "instance {j}");
         }
         let mut call = one.clone();
-        call.proof[..38].copy_from_slice(&other.proof[..38]);
+        call.proof[..HEADER].copy_from_slice(&other.proof[..HEADER]);
         assert!(compare_check(&mut random, &call).is_err(), "header");
         for node in cover_place(&one).step_by(16) {
             let mut call = one.clone();
@@ -237,6 +238,47 @@ fn stretches_of_another_proof() {
             let answer = compare_check(&mut random, &call);
             assert_eq!(answer, Err(13), "a node at {node}");
         }
+    }
+}
+
+/// Another salt has another challenge, and other nodes, seeds and tapes: 12 where the
+/// challenge asks for another length, and for a large proof it does.
+#[test]
+fn another_salt() {
+    let mut random = Random::new(94);
+    let mut outcomes = Outcomes::default();
+    let mut proofs = small_proofs(&mut random);
+    proofs.extend(large_proofs(&mut random));
+    for proved in proofs {
+        let mut others: Vec<[u8; 32]> = vec![[0; 32], [255; 32]];
+        for bit in 0..256 {
+            let mut salt: [u8; 32] = proved.call.proof[SALT].try_into().expect("32 bytes");
+            salt[bit / 8] ^= 1 << (bit % 8);
+            others.push(salt);
+        }
+        for salt in others {
+            let mut call = proved.call.clone();
+            call.proof[SALT].copy_from_slice(&salt);
+            let refusal = compare_check(&mut random, &call).expect_err("another salt");
+            assert!([7, 10, 12, 13].contains(&refusal), "{refusal}, {salt:?}");
+            outcomes.add(refusal);
+        }
+    }
+    outcomes.expect(&[7, 10, 12, 13], 20);
+}
+
+/// h* and salt exchanged.
+#[test]
+fn exchanged_in_the_header() {
+    let mut random = Random::new(95);
+    for proved in large_proofs(&mut random) {
+        let mut call = proved.call.clone();
+        call.proof[6..HEADER].rotate_left(32);
+        assert!(
+            compare_check(&mut random, &call).is_err(),
+            "{}",
+            call.shown()
+        );
     }
 }
 
@@ -394,7 +436,7 @@ fn any_bytes() {
     for proved in small_proofs(&mut random) {
         for _ in 0..100 {
             let mut proof = proved.call.proof.clone();
-            let from = random.pick(&[0, 6, 38, 38]);
+            let from = random.pick(&[0, 6, SALT.start, HEADER]);
             random.fill(&mut proof[from..]);
             let answer = compare_check(&mut random, &proved.with(proof));
             assert!(answer.is_err(), "from {from}");
@@ -421,7 +463,8 @@ fn flip(random: &mut Random, bytes: &mut [u8]) {
 
 /// Changes one thing that prove is lent. The call may be good nevertheless.
 fn damage_prove(random: &mut Random, setting: &Setting, call: &mut Prove) {
-    match random.below(15) {
+    match random.below(16) {
+        15 => another_length(random, &mut call.salt),
         14 => call.work_len = random.pick(&[0, 1, call.work_len.saturating_sub(1)]),
         0 | 1 => call.circuit = damaged(random, &setting.file, &setting.slots),
         2 => call.counts[0] = random.pick(&[0, 1, 3, 513, 65_536 + 4, u32::MAX]),
@@ -446,7 +489,7 @@ fn damage_check(random: &mut Random, setting: &Setting, call: &mut Check) {
         3 => call.message = vec![1; random.pick(&[0, 4096, 4097, 65_536])],
         4 | 5 => flip(random, &mut call.y),
         6 => another_length(random, &mut call.proof),
-        7 => call.proof.truncate(random.below(60)),
+        7 => call.proof.truncate(random.below(HEADER + 20)),
         8 => {
             let header = call.proof.len().min(6);
             flip(random, &mut call.proof[..header]);

@@ -2,8 +2,8 @@
 //! those of what it made, so the check has to find each fault itself; a fault
 //! that the challenge does not meet is accepted, as it must be.
 
-use reference::proof::{h_star, instances, Counts, Instance, Statement};
-use reference::seeds::Value;
+use reference::proof::{instances, Counts, Header, Instance, Statement};
+use reference::seeds::{Salt, Value};
 use tests::calls::{any_bits, Setting, COUNTS};
 use tests::circuits::{File, Gate, AND};
 use tests::outcomes::Outcomes;
@@ -155,9 +155,13 @@ fn any_root(random: &mut Random) -> Value {
     random.bytes(16).try_into().expect("16 bytes")
 }
 
+/// The salt of every proof here.
+const SALT: Salt = [0x5a; 32];
+
 /// The proof file that these instances lead to.
 fn written(root: Value, instances: &[Instance], counts: Counts, statement: Statement) -> Vec<u8> {
-    reference::proof::written(root, instances, statement, counts, h_star(instances))
+    let header = Header::of(instances, SALT, counts);
+    reference::proof::written(root, instances, statement, header)
 }
 
 /// Each instance is good or has any fault.
@@ -170,8 +174,8 @@ fn any_faults() {
         let (counts, root) = (any_counts(&mut random), any_root(&mut random));
         let n = counts.n;
         let faults: Vec<Fault> = (0..counts.m).map(|_| any_fault(&mut random, n)).collect();
-        let good = instances(&circuit, &RIGHT, root, counts);
-        let others = instances(&circuit, &WRONG, root, counts);
+        let good = instances(&circuit, &RIGHT, root, SALT, counts);
+        let others = instances(&circuit, &WRONG, root, SALT, counts);
         let forged = good.into_iter().zip(others).zip(&faults);
         let forged: Vec<Instance> = forged
             .map(|((good, other), fault)| forge(*fault, n, good, other))
@@ -201,10 +205,11 @@ fn no_faults() {
     let mut random = Random::new(102);
     for n in COUNTS {
         let setting = Setting::of_sizes(&mut random, [9, 3, 12], n);
-        let call = Prove::of(&mut random, &setting, [7, 3], 5);
+        let mut call = Prove::of(&mut random, &setting, [7, 3], 5);
+        call.salt = SALT.to_vec();
         let counts = Counts { m: 7, tau: 3, n };
         let root: Value = call.root[..].try_into().expect("16 bytes");
-        let made = instances(&call.circuit, &call.witness, root, counts);
+        let made = instances(&call.circuit, &call.witness, root, SALT, counts);
         let proof = written(root, &made, counts, call.statement());
         assert!(Ok(&proof) == call.by_reference().as_ref(), "n {n}");
     }
@@ -239,7 +244,7 @@ fn guessed_parties() {
         let (setting, other) = two_outputs(&mut random, counts.n);
         let call = Prove::of(&mut random, &setting, [counts.m, counts.tau], 5);
         let root = any_root(&mut random);
-        let mut made = instances(&call.circuit, &other, root, counts);
+        let mut made = instances(&call.circuit, &other, root, SALT, counts);
         let guesses: Vec<usize> = made.iter().map(|_| random.below(n)).collect();
         let turned = turned_outputs(&setting, &other);
         for (instance, guess) in made.iter_mut().zip(&guesses) {
@@ -288,7 +293,7 @@ fn repeated_broadcasts() {
         let setting = Setting::of_sizes(&mut random, [20, 1, 90], counts.n);
         let call = Prove::of(&mut random, &setting, [counts.m, counts.tau], 5);
         let root = any_root(&mut random);
-        let mut made = instances(&call.circuit, &call.witness, root, counts);
+        let mut made = instances(&call.circuit, &call.witness, root, SALT, counts);
         let (inputs, rows) = (made[0].masked_inputs.clone(), made[0].rows.clone());
         for instance in &mut made {
             instance.masked_inputs.clone_from(&inputs);
@@ -314,13 +319,39 @@ fn another_h_star() {
         let call = Prove::of(&mut random, &setting, [5, 2], 5);
         let counts = Counts { m: 5, tau: 2, n };
         let root = any_root(&mut random);
-        let made = instances(&call.circuit, &call.witness, root, counts);
+        let made = instances(&call.circuit, &call.witness, root, SALT, counts);
         for bit in 0..256 {
-            let mut turned = h_star(&made);
-            turned[bit / 8] ^= 1 << (bit % 8);
-            let proof = reference::proof::written(root, &made, call.statement(), counts, turned);
+            let mut header = Header::of(&made, SALT, counts);
+            header.h_star[bit / 8] ^= 1 << (bit % 8);
+            let proof = reference::proof::written(root, &made, call.statement(), header);
             let answer = compare_check(&mut random, &call.check(&proof));
             assert_eq!(answer, Err(13), "n {n}, bit {bit}");
         }
     }
+}
+
+/// Honest instances under a salt with one bit turned, and what the challenge of that
+/// salt asks for: the nodes and the openings are those of the other salt, all digests
+/// those of the first. Each chosen instance has the tapes of another salt than its rows.
+#[test]
+fn another_salt() {
+    let mut random = Random::new(106);
+    let mut outcomes = Outcomes::default();
+    for n in COUNTS {
+        let setting = Setting::of_sizes(&mut random, [9, 3, 12], n);
+        let call = Prove::of(&mut random, &setting, [5, 2], 5);
+        let counts = Counts { m: 5, tau: 2, n };
+        let root = any_root(&mut random);
+        let made = instances(&call.circuit, &call.witness, root, SALT, counts);
+        for bit in 0..256 {
+            let mut header = Header::of(&made, SALT, counts);
+            header.salt[bit / 8] ^= 1 << (bit % 8);
+            let proof = reference::proof::written(root, &made, call.statement(), header);
+            let refusal = compare_check(&mut random, &call.check(&proof));
+            let refusal = refusal.expect_err("another salt");
+            assert!([10, 13].contains(&refusal), "{refusal}, n {n}, bit {bit}");
+            outcomes.add(refusal);
+        }
+    }
+    outcomes.expect(&[10, 13], 20);
 }

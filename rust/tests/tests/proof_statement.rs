@@ -2,21 +2,23 @@
 //! that is offered under two circuits, two y, two messages and other counts.
 
 use reference::fips202::{sha3_256, shake256};
-use reference::proof::{asked, check_answers, cover_len, h_star, instances, stretch_len};
-use reference::proof::{written_answers, Counts, Instance};
+use reference::proof::{asked, check_answers, cover_len, instances, stretch_len};
+use reference::proof::{written_answers, Counts, Header, Instance};
 use reference::seeds::{drawn, Value};
 use tests::calls::{Setting, COUNTS};
 use tests::challenges::{compare_challenge, Challenge};
 use tests::outcomes::Outcomes;
-use tests::proofs::{compare_check, compare_prove, Check, Prove};
+use tests::proofs::{compare_check, compare_prove, Check, Prove, HEADER, H_STAR, SALT};
 use tests::random::Random;
 
-/// 6, h*, M 300, tau 2, n 4, the circuit's digest, y of three bytes, the length of
-/// the message, and the message.
-const INPUT: [u8; 78] = [
+/// 6, h*, the salt, M 300, tau 2, n 4, the circuit's digest, y of three bytes, the length
+/// of the message, and the message.
+const INPUT: [u8; 110] = [
     6, // the tag
     0xa0, 0xa1, 0xa2, 0xa3, 0xa4, 0xa5, 0xa6, 0xa7, 0xa8, 0xa9, 0xaa, 0xab, 0xac, 0xad, 0xae, 0xaf,
     0xb0, 0xb1, 0xb2, 0xb3, 0xb4, 0xb5, 0xb6, 0xb7, 0xb8, 0xb9, 0xba, 0xbb, 0xbc, 0xbd, 0xbe, 0xbf,
+    0x60, 0x61, 0x62, 0x63, 0x64, 0x65, 0x66, 0x67, 0x68, 0x69, 0x6a, 0x6b, 0x6c, 0x6d, 0x6e, 0x6f,
+    0x70, 0x71, 0x72, 0x73, 0x74, 0x75, 0x76, 0x77, 0x78, 0x79, 0x7a, 0x7b, 0x7c, 0x7d, 0x7e, 0x7f,
     44, 1, 2, 0, 4, // 300 is 1 * 256 + 44
     0x20, 0x21, 0x22, 0x23, 0x24, 0x25, 0x26, 0x27, 0x28, 0x29, 0x2a, 0x2b, 0x2c, 0x2d, 0x2e, 0x2f,
     0x30, 0x31, 0x32, 0x33, 0x34, 0x35, 0x36, 0x37, 0x38, 0x39, 0x3a, 0x3b, 0x3c, 0x3d, 0x3e, 0x3f,
@@ -25,16 +27,17 @@ const INPUT: [u8; 78] = [
 ];
 
 /// What Python's hashlib draws from this input.
-const KNOWN: [(u16, u8); 2] = [(235, 1), (241, 1)];
+const KNOWN: [(u16, u8); 2] = [(9, 1), (19, 2)];
 
 #[test]
 fn the_input_byte_by_byte() {
     let call = Challenge {
         counts: [300, 2, 4],
         h_star: INPUT[1..33].to_vec(),
-        circuit_digest: INPUT[38..70].to_vec(),
-        y: INPUT[70..73].to_vec(),
-        message: INPUT[75..].to_vec(),
+        salt: INPUT[33..65].to_vec(),
+        circuit_digest: INPUT[70..102].to_vec(),
+        y: INPUT[102..105].to_vec(),
+        message: INPUT[107..].to_vec(),
         out_len: 6,
     };
     let mut stream = [0; 18];
@@ -59,6 +62,7 @@ fn input(call: &Challenge) -> Vec<u8> {
     let u16_of = |number: u32| [(number % 256) as u8, (number / 256) as u8];
     let mut input = vec![6];
     input.extend(&call.h_star);
+    input.extend(&call.salt);
     input.extend([u16_of(m), u16_of(tau)].concat());
     input.push(n as u8);
     input.extend(&call.circuit_digest);
@@ -102,8 +106,9 @@ fn every_part_counts() {
         assert_ne!(other_out, out, "{}", other.shown());
     };
     type Part = fn(&mut Challenge) -> &mut Vec<u8>;
-    let parts: [Part; 4] = [
+    let parts: [Part; 5] = [
         |call| &mut call.h_star,
+        |call| &mut call.salt,
         |call| &mut call.circuit_digest,
         |call| &mut call.y,
         |call| &mut call.message,
@@ -119,6 +124,14 @@ fn every_part_counts() {
     other.message.insert(0, other.y[2]);
     other.y.truncate(2);
     is_another(&other);
+    // h*, the salt and the digest in another order.
+    for (a, b) in [(0, 1), (1, 2), (0, 2)] {
+        let mut other = call.clone();
+        let [first, second] = [a, b].map(|place| parts[place](&mut call.clone()).clone());
+        *parts[a](&mut other) = second;
+        *parts[b](&mut other) = first;
+        is_another(&other);
+    }
 }
 
 /// With the same h*, digest, y and message, other counts draw from another stream:
@@ -168,7 +181,8 @@ fn hidden(check: &Check) -> Vec<Option<u8>> {
         |place: usize| u32::from(check.proof[place]) + 256 * u32::from(check.proof[place + 1]);
     let call = Challenge {
         counts: [word(0), word(2), u32::from(check.proof[4])],
-        h_star: check.proof[6..38].to_vec(),
+        h_star: check.proof[H_STAR].to_vec(),
+        salt: check.proof[SALT].to_vec(),
         circuit_digest: sha3_256(&check.circuit).to_vec(),
         y: check.y.clone(),
         message: check.message.clone(),
@@ -182,7 +196,7 @@ fn len_of(check: &Check, hidden: &[Option<u8>]) -> usize {
     let sizes = reference::circuit::read(&check.circuit).expect("a legal circuit");
     let n = u32::from(check.proof[4]);
     let parts = hidden.iter().map(|&p| stretch_len(sizes, n, p));
-    38 + cover_len(hidden) + parts.sum::<usize>()
+    HEADER + cover_len(hidden) + parts.sum::<usize>()
 }
 
 /// The check of an honest proof under another statement: 12 exactly if the other
@@ -213,12 +227,14 @@ fn moved(setting: &Setting) -> Vec<u8> {
     setting.file.moved(&setting.slots, &places).bytes()
 }
 
-fn made(call: &Prove) -> (Value, Vec<Instance>, Counts) {
+fn made(call: &Prove) -> (Value, Vec<Instance>, Header) {
     let [m, tau, n] = call.counts;
     let counts = Counts { m, tau, n };
     let root = call.root[..].try_into().expect("16 bytes");
-    let made = instances(&call.circuit, &call.witness, root, counts);
-    (root, made, counts)
+    let salt = call.salt[..].try_into().expect("32 bytes");
+    let made = instances(&call.circuit, &call.witness, root, salt, counts);
+    let header = Header::of(&made, salt, counts);
+    (root, made, header)
 }
 
 /// With such a challenge, one file is a proof for both circuits.
@@ -228,10 +244,9 @@ fn without_the_statement_one_transcript_has_two_circuits() {
     for n in COUNTS {
         let setting = Setting::of_sizes(&mut random, [9, 3, 12], n);
         let call = Prove::of(&mut random, &setting, [20, 9], 9);
-        let (root, made, counts) = made(&call);
-        let h_star = h_star(&made);
-        let hidden = hidden_without_the_statement(counts, &h_star, &call.message);
-        let proof = written_answers(root, &made, counts, h_star, &hidden);
+        let (root, made, header) = made(&call);
+        let hidden = hidden_without_the_statement(header.counts, &header.h_star, &call.message);
+        let proof = written_answers(root, &made, header, &hidden);
         let other = moved(&setting);
         assert_ne!(other, call.circuit);
         for circuit in [&call.circuit, &other] {
@@ -294,7 +309,7 @@ fn one_transcript_under_two_circuits() {
 
 #[test]
 fn one_transcript_under_two_outputs() {
-    offer(&mut Random::new(116), Err(10), |setting, honest| {
+    offer(&mut Random::new(120), Err(10), |setting, honest| {
         let others = (0..setting.sizes.outputs).map(|output| {
             let mut other = honest.clone();
             other.y[output / 8] ^= 1 << (output % 8);
@@ -328,7 +343,7 @@ fn proofs_of_one_transcript() {
             let proof = compare_prove(&mut random, &call).expect("proved");
             call.check(&proof)
         });
-        assert_eq!(one.proof[..38], other.proof[..38], "n {n}");
+        assert_eq!(one.proof[..HEADER], other.proof[..HEADER], "n {n}");
         assert_ne!(hidden(&one), hidden(&other), "n {n}");
     }
 }

@@ -1,6 +1,6 @@
 //! The library and the reference give the same leaves, openings and challenges.
 
-use reference::seeds::{self, Value};
+use reference::seeds::{self, Context, Value};
 use tests::challenges::{compare_challenge, Challenge};
 use tests::guarded::Guarded;
 use tests::random::Random;
@@ -17,32 +17,37 @@ fn any_instance(random: &mut Random) -> u32 {
     }
 }
 
+/// A salt and a master.
+type Given<'a> = [&'a [u8]; 2];
+
 /// The library's leaves, after they were compared.
-fn compare_expand(random: &mut Random, j: u32, n: u32, master: &[u8]) -> Vec<u8> {
-    let master = Guarded::holding(random, master);
+fn compare_expand(random: &mut Random, j: u32, n: u32, given: Given) -> Vec<u8> {
+    let given = Guarded::holding_each(random, given);
+    let [salt, master] = given.each_ref().map(Guarded::get);
     let mut leaves = Guarded::new(random, 3, 16 * n as usize);
-    let ours = wivulameno::seeds::expand(j, n, master.get(), leaves.lent());
+    let ours = wivulameno::seeds::expand(j, n, salt, master, leaves.lent());
     assert_eq!(ours, Ok(()), "j {j}, n {n}");
 
     let mut expected = vec![0; 16 * n as usize];
-    seeds::expand(j, n, master.get(), &mut expected).expect("no refusal");
+    seeds::expand(j, n, salt, master, &mut expected).expect("no refusal");
     assert!(leaves.get() == expected, "leaves, j {j}, n {n}");
-    assert!(leaves.outside_unchanged() && master.unchanged());
+    assert!(leaves.outside_unchanged() && given.iter().all(Guarded::unchanged));
     leaves.get().to_vec()
 }
 
 /// The library's siblings, after they were compared.
-fn compare_open(random: &mut Random, j: u32, n: u32, p: u32, master: &[u8]) -> Vec<u8> {
-    let master = Guarded::holding(random, master);
+fn compare_open(random: &mut Random, j: u32, n: u32, p: u32, given: Given) -> Vec<u8> {
+    let given = Guarded::holding_each(random, given);
+    let [salt, master] = given.each_ref().map(Guarded::get);
     let len = 16 * n.ilog2() as usize;
     let mut siblings = Guarded::new(random, 6, len);
-    let ours = wivulameno::seeds::open(j, n, p, master.get(), siblings.lent());
+    let ours = wivulameno::seeds::open(j, n, p, salt, master, siblings.lent());
     assert_eq!(ours, Ok(()), "j {j}, n {n}, p {p}");
 
     let mut expected = vec![0; len];
-    seeds::open(j, n, p, master.get(), &mut expected).expect("no refusal");
+    seeds::open(j, n, p, salt, master, &mut expected).expect("no refusal");
     assert!(siblings.get() == expected, "siblings, j {j}, n {n}, p {p}");
-    assert!(siblings.outside_unchanged() && master.unchanged());
+    assert!(siblings.outside_unchanged() && given.iter().all(Guarded::unchanged));
     siblings.get().to_vec()
 }
 
@@ -60,11 +65,16 @@ fn trees_and_openings() {
     for n in COUNTS {
         for _ in 0..TREES {
             let j = any_instance(&mut random);
-            let master = random.bytes(16);
-            let leaves = values(&compare_expand(&mut random, j, n, &master));
+            let (salt, master) = (random.bytes(32), random.bytes(16));
+            let given: Given = [&salt, &master];
+            let context = Context {
+                salt: salt[..].try_into().expect("32 bytes"),
+                j: j as u16,
+            };
+            let leaves = values(&compare_expand(&mut random, j, n, given));
             for p in 0..n {
-                let siblings = values(&compare_open(&mut random, j, n, p, &master));
-                let opened = seeds::opened_leaves(j as u16, n as usize, p as usize, &siblings);
+                let siblings = values(&compare_open(&mut random, j, n, p, given));
+                let opened = seeds::opened_leaves(context, n as usize, p as usize, &siblings);
                 for (i, leaf) in opened.into_iter().enumerate() {
                     let expected = (i != p as usize).then_some(leaves[i]);
                     assert_eq!(leaf, expected, "n {n}, p {p}, leaf {i}");
@@ -78,10 +88,51 @@ fn trees_and_openings() {
 #[test]
 fn instances_differ() {
     let mut random = Random::new(52);
-    let first = compare_expand(&mut random, 0, 2, &[9; 16]);
+    let given: Given = [&[8; 32], &[9; 16]];
+    let first = compare_expand(&mut random, 0, 2, given);
     for bit in 0..16 {
-        let other = compare_expand(&mut random, 1 << bit, 2, &[9; 16]);
+        let other = compare_expand(&mut random, 1 << bit, 2, given);
         assert_ne!(first, other, "bit {bit}");
+    }
+}
+
+/// Every bit of the salt has its part in every leaf and in every sibling.
+#[test]
+fn salts_differ() {
+    let mut random = Random::new(57);
+    let (j, n, p) = (3, 16, 5);
+    let ask = |random: &mut Random, salt: &[u8]| {
+        let given: Given = [salt, &[9; 16]];
+        let leaves = compare_expand(random, j, n, given);
+        values(&[leaves, compare_open(random, j, n, p, given)].concat())
+    };
+    let zeros = [0; 32];
+    let first = ask(&mut random, &zeros);
+    for bit in 0..256 {
+        let mut salt = zeros;
+        salt[bit / 8] |= 1 << (bit % 8);
+        let other = ask(&mut random, &salt);
+        let mut pairs = first.iter().zip(&other);
+        assert!(pairs.all(|(one, other)| one != other), "bit {bit}");
+    }
+}
+
+/// The node rule byte by byte: the two children of node 1 are SHAKE128 of 2, the salt, j,
+/// 1 and the master.
+#[test]
+fn children_by_the_rule() {
+    let mut random = Random::new(58);
+    for j in [0, 1, 0x0102, 65_535] {
+        let (salt, master) = (random.bytes(32), random.bytes(16));
+        let [low, high] = (j as u16).to_le_bytes();
+        let input = [&[2], &salt[..], &[low, high, 1, 0], &master].concat();
+        let mut children = vec![0; 32];
+        wivulameno::shake128(&input, &mut children);
+        let given: Given = [&salt, &master];
+        assert_eq!(compare_expand(&mut random, j, 2, given), children, "{j}");
+        for (p, sibling) in [(0, &children[16..]), (1, &children[..16])] {
+            assert_eq!(compare_open(&mut random, j, 2, p, given), sibling, "{j}");
+        }
     }
 }
 
@@ -132,12 +183,15 @@ fn challenges_for_every_tau() {
 }
 
 /// Both ends, and every length about the ends of the blocks of 136 bytes, of which
-/// 72 and those of y come before the message.
+/// 104 and those of y come before the message.
 #[test]
 fn challenges_for_message_lengths() {
     let mut random = Random::new(55);
     for y in [1, 2, 17, 32] {
-        let near_rate = [136, 272].map(|rate| (rate - 72 - y - 3)..=(rate - 72 - y + 3));
+        let near_rate = [136, 272].map(|rate: usize| {
+            let before = rate - 104;
+            before.saturating_sub(y + 3)..=(before + 3).saturating_sub(y)
+        });
         for message in MESSAGES.into_iter().chain(near_rate.into_iter().flatten()) {
             for n in COUNTS {
                 compare(&mut random, [40, 11, n], y, message);

@@ -3,7 +3,7 @@
 //! found in the stack or in a lent buffer.
 
 use reference::proof::{asked, instances, Instance, Statement as Second};
-use reference::seeds::tree_leaves;
+use reference::seeds::{tree_leaves, Salt};
 use std::collections::HashSet;
 use std::hint::black_box;
 use tests::calls::{Call, Setting};
@@ -88,6 +88,8 @@ mod c {
             message_len: usize,
             root: In,
             root_len: usize,
+            salt: In,
+            salt_len: usize,
             m: u32,
             tau: u32,
             n: u32,
@@ -97,21 +99,42 @@ mod c {
             work: Out,
             work_len: usize,
         ) -> u32;
-        pub fn wv_expand(j: u32, n: u32, m: In, m_len: usize, out: Out, out_len: usize) -> u32;
-        pub fn wv_open(
+        pub fn wv_expand(
             j: u32,
             n: u32,
-            p: u32,
+            salt: In,
+            salt_len: usize,
             m: In,
             m_len: usize,
             out: Out,
             out_len: usize,
         ) -> u32;
-        pub fn wv_masters(m: u32, root: In, root_len: usize, out: Out, out_len: usize) -> u32;
+        pub fn wv_open(
+            j: u32,
+            n: u32,
+            p: u32,
+            salt: In,
+            salt_len: usize,
+            m: In,
+            m_len: usize,
+            out: Out,
+            out_len: usize,
+        ) -> u32;
+        pub fn wv_masters(
+            m: u32,
+            salt: In,
+            salt_len: usize,
+            root: In,
+            root_len: usize,
+            out: Out,
+            out_len: usize,
+        ) -> u32;
         pub fn wv_cover(
             m: u32,
             hidden: In,
             hidden_len: usize,
+            salt: In,
+            salt_len: usize,
             root: In,
             root_len: usize,
             out: Out,
@@ -326,33 +349,37 @@ fn runs() {
 fn trees_challenges_and_shelves() {
     let (mut leaves, mut out, mut siblings) = ([0; 256], [0; 3 * 511], [0; 64]);
     let (root, mut masters, mut nodes) = ([1; 16], [0; 16 * 512], [0; 16 * 256]);
+    let salt = [2; 32];
     let every_second = std::array::from_fn::<u8, 512, _>(|k| match k % 2 {
         0 => k as u8,
         _ => (k / 256) as u8,
     });
     // SAFETY, of all four: the buffers are valid for their lengths.
     takes("expand", || {
-        let answer = unsafe { c::wv_expand(0, 16, root.as_ptr(), 16, leaves.as_mut_ptr(), 256) };
+        let (salt, root, out) = (salt.as_ptr(), root.as_ptr(), leaves.as_mut_ptr());
+        let answer = unsafe { c::wv_expand(0, 16, salt, 32, root, 16, out, 256) };
         assert_eq!(answer, 0);
     });
     takes("open", || {
-        let out = siblings.as_mut_ptr();
-        let answer = unsafe { c::wv_open(0, 16, 5, root.as_ptr(), 16, out, 64) };
+        let (salt, root, out) = (salt.as_ptr(), root.as_ptr(), siblings.as_mut_ptr());
+        let answer = unsafe { c::wv_open(0, 16, 5, salt, 32, root, 16, out, 64) };
         assert_eq!(answer, 0);
     });
     takes("masters", || {
-        let out = masters.as_mut_ptr();
-        let answer = unsafe { c::wv_masters(512, root.as_ptr(), 16, out, 16 * 512) };
+        let (salt, root, out) = (salt.as_ptr(), root.as_ptr(), masters.as_mut_ptr());
+        let answer = unsafe { c::wv_masters(512, salt, 32, root, 16, out, 16 * 512) };
         assert_eq!(answer, 0);
     });
     takes("cover", || {
         let (hidden, out) = (every_second.as_ptr(), nodes.as_mut_ptr());
-        let answer = unsafe { c::wv_cover(512, hidden, 512, root.as_ptr(), 16, out, 16 * 256) };
+        let (salt, root) = (salt.as_ptr(), root.as_ptr());
+        let answer = unsafe { c::wv_cover(512, hidden, 512, salt, 32, root, 16, out, 16 * 256) };
         assert_eq!(answer, 0);
     });
     takes("challenge", || {
         let input = seeds::ChallengeInput {
             h_star: &[1; 32],
+            salt: &salt,
             circuit_digest: &[2; 32],
             y: &[3; 32],
             message: &[0; 4096],
@@ -381,6 +408,7 @@ fn prove_in_c(call: &Prove, proof: &mut [u8], work: &mut [u8]) -> usize {
         y,
         message,
         root,
+        salt,
         counts: [m, tau, n],
         ..
     } = call;
@@ -398,6 +426,8 @@ fn prove_in_c(call: &Prove, proof: &mut [u8], work: &mut [u8]) -> usize {
             message.len(),
             root.as_ptr(),
             root.len(),
+            salt.as_ptr(),
+            salt.len(),
             *m,
             *tau,
             *n,
@@ -487,22 +517,23 @@ fn secrets(call: &Prove, proof: &[u8]) -> Vec<Vec<u8>> {
     let [m, tau, n] = call.counts;
     let counts = reference::proof::Counts { m, tau, n };
     let root: [u8; 16] = call.root[..].try_into().expect("16 bytes");
-    let made: Vec<Instance> = instances(&call.circuit, &call.witness, root, counts);
+    let salt: Salt = call.salt[..].try_into().expect("32 bytes");
+    let made: Vec<Instance> = instances(&call.circuit, &call.witness, root, salt, counts);
     let statement = Second {
         circuit: &call.circuit,
         y: &call.y,
         message: &call.message,
     };
-    let h_star = proof[6..38].try_into().expect("32 bytes");
-    let hidden = reference::proof::hidden_parties(statement, counts, h_star);
+    let header = reference::proof::header(proof).expect("a header");
+    let hidden = reference::proof::hidden_parties(statement, header);
     assert_eq!(asked(m, &[]).len(), hidden.len());
     let mut secrets = vec![root.to_vec()];
-    for (j, (instance, hidden)) in (0..).zip(made.iter().zip(hidden)) {
+    for (instance, hidden) in made.iter().zip(hidden) {
         let Some(p) = hidden.map(usize::from) else {
             continue;
         };
         let preprocessing = &instance.preprocessing;
-        let leaf = tree_leaves(j, n as usize, preprocessing.master)[p];
+        let leaf = tree_leaves(preprocessing.context, n as usize, preprocessing.master)[p];
         let [seed, r] = preprocessing.seeds[p];
         let row_len = preprocessing.tapes.len() / n as usize;
         let row = &preprocessing.tapes[p * row_len..][..row_len.min(32)];
@@ -551,9 +582,9 @@ fn no_secret_is_left() {
         let mut proof = vec![0; call.proof_len + 999];
         let stack = below(|| {
             let counts = Counts { m, tau, n };
-            let (witness, root) = (&call.witness, &call.root);
+            let (witness, root, salt) = (&call.witness, &call.root, &call.salt);
             let work = &mut Work::lent(&mut work);
-            let len = prove(statement, witness, root, counts, &mut proof, work);
+            let len = prove(statement, witness, root, salt, counts, &mut proof, work);
             assert!(len.is_ok());
         });
         assert_eq!(found(&secrets, &stack), 0, "stack, n {n}");
@@ -645,7 +676,8 @@ fn no_root_is_left() {
     let stack = below(|| shelf::draw_into(&mut page, 0, &mut drawn).expect("drawn"));
     assert_eq!(found(&secrets, &stack), 0, "draw");
     assert_eq!((&drawn[..], found(&secrets, &page)), (&root[..], 0));
-    let stack = below(|| seeds::masters(9, &root, &mut masters).expect("masters"));
+    let salt = random.bytes(32);
+    let stack = below(|| seeds::masters(9, &salt, &root, &mut masters).expect("masters"));
     let all = masters.chunks(16).map(<[u8]>::to_vec);
     let all: Vec<Vec<u8>> = all.chain(secrets).collect();
     assert_eq!(found(&all, &stack), 0, "masters");

@@ -1,10 +1,15 @@
-//! Hashes and seed trees, SHAKE128 of the inputs of tapes, and whole proofs give
+//! Hashes and seed trees, SHAKE128 of the inputs of tapes, showings and whole proofs give
 //! the bytes whose digests are stored here: no text of the permutation may change
 //! them. A digest is SHA3-256, by the second implementation, of all bytes of a kind,
 //! or of one proof.
 
+use reference::bits::clear_rest;
+use reference::circuit::Sizes;
 use reference::fips202;
-use tests::circuits::{File, Gate, AND, INV, XOR};
+use tests::calls::used_bits;
+use tests::circuits::{File, Gate, AND, INV, K, XOR};
+use tests::proofs::H_STAR;
+use wivulameno::mpc::{show, ShowingOut};
 use wivulameno::proof::{prove, Counts, Statement};
 use wivulameno::{seeds, Work};
 
@@ -12,12 +17,13 @@ const LENGTHS: [usize; 8] = [0, 1, 135, 136, 168, 1000, 65_536, 100_003];
 const COUNTS: [u32; 4] = [2, 4, 8, 16];
 const INSTANCES: [u32; 4] = [0, 1, 511, 65_535];
 
-const LEAVES: &str = "4061716e0073e5374e89d4330f3f3f99610293d36b2356532bae2a83290a6d5a";
+const LEAVES: &str = "e72875a040c9c35dcd3f92ba66d50fe86d12f31a1c32ea078aeeebb00dc7265c";
+const SHOWINGS: &str = "831026084b6def0e65b5bfad63de3e481d3628dadb66190b7876ae36e6a77fab";
 const SHA3_256: &str = "2167af0717789b81d8816abdc091d3190c685f3d35914de943589863de34fac4";
 const SHAKE128: &str = "b7b0c6b34eb9f0145c77d98b6b5645cd87d25f2f9a96283e6740a00d1a1210b5";
 const SHAKE256: &str = "03ae66383f71c1be05ca3ef69e266943b271fc0dbe24f995e918ae4586dadf7e";
-const TAPES: &str = "edd232e553f966abd8fe8c3ad596ba2e25f228cbbe03d87294a62f4d5b1d18d8";
-const SIBLINGS: &str = "ef3c9c1a5fdc5482f2483e4167104bee68b3b9a5e531eafc29628cfa1c7c368c";
+const TAPES: &str = "8fde7f1ed5564ad6f4f85d7c30e4262fb739fb311219d4131fd84f77737b7534";
+const SIBLINGS: &str = "944ef33c4eb49952bbb7471bab8fb83f480aff3daccc4a10fea96ca14c52c454";
 
 /// Fixed bytes: the same for a length in every run.
 fn bytes(len: usize) -> Vec<u8> {
@@ -73,7 +79,7 @@ fn expanded_trees() {
     for j in INSTANCES {
         for n in COUNTS {
             let mut leaves = vec![0; 16 * n as usize];
-            seeds::expand(j, n, &bytes(16), &mut leaves).expect("leaves");
+            seeds::expand(j, n, &SALT, &bytes(16), &mut leaves).expect("leaves");
             all.extend(leaves);
         }
     }
@@ -88,7 +94,7 @@ fn opened_trees() {
         for n in COUNTS {
             for p in 0..n {
                 let mut siblings = vec![0; 16 * n.ilog2() as usize];
-                seeds::open(j, n, p, &bytes(16), &mut siblings).expect("siblings");
+                seeds::open(j, n, p, &SALT, &bytes(16), &mut siblings).expect("siblings");
                 all.extend(siblings);
             }
         }
@@ -96,14 +102,14 @@ fn opened_trees() {
     assert_eq!(digest(&all), SIBLINGS);
 }
 
-/// SHAKE128 of the inputs of tape rows, 4, j, i, seed, to the longest row.
+/// SHAKE128 of the inputs of tape rows, 4, salt, j, i, seed, to 1,088 bytes.
 #[test]
 fn tapes() {
     let mut all = vec![];
     for j in INSTANCES {
         for i in 0..16 {
             let [low, high, ..] = j.to_le_bytes();
-            let input = [&[4, low, high, i], &bytes(16)[..]].concat();
+            let input = [&[4], &SALT[..], &[low, high, i], &bytes(16)].concat();
             let mut row = vec![0; (512 + 2 * 4096) / 8];
             wivulameno::shake128(&input, &mut row);
             all.extend(row);
@@ -113,63 +119,63 @@ fn tapes() {
 }
 
 /// The circuit with its witness and output, M, tau, n, the proof's h*, and the digest of
-/// the whole proof, in the layout of order 5 and with the circuit files of order 7. The
-/// proofs were made in Python over its hashlib. The h* are those of the circuits' files
-/// in the old form too: the transcript before the challenge is the same. A request that
-/// moves the bytes of proofs replaces them; order 13, "16 parties give the same bytes",
-/// leans on them.
+/// the whole proof, in the layout of orders 5 and 10 and with the circuit files of order 7.
+/// The proofs were made in Python over its hashlib, by a prover that gave the digests of
+/// proofs without a salt too. A request that moves the bytes of proofs replaces them; order
+/// 13, "16 parties give the same bytes", leans on them.
 const PROOFS: [(Circuit, [u32; 3], &str, &str); 8] = [
     (
         adder,
         [2, 1, 2],
-        "c1b04a6773347d50426e78a97388e4f3fff7e9292ed04be921ad64aa299e522f",
-        "60663d7e0789b8fd5b228a82e670fb54528a325ac81066eb97510ae18980ed0d",
+        "59ebb9336eba6604f29f5e47962bfd331530f918f800e726d50626316472694a",
+        "71d79c67df08a4c55adb06051b5812275b01d12ba75ad99acad5639e49991851",
     ),
     (
         adder,
         [40, 13, 4],
-        "415d026817c0dfd254510684776d7ca6178cf5f988c3833124b6efd6103dd2c1",
-        "0e20e2316e64ad1cad9773b83042c44b1909a1e7c794d2b040989cc0e17dae55",
+        "2606c435d716358d15238371714c72b17fd034009eabd2923fb8beeed478bc93",
+        "278102e76db94622e9983083aed281e4b68c227ceb991602a5b3b5fdae963d05",
     ),
     (
         adder,
         [145, 66, 8],
-        "3909a79cf417fb2486d2e7fb82040ec56f92bb1b7c2365bf45685f49aa8855ed",
-        "055e348ea7f01719c333d6471213e0f71b8fe69d2aa77727c0d7090494896c29",
+        "8fcb9a66703e45a1ac56b1a2da9d9056506b5ef96dd30e5f1134576167994780",
+        "96f67bd8e42770aa6602fc24225a39f3944abdccd71812f4a9fcac4f2a387f39",
     ),
     (
         adder,
         [343, 27, 16],
-        "cb623dab3b13adfe7a31df8bae050ceab7aa9a1f0d725e83a8b67bd2145a1a70",
-        "ffbfb813972bbe1fc5c8daf99b4974fbc29a79e118a32500f9963885718e3d17",
+        "f6cf44f288eb54208a257a4547b0ca7a93b2a6846d7822b4260eb9a4aa756dcc",
+        "5f02b2572e9b49b784a9867fec574871c3a7398c47bc2fde6d72e4340853eff6",
     ),
     (
         ladder,
         [64, 36, 2],
-        "d7d8c9622b41a8a9afd34cabe111905721082b16fb951eb18b380c2524ef77bc",
-        "b9669969e5bdfe2273a7227d0f614cd543a2c216b0c5ff0dd7f4f25f2b9907c0",
+        "d5cd2382b0ba93a076ed3e91de783a5f2e6aa955c5e9c1c01e24600c200c8e2a",
+        "e1c0778c8b0e9205e2979551f1e5aa61d0fcfbe9af19855adcbe09e178019dca",
     ),
     (
         ladder,
         [17, 5, 4],
-        "9b95916842ba33d025c4f233b10b2740dfdf0a561e09ad4a41257c2227f9bf62",
-        "3a05effcea4ada686bc5a314977c99201233b9dc46c57a932b3f7499c17ee654",
+        "d6fb7a677f53ca612c4e9f5147b6786042f71fcfefb808b2f2da0bb05e62fbc2",
+        "7e8f05e1833bf1e675644aa7cea122a1eaa7343137a56ff7e73af12663f339df",
     ),
     (
         ladder,
         [252, 44, 8],
-        "de732ecad2d0cab925b982862bea4438acef4028d5f3dc1fdfe9ddc00705e41b",
-        "eaa91e189ed833203dc746ca0aff234035a5095b65788e3d474140eeaaff65ad",
+        "be6d8599f03fe2a10124c86cce46864f65f3e75030d1f5c03e14ff5ed19dff90",
+        "86d0b239e1ffea37b7d4122382d7d9593ee193d126986c9992f14d62be3bc05b",
     ),
     (
         ladder,
         [47, 17, 16],
-        "b4f1ca6357c9b8d3e555dfb8f29aa64de535b47eb52df4ea3fe9db20907c0998",
-        "cc271dd27d1b71fb679c623cd23dc609adbe089378f5cbf4af684e18bf7dd18f",
+        "f8a3eaaad590649380e551d1f667479b47c316428d68626c1fcd252a0b094a7f",
+        "fc565da9403828cf5283882e3d6776db65fe153263c0a31bfc5c61fb0ba2d3a6",
     ),
 ];
 
 const ROOT: [u8; 16] = *b"sixteen bytes...";
+const SALT: [u8; 32] = *b"thirty-two bytes in every proof.";
 const MESSAGE: &[u8] = b"order 17 of depot 4, 2026-03-01.";
 
 /// A circuit file, a witness, and the output for it.
@@ -230,9 +236,92 @@ fn proofs() {
         };
         let mut proof = vec![0; 1 << 16];
         let mut work = Work::for_circuit(&circuit).expect("a circuit");
-        let len = prove(statement, &witness, &ROOT, counts, &mut proof, &mut work);
+        let out = &mut proof;
+        let len = prove(statement, &witness, &ROOT, &SALT, counts, out, &mut work);
         let len = len.expect("a proof");
-        assert_eq!(hex(&proof[6..38]), h_star, "{counts:?}");
+        assert_eq!(hex(&proof[H_STAR]), h_star, "{counts:?}");
         assert_eq!(digest(&proof[..len]), stored, "{counts:?}");
     }
+}
+
+/// A proof of K, M 4, tau 1, n 2, byte by byte, from the same prover in Python.
+const PROOF_OF_K: [&str; 12] = [
+    "040001000200",                                                     // M, tau, n, 0
+    "3f6225c38fb1bf97b67ac704463de2b39928da80c1ff5f4e98dc8147705b7dc1", // h*
+    "7468697274792d74776f20627974657320696e2065766572792070726f6f662e", // the salt
+    "e2df42138569704e3f62d312b4936f7dfca372d15c3437f7adfd2339be68494d", // two nodes
+    "ff6bc95eb31aa39bfa3389e2d006afd5595d6ea7767af02a250d3c0d46a65ae0", // h'_0
+    "0fb37c90d444be7d5aa3de1d11928ce0dec54b50a6da599997d6da62f22871bc", // h'_1
+    "c13e82f3c3de7a41ed58c4203f050c29", // instance 2, which hides party 0: a sibling
+    "00",                               // the corrections
+    "fa5218183ef5a1875459755e66f3ca4de6038d3c7925ba72bdb69e4c158ae8c2", // the commitment
+    "00",                               // the masked inputs
+    "01",                               // the row
+    "f7fa3405169e3cc11ac4ccefba7aeec00e6ad9e237799519b96778f164419bfb", // h'_3
+];
+
+#[test]
+fn a_proof_byte_by_byte() {
+    let counts = Counts { m: 4, tau: 1, n: 2 };
+    let statement = Statement {
+        circuit: &K,
+        y: &[1],
+        message: MESSAGE,
+    };
+    let mut proof = [0; 265];
+    let mut work = Work::for_circuit(&K).expect("a circuit");
+    let out = &mut proof;
+    let len = prove(statement, &[3], &ROOT, &SALT, counts, out, &mut work);
+    assert_eq!(hex(&proof[..len.expect("a proof")]), PROOF_OF_K.concat());
+    assert_eq!(
+        wivulameno::proof::check(statement, &proof[..len.unwrap()], &mut work),
+        Ok(())
+    );
+}
+
+/// Showings start at the tapes and know no salt: each hidden party, cut after no gate,
+/// after half of the gates and after all. The digest is from Python too.
+#[test]
+fn showings() {
+    let mut all = vec![];
+    for circuit in [adder, ladder] {
+        let (circuit, witness, _) = circuit();
+        let sizes = reference::circuit::read(&circuit).expect("a circuit");
+        for n in COUNTS {
+            let tapes = tapes_of(sizes, n);
+            for p in 0..n {
+                for cut in [0, sizes.gates / 2, sizes.gates] {
+                    all.extend(showing(&circuit, [n, p, cut as u32], &witness, &tapes));
+                }
+            }
+        }
+    }
+    assert_eq!(digest(&all), SHOWINGS);
+}
+
+/// Fixed tapes, their unused bits zero.
+fn tapes_of(sizes: Sizes, n: u32) -> Vec<u8> {
+    let mut tapes = bytes(n as usize * sizes.tape_row_len());
+    for (i, row) in tapes.chunks_mut(sizes.tape_row_len()).enumerate() {
+        clear_rest(row, used_bits(sizes, n, i));
+    }
+    tapes
+}
+
+/// The four parts of a showing, one after the other. The numbers are n, p and the cut.
+fn showing(circuit: &[u8], [n, p, cut]: [u32; 3], witness: &[u8], tapes: &[u8]) -> Vec<u8> {
+    let sizes = reference::circuit::read(circuit).expect("a circuit");
+    let mut shown = vec![0; tapes.len()];
+    let mut corrections = vec![0; sizes.corrections_len()];
+    let mut masked_inputs = vec![0; sizes.inputs_len()];
+    let mut row = vec![0; sizes.row_len()];
+    let out = ShowingOut {
+        tapes: &mut shown,
+        corrections: &mut corrections,
+        masked_inputs: &mut masked_inputs,
+        row: &mut row,
+    };
+    let mut work = Work::for_circuit(circuit).expect("a circuit");
+    show(circuit, n, p, cut, witness, tapes, out, &mut work).expect("a showing");
+    [shown, corrections, masked_inputs, row].concat()
 }

@@ -4,11 +4,11 @@
 
 use reference::bits::clear_rest;
 use reference::circuit::Sizes;
-use reference::seeds::{opened_leaves, seed_and_r, tape_row, Value};
+use reference::seeds::{opened_leaves, seed_and_r, tape_row, Context, Value};
 use tests::calls::{any_bits, compare, Answer, Call, Operation, Setting};
 use tests::circuits::K;
 use tests::pages::page;
-use tests::proofs::{compare_check, compare_prove, longest, places, Check, Prove};
+use tests::proofs::{compare_check, compare_prove, longest, places, Check, Prove, SALT};
 use tests::random::Random;
 use tests::works;
 use wivulameno::Refusal;
@@ -228,13 +228,13 @@ struct Opened {
 }
 
 impl Opened {
-    fn of(sizes: Sizes, n: usize, j: u16, p: u8, stretch: &[u8]) -> Opened {
+    fn of(sizes: Sizes, n: usize, context: Context, p: u8, stretch: &[u8]) -> Opened {
         let siblings = stretch.chunks(16).take(n.ilog2() as usize);
         let siblings: Vec<Value> = siblings.map(|node| node.try_into().unwrap()).collect();
-        let leaves = opened_leaves(j, n, p.into(), &siblings);
+        let leaves = opened_leaves(context, n, p.into(), &siblings);
         let tapes = (0..).zip(leaves).map(|(i, leaf)| {
-            let [seed, _] = seed_and_r(j, i, leaf?);
-            Some(tape_row(j, i, n, seed, sizes.inputs, sizes.ands))
+            let [seed, _] = seed_and_r(context, i, leaf?);
+            Some(tape_row(context, i, n, seed, sizes.inputs, sizes.ands))
         });
         let end = stretch.len() - sizes.row_len();
         Opened {
@@ -245,10 +245,11 @@ impl Opened {
 
     /// All instances of a proof; `None` for those that are not chosen.
     fn all(sizes: Sizes, n: usize, check: &Check) -> Vec<Option<Opened>> {
+        let salt = check.proof[SALT].try_into().expect("32 bytes");
         let instances = (0..).zip(places(sizes, check));
         let opened = instances.map(|(j, (hidden, start, len))| {
             let stretch = &check.proof[start..][..len];
-            hidden.map(|p| Opened::of(sizes, n, j, p, stretch))
+            hidden.map(|p| Opened::of(sizes, n, Context { salt, j }, p, stretch))
         });
         opened.collect()
     }
@@ -281,7 +282,7 @@ fn row(stock: u16) -> Vec<u8> {
 
 /// A proof that this stock covers the order, as the depot makes it and the buyer
 /// accepts it: 1, and 250 in the bits after it.
-fn proof_of(stock: u16, root: [u8; 16]) -> Check {
+fn proof_of(stock: u16, root: [u8; 16], salt: [u8; 32]) -> Check {
     let sizes = reference::circuit::read(CIRCUIT).expect("a legal circuit");
     let counts = [145, 66, 8];
     let call = Prove {
@@ -290,6 +291,7 @@ fn proof_of(stock: u16, root: [u8; 16]) -> Check {
         y: vec![0xf5, 0x01, 0x00],
         message: b"order 4711".to_vec(),
         root: root.to_vec(),
+        salt: salt.to_vec(),
         counts,
         proof_len: longest(sizes, counts),
         work_len: works::least(CIRCUIT),
@@ -300,12 +302,13 @@ fn proof_of(stock: u16, root: [u8; 16]) -> Check {
     check
 }
 
-/// One root under two quantities: each proof passes, and both together give the
-/// buyer both rows.
+/// One root and one salt under two quantities: each proof passes, and both together
+/// give the buyer both rows.
 #[test]
 fn one_root_under_two_rows_gives_both() {
     let sizes = reference::circuit::read(CIRCUIT).expect("a legal circuit");
-    let (one, two) = (proof_of(1000, [7; 16]), proof_of(813, [7; 16]));
+    let salt = [9; 32];
+    let (one, two) = (proof_of(1000, [7; 16], salt), proof_of(813, [7; 16], salt));
     let read = side_by_side(sizes, 8, [&one, &two]);
     assert!(read.len() > 5, "{} instances", read.len());
     for rows in read {
@@ -313,6 +316,19 @@ fn one_root_under_two_rows_gives_both() {
     }
     // One proof beside itself lacks the hidden parties' tapes.
     assert!(side_by_side(sizes, 8, [&one, &one]).is_empty());
+}
+
+/// With two salts one root gives two sets of tapes: what is read so is no row.
+#[test]
+fn one_root_with_two_salts_gives_neither() {
+    let sizes = reference::circuit::read(CIRCUIT).expect("a legal circuit");
+    let one = proof_of(1000, [7; 16], [9; 32]);
+    let two = proof_of(813, [7; 16], [10; 32]);
+    let read = side_by_side(sizes, 8, [&one, &two]);
+    assert!(read.len() > 5, "{} instances", read.len());
+    for [a, b] in read {
+        assert!(a != row(1000) && b != row(813));
+    }
 }
 
 /// With the shelf such proofs are not made: two draws give two roots, and the page
@@ -331,7 +347,8 @@ fn the_shelf_gives_a_root_once() {
 
     let second = wivulameno::shelf::draw(&mut now, 1).expect("another root");
     assert_ne!(first, second);
-    let (one, two) = (proof_of(1000, first), proof_of(813, second));
+    let salt = [9; 32];
+    let (one, two) = (proof_of(1000, first, salt), proof_of(813, second, salt));
     let read = side_by_side(sizes, 8, [&one, &two]);
     assert!(read.len() > 5, "{} instances", read.len());
     for [a, b] in read {

@@ -6,7 +6,7 @@
 use tests::calls::{compare, Call, Setting, COUNTS};
 use tests::circuits::{faults_of_five, legal, with, FIVE};
 use tests::outcomes::Outcomes;
-use tests::proofs::{compare_check, compare_prove, Check, Prove};
+use tests::proofs::{compare_check, compare_prove, Check, Prove, HEADER};
 use tests::random::Random;
 use wivulameno::proof::{check, prove, Counts, Statement};
 use wivulameno::{Refusal, Work};
@@ -194,11 +194,12 @@ fn spoiled_calls(call: &Call) -> Vec<Call> {
 }
 
 fn spoiled_proves(call: &Prove) -> Vec<Prove> {
-    let changes: [fn(&mut Prove); 8] = [
+    let changes: [fn(&mut Prove); 9] = [
         |call| call.counts[0] = 1,
         |call| call.counts[1] = 0,
         |call| call.counts[2] = 5,
         |call| call.root.push(0),
+        |call| call.salt.truncate(31),
         |call| call.proof_len -= 1,
         |call| call.message = vec![0; 4097],
         |call| call.witness[0] |= 0x80,
@@ -218,11 +219,11 @@ fn spoiled_checks(call: &Check) -> Vec<Check> {
         |call| call.y.push(0),
         |call| call.y[0] |= 0x80,
         |call| call.message = vec![0; 4097],
-        |call| call.proof.truncate(37),
+        |call| call.proof.truncate(HEADER - 1),
         |call| call.proof[5] = 1,
         |call| call.proof.push(0),
         |call| call.proof.truncate(100),
-        |call| call.proof[38] ^= 1,
+        |call| call.proof[HEADER] ^= 1,
         |call| {
             let last = call.proof.len() - 1;
             call.proof[last] ^= 0x08;
@@ -258,8 +259,10 @@ fn its_bytes_before_do_not_matter() {
         let mut bytes = before.clone();
         let mut work = Work::lent(&mut bytes);
         let mut proof = vec![0; all.prove.proof_len];
-        let (witness, root) = (&all.prove.witness, &all.prove.root);
-        let len = prove(statement, witness, root, counts, &mut proof, &mut work);
+        let (witness, root, salt) = (&all.prove.witness, &all.prove.root, &all.prove.salt);
+        let len = prove(
+            statement, witness, root, salt, counts, &mut proof, &mut work,
+        );
         proof.truncate(len.expect("proved"));
         assert_eq!(proof, expected);
         assert_eq!(bytes, vec![0; 4736]);
@@ -286,8 +289,8 @@ fn one_buffer_is_used_again() {
         };
         let counts = Counts { m: 3, tau: 1, n: 4 };
         let mut proof = vec![0; call.proof_len];
-        let (witness, root) = (&call.witness, &call.root);
-        let len = prove(statement, witness, root, counts, &mut proof, work)?;
+        let (witness, root, salt) = (&call.witness, &call.root, &call.salt);
+        let len = prove(statement, witness, root, salt, counts, &mut proof, work)?;
         check(statement, &proof[..len], work)
     };
     assert_eq!(prove_large(&mut work), Err(Refusal::Length));

@@ -21,7 +21,7 @@
 //! # let folder = std::env::temp_dir().join(format!("wivulameno-lib-{}", std::process::id()));
 //! # std::fs::create_dir_all(&folder)?;
 //! # let (page, log) = (folder.join("shelf.page"), folder.join("shelf.log"));
-//! # let sixteen_random_bytes = [7; 16];
+//! # let (sixteen_random_bytes, salt) = ([7; 16], [9; 32]);
 //! // Two inputs, one output, one gate: wire 2 is wire 0 AND wire 1.
 //! let fields: [u32; 9] = [2, 1, 1, 1, 2, 2, 0, 1, 0];
 //! let circuit = fields.map(u32::to_le_bytes).concat();
@@ -33,7 +33,8 @@
 //! let counts = Counts { m: 145, tau: 66, n: 8 };
 //! let mut proof = vec![0; longest_proof(sizes(&circuit)?, counts).expect("legal counts")];
 //! let mut work = Work::for_circuit(&circuit)?;
-//! let len = prove(statement, &[0b11], &shelf.draw()?, counts, &mut proof, &mut work)?;
+//! let root = shelf.draw()?; // and a salt: 32 new random bytes
+//! let len = prove(statement, &[0b11], &root, &salt, counts, &mut proof, &mut work)?;
 //! proof.truncate(len);
 //!
 //! // The buyer: the depot chose the counts, so they are looked at.

@@ -52,7 +52,7 @@ pub const MAX_INSTANCE_NUMBER: u32 = 65_535;
 pub const MAX_MESSAGE: usize = 4096;
 
 /// The bytes of a proof before its opened nodes and its instances.
-pub const PROOF_HEADER_LEN: usize = 38;
+pub const PROOF_HEADER_LEN: usize = 70;
 
 /// Room for every proof.
 pub const MAX_PROOF: usize = {
@@ -86,6 +86,9 @@ pub const SHARED_WORK: usize = MAX_WORK;
 
 /// The bytes of a root, of a master and of a leaf.
 pub const ROOT_LEN: usize = 16;
+
+/// The bytes of a salt.
+pub const SALT_LEN: usize = 32;
 
 /// The bytes of a SHA3-256 digest.
 pub const DIGEST_LEN: usize = 32;

@@ -24,6 +24,8 @@ extern "C" {
         message_len: usize,
         root: *const u8,
         root_len: usize,
+        salt: *const u8,
+        salt_len: usize,
         m: u32,
         tau: u32,
         n: u32,
@@ -62,10 +64,12 @@ pub struct Statement<'a> {
 }
 
 /// As [`prove`], with the length that the C function writes into `written`.
+#[allow(clippy::too_many_arguments)]
 pub fn prove_into<B: AsMut<[u8]>>(
     statement: Statement,
     witness: &[u8],
     root: &[u8],
+    salt: &[u8],
     counts: Counts,
     proof: &mut [u8],
     written: &mut u64,
@@ -91,6 +95,8 @@ pub fn prove_into<B: AsMut<[u8]>>(
             message.len(),
             root.as_ptr(),
             root.len(),
+            salt.as_ptr(),
+            salt.len(),
             counts.m,
             counts.tau,
             counts.n,
@@ -109,6 +115,10 @@ pub fn prove_into<B: AsMut<[u8]>>(
 /// The root is 16 random bytes, drawn from a shelf: a new root for each call,
 /// also after a refused one. Two proofs from one root can show the witness.
 ///
+/// The salt is 32 random bytes, new ones for each proof. It is no secret: it stands in the
+/// proof. Every hash that makes nodes, seeds, tapes and commitments takes it, so that one
+/// search cannot serve against the proofs of two salts.
+///
 /// Refuses with 1, 2, 3, 19, 20, 21 or 5 for the circuit, 6 for the work buffer, 8 for
 /// the counts, 6 for a length, 7 for an unused bit, 10 if the circuit does not give y
 /// for the witness.
@@ -116,13 +126,16 @@ pub fn prove<B: AsMut<[u8]>>(
     statement: Statement,
     witness: &[u8],
     root: &[u8],
+    salt: &[u8],
     counts: Counts,
     proof: &mut [u8],
     work: &mut Work<B>,
 ) -> Result<usize, Refusal> {
-    let mut written = 0;
-    prove_into(statement, witness, root, counts, proof, &mut written, work)?;
-    Ok(usize::try_from(written).expect("no more than the buffer"))
+    let mut len = 0;
+    prove_into(
+        statement, witness, root, salt, counts, proof, &mut len, work,
+    )?;
+    Ok(usize::try_from(len).expect("no more than the buffer"))
 }
 
 /// Is this a proof of the statement? Any legal counts are accepted: a caller who
@@ -131,7 +144,7 @@ pub fn prove<B: AsMut<[u8]>>(
 /// Refuses with 1, 2, 3, 19, 20, 21 or 5 for the circuit, 6 for the work buffer, 6 or 7
 /// for y and the message, 11 for what does not begin as a proof, and 12, 7, 10 or 13 for a proof
 /// that does not hold.
-/// With another circuit file, y, message, M, tau or n than the prover's, the
+/// With another circuit file, y, message, salt, M, tau or n than the prover's, the
 /// challenge is drawn anew, and a proof that does not answer it is refused with the
 /// first of these four that is met.
 pub fn check<B: AsMut<[u8]>>(

@@ -7,6 +7,8 @@ extern "C" {
     fn wv_expand(
         j: u32,
         n: u32,
+        salt: *const u8,
+        salt_len: usize,
         master: *const u8,
         master_len: usize,
         leaves: *mut u8,
@@ -16,6 +18,8 @@ extern "C" {
         j: u32,
         n: u32,
         p: u32,
+        salt: *const u8,
+        salt_len: usize,
         master: *const u8,
         master_len: usize,
         siblings: *mut u8,
@@ -23,6 +27,8 @@ extern "C" {
     ) -> u32;
     fn wv_masters(
         m: u32,
+        salt: *const u8,
+        salt_len: usize,
         root: *const u8,
         root_len: usize,
         masters: *mut u8,
@@ -32,6 +38,8 @@ extern "C" {
         m: u32,
         hidden: *const u8,
         hidden_len: usize,
+        salt: *const u8,
+        salt_len: usize,
         root: *const u8,
         root_len: usize,
         nodes: *mut u8,
@@ -43,6 +51,8 @@ extern "C" {
         n: u32,
         hstar: *const u8,
         hstar_len: usize,
+        salt: *const u8,
+        salt_len: usize,
         digest: *const u8,
         digest_len: usize,
         y: *const u8,
@@ -56,16 +66,25 @@ extern "C" {
 
 /// Fills `leaves` with the n leaves of the tree of `master`, 16 bytes each, for
 /// the instance j, 0 to
-/// [`MAX_INSTANCE_NUMBER`](crate::limits::MAX_INSTANCE_NUMBER). Refuses with 8, 6.
+/// [`MAX_INSTANCE_NUMBER`](crate::limits::MAX_INSTANCE_NUMBER). The salt is that of the
+/// proof, 32 bytes; every node takes it. Refuses with 8, 6.
 ///
 /// Never use 65,535 for an instance: it is the number of the tree over the masters,
 /// and over a root it gives the [`masters`] of n instances.
-pub fn expand(j: u32, n: u32, master: &[u8], leaves: &mut [u8]) -> Result<(), Refusal> {
-    // SAFETY: both slices are valid for their lengths and do not overlap.
+pub fn expand(
+    j: u32,
+    n: u32,
+    salt: &[u8],
+    master: &[u8],
+    leaves: &mut [u8],
+) -> Result<(), Refusal> {
+    // SAFETY: the slices are valid for their lengths and `leaves` overlaps no other.
     answer_burned(unsafe {
         wv_expand(
             j,
             n,
+            salt.as_ptr(),
+            salt.len(),
             master.as_ptr(),
             master.len(),
             leaves.as_mut_ptr(),
@@ -76,13 +95,22 @@ pub fn expand(j: u32, n: u32, master: &[u8], leaves: &mut [u8]) -> Result<(), Re
 
 /// Fills `siblings` with the opening of all leaves but leaf p: 16 bytes for each
 /// level of the tree, top first. Refuses with 8, 9, 6.
-pub fn open(j: u32, n: u32, p: u32, master: &[u8], siblings: &mut [u8]) -> Result<(), Refusal> {
-    // SAFETY: both slices are valid for their lengths and do not overlap.
+pub fn open(
+    j: u32,
+    n: u32,
+    p: u32,
+    salt: &[u8],
+    master: &[u8],
+    siblings: &mut [u8],
+) -> Result<(), Refusal> {
+    // SAFETY: the slices are valid for their lengths and `siblings` overlaps no other.
     answer_burned(unsafe {
         wv_open(
             j,
             n,
             p,
+            salt.as_ptr(),
+            salt.len(),
             master.as_ptr(),
             master.len(),
             siblings.as_mut_ptr(),
@@ -93,13 +121,15 @@ pub fn open(j: u32, n: u32, p: u32, master: &[u8], siblings: &mut [u8]) -> Resul
 
 /// Fills `masters` with the masters of the instances 0 to M - 1, 16 bytes each. They
 /// are the first M leaves of one tree over the root, whose leaves are the least power
-/// of two that is at least M. Refuses with 8 for M, 6 for a root that is not of 16
-/// bytes or `masters` that are not of 16 M.
-pub fn masters(m: u32, root: &[u8], masters: &mut [u8]) -> Result<(), Refusal> {
-    // SAFETY: both slices are valid for their lengths and do not overlap.
+/// of two that is at least M. Refuses with 8 for M, 6 for a salt that is not of 32 bytes,
+/// a root that is not of 16 or `masters` that are not of 16 M.
+pub fn masters(m: u32, salt: &[u8], root: &[u8], masters: &mut [u8]) -> Result<(), Refusal> {
+    // SAFETY: the slices are valid for their lengths and `masters` overlaps no other.
     answer_burned(unsafe {
         wv_masters(
             m,
+            salt.as_ptr(),
+            salt.len(),
             root.as_ptr(),
             root.len(),
             masters.as_mut_ptr(),
@@ -115,15 +145,23 @@ pub fn masters(m: u32, root: &[u8], masters: &mut [u8]) -> Result<(), Refusal> {
 /// more than once. If all are hidden, no node is opened.
 ///
 /// Refuses with 8 for M, 9 for a list without a leaf or with one that is not below M,
-/// 6 for a root that is not of 16 bytes, `nodes` that are not of 16 for each opened
-/// node, or a list of an odd number of bytes.
-pub fn cover(m: u32, hidden: &[u8], root: &[u8], nodes: &mut [u8]) -> Result<(), Refusal> {
+/// 6 for a salt that is not of 32 bytes, a root that is not of 16, `nodes` that are not of
+/// 16 for each opened node, or a list of an odd number of bytes.
+pub fn cover(
+    m: u32,
+    hidden: &[u8],
+    salt: &[u8],
+    root: &[u8],
+    nodes: &mut [u8],
+) -> Result<(), Refusal> {
     // SAFETY: the slices are valid for their lengths and `nodes` overlaps no other.
     answer_burned(unsafe {
         wv_cover(
             m,
             hidden.as_ptr(),
             hidden.len(),
+            salt.as_ptr(),
+            salt.len(),
             root.as_ptr(),
             root.len(),
             nodes.as_mut_ptr(),
@@ -133,11 +171,13 @@ pub fn cover(m: u32, hidden: &[u8], root: &[u8], nodes: &mut [u8]) -> Result<(),
 }
 
 /// What a challenge covers beside M, tau and n: the first message of the proof,
-/// h*, and the statement.
+/// h*, its salt, and the statement.
 #[derive(Clone, Copy, Debug)]
 pub struct ChallengeInput<'a> {
     /// 32 bytes.
     pub h_star: &'a [u8],
+    /// The salt of the proof, 32 bytes.
+    pub salt: &'a [u8],
     /// SHA3-256 of the circuit file, 32 bytes.
     pub circuit_digest: &'a [u8],
     /// The claimed outputs, packed into 1 to 32 bytes. Unused bits are not tested.
@@ -148,8 +188,8 @@ pub struct ChallengeInput<'a> {
 
 /// Fills `out` with 3 bytes for each chosen instance, ascending: its number (two
 /// bytes, the lower first) and its hidden party. They are drawn from SHAKE256 of
-/// 6, h*, M, tau (two bytes each), n, the circuit's digest, y, the message's length
-/// (two bytes) and the message.
+/// 6, h*, the salt, M, tau (two bytes each), n, the circuit's digest, y, the message's
+/// length (two bytes) and the message.
 ///
 /// Refuses with 8 for M, tau or n, 6 for a length that is not as in
 /// [`ChallengeInput`], or an `out` that is not of 3 tau bytes.
@@ -162,6 +202,7 @@ pub fn challenge(
 ) -> Result<(), Refusal> {
     let ChallengeInput {
         h_star,
+        salt,
         circuit_digest,
         y,
         message,
@@ -174,6 +215,8 @@ pub fn challenge(
             n,
             h_star.as_ptr(),
             h_star.len(),
+            salt.as_ptr(),
+            salt.len(),
             circuit_digest.as_ptr(),
             circuit_digest.len(),
             y.as_ptr(),

@@ -5,8 +5,10 @@ use wivulameno::circuit::{read, sizes, upgrade, upgrade_to_vec, Sizes};
 use wivulameno::limits::*;
 use wivulameno::proof::{check, longest_proof, most_opened, proof_len, prove};
 use wivulameno::proof::{Counts, Places, SharedChecker, Statement};
-use wivulameno::seeds::{challenge, cover, expand, masters, ChallengeInput};
+use wivulameno::seeds::{challenge, cover, expand, masters, open, ChallengeInput};
 use wivulameno::{sha3_256, shelf, Refusal, Work};
+
+const SALT: [u8; SALT_LEN] = [0x5a; SALT_LEN];
 
 /// A circuit whose gates are INV, one after the other from wire 0; all outputs
 /// are wire 0.
@@ -79,11 +81,12 @@ fn of_work() {
         assert_eq!(least, 64 * (1 + gates as usize) + 4096);
         let mut bytes = vec![0x5a; least];
         let mut short = Work::lent(&mut bytes[1..]);
-        let answer = prove(statement, &[1], &[1; 16], counts, &mut proof, &mut short);
+        let (root, salt) = (&[1; ROOT_LEN], &SALT);
+        let answer = prove(statement, &[1], root, salt, counts, &mut proof, &mut short);
         assert_eq!(answer, Err(Refusal::Length));
         assert!(bytes.iter().all(|&byte| byte == 0x5a));
         let mut enough = Work::lent(&mut bytes);
-        let answer = prove(statement, &[1], &[1; 16], counts, &mut proof, &mut enough);
+        let answer = prove(statement, &[1], root, salt, counts, &mut proof, &mut enough);
         let len = answer.expect("no refusal");
         assert_eq!(check(statement, &proof[..len], &mut enough), Ok(()));
         assert!(bytes.iter().all(|&byte| byte == 0));
@@ -93,11 +96,11 @@ fn of_work() {
 #[test]
 fn of_trees() {
     let master = [1; ROOT_LEN];
-    let expand = |j, n: u32| expand(j, n, &master, &mut vec![0; n as usize * ROOT_LEN]);
+    let expand = |j, n: u32| expand(j, n, &SALT, &master, &mut vec![0; n as usize * ROOT_LEN]);
     assert_eq!(expand(MAX_INSTANCE_NUMBER, MAX_PARTIES), Ok(()));
     assert_eq!(expand(MAX_INSTANCE_NUMBER + 1, 2), Err(Refusal::Counts));
     assert_eq!(expand(0, 2 * MAX_PARTIES), Err(Refusal::Counts));
-    let masters = |m: u32| masters(m, &[1; ROOT_LEN], &mut vec![0; m as usize * ROOT_LEN]);
+    let masters = |m: u32| masters(m, &SALT, &master, &mut vec![0; m as usize * ROOT_LEN]);
     assert_eq!(masters(MAX_INSTANCES), Ok(()));
     assert_eq!(masters(2), Ok(()));
     assert_eq!(masters(MAX_INSTANCES + 1), Err(Refusal::Counts));
@@ -105,7 +108,7 @@ fn of_trees() {
     // The last leaf is alone in its half of the tree: one node is opened, the other half.
     let last = |m: u32, leaf: u32| {
         let leaf = (leaf as u16).to_le_bytes();
-        cover(m, &leaf, &[1; ROOT_LEN], &mut [0; ROOT_LEN])
+        cover(m, &leaf, &SALT, &master, &mut [0; ROOT_LEN])
     };
     assert_eq!(last(2, 1), Ok(()));
     assert_eq!(last(2, 2), Err(Refusal::Party));
@@ -126,6 +129,7 @@ fn of_counts() {
                 let mut out = vec![0; 3 * tau.min(600) as usize];
                 let input = ChallengeInput {
                     h_star: &[7; DIGEST_LEN],
+                    salt: &SALT,
                     circuit_digest: &[8; DIGEST_LEN],
                     y: &[1],
                     message: b"",
@@ -189,8 +193,8 @@ fn of_messages() {
     let counts = Counts { m: 4, tau: 1, n: 2 };
     let mut work = work();
     let mut prove = |message: &[u8]| {
-        let proof = &mut [0; 233];
-        prove(k(message), &[3], &[1; ROOT_LEN], counts, proof, &mut work)
+        let (root, proof) = (&[1; ROOT_LEN], &mut [0; 265]);
+        prove(k(message), &[3], root, &SALT, counts, proof, &mut work)
     };
     assert!(prove(&[7; MAX_MESSAGE]).is_ok());
     assert_eq!(prove(&[7; MAX_MESSAGE + 1]), Err(Refusal::Length));
@@ -201,11 +205,12 @@ fn of_messages() {
 #[test]
 fn of_a_shared_checker() {
     let counts = Counts { m: 4, tau: 1, n: 2 };
-    let mut proof = [0; 233];
+    let mut proof = [0; 265];
     let made = prove(
         k(b""),
         &[3],
         &[1; ROOT_LEN],
+        &SALT,
         counts,
         &mut proof,
         &mut work(),
@@ -243,11 +248,44 @@ fn of_a_shared_checker() {
     assert_eq!(answer, Err(Refusal::NoneWaiting));
 }
 
+/// Every call that is lent a salt.
+#[test]
+fn of_salts() {
+    let counts = Counts { m: 4, tau: 1, n: 2 };
+    let mut work = work();
+    let value = [1; ROOT_LEN];
+    let mut answers = |len: usize| {
+        let salt = &vec![7; len][..];
+        let input = ChallengeInput {
+            h_star: &[7; DIGEST_LEN],
+            salt,
+            circuit_digest: &[8; DIGEST_LEN],
+            y: &[1],
+            message: b"",
+        };
+        let (proof, work) = (&mut [0; 265], &mut work);
+        [
+            expand(0, 2, salt, &value, &mut [0; 2 * ROOT_LEN]),
+            open(0, 2, 1, salt, &value, &mut [0; ROOT_LEN]),
+            masters(2, salt, &value, &mut [0; 2 * ROOT_LEN]),
+            cover(2, &[1, 0], salt, &value, &mut [0; ROOT_LEN]),
+            challenge(4, 1, 2, input, &mut [0; 3]),
+            prove(k(b""), &[3], &value, salt, counts, proof, work).map(|_| ()),
+        ]
+    };
+    assert_eq!(answers(SALT_LEN), [Ok(()); 6]);
+    for len in [0, 1, SALT_LEN - 1, SALT_LEN + 1, 2 * SALT_LEN] {
+        assert_eq!(answers(len), [Err(Refusal::Length); 6], "{len}");
+    }
+}
+
 /// The chosen instances of a proof, as the challenge is filled: 3 bytes each.
 fn chosen(proof: &[u8], Counts { m, tau, n }: Counts, statement: Statement) -> Vec<u8> {
     let mut chosen = vec![0; 3 * tau as usize];
+    let (rest, salt) = proof[..PROOF_HEADER_LEN].split_at(PROOF_HEADER_LEN - SALT_LEN);
     let input = ChallengeInput {
-        h_star: &proof[PROOF_HEADER_LEN - DIGEST_LEN..PROOF_HEADER_LEN],
+        h_star: &rest[rest.len() - DIGEST_LEN..],
+        salt,
         circuit_digest: &sha3_256(statement.circuit),
         y: statement.y,
         message: statement.message,
@@ -262,7 +300,7 @@ fn opened(m: u32, chosen: &[u8]) -> u32 {
     let leaves = leaves.collect::<Vec<_>>().concat();
     let accepted = |nodes: &u32| {
         let mut out = vec![0; *nodes as usize * ROOT_LEN];
-        cover(m, &leaves, &[1; ROOT_LEN], &mut out).is_ok()
+        cover(m, &leaves, &SALT, &[1; ROOT_LEN], &mut out).is_ok()
     };
     let found: Vec<u32> = (0..=m).filter(accepted).collect();
     assert_eq!(found.len(), 1, "{found:?}");
@@ -277,16 +315,19 @@ fn lengths_of_proofs() {
         let counts = Counts { m, tau, n };
         let longest = longest_proof(sizes, counts).expect("legal counts");
         for seed in 0..8 {
-            let (root, message) = ([seed; ROOT_LEN], [seed]);
+            let (root, salt, message) = ([seed; ROOT_LEN], [seed; SALT_LEN], [seed]);
             let mut proof = vec![0; longest];
-            let mut prove =
-                |proof: &mut [u8]| prove(k(&message), &[3], &root, counts, proof, &mut work);
+            let mut prove = |proof: &mut [u8]| {
+                let statement = k(&message);
+                prove(statement, &[3], &root, &salt, counts, proof, &mut work)
+            };
             let short = prove(&mut proof[1..]);
             assert_eq!(short, Err(Refusal::Length), "{counts:?}");
             let len = prove(&mut proof).expect("room");
             proof.truncate(len);
             assert_eq!(check(k(&message), &proof, &mut work), Ok(()));
             assert_eq!(Counts::of_proof(&proof), Some(counts));
+            assert!(proof[..PROOF_HEADER_LEN].ends_with(&salt));
             let chosen = chosen(&proof, counts, k(&message));
             let is_last = |instance: &&[u8]| u32::from(instance[2]) == n - 1;
             let last = chosen.chunks(3).filter(is_last).count() as u32;
@@ -305,8 +346,8 @@ fn headers_of_proofs() {
     let fields = [0, 1, 2, 3, 4, 8, 16, 32, 255];
     for m in [[0, 0], [2, 0], [0, 2], [1, 2], [255, 255]] {
         for (tau, n) in fields.iter().flat_map(|&tau| fields.map(|n| (tau, n))) {
-            for (zero, len) in [(0, 38), (1, 38), (0, 37), (0, 6), (0, 5), (0, 0)] {
-                let mut proof = [5; 38];
+            for (zero, len) in [(0, 70), (1, 70), (0, 69), (0, 38), (0, 6), (0, 5), (0, 0)] {
+                let mut proof = [5; 70];
                 proof[..6].copy_from_slice(&[m[0], m[1], tau, 0, n, zero]);
                 let proof = &proof[..len];
                 let refused = check(k(b""), proof, &mut work) == Err(Refusal::ProofHeader);

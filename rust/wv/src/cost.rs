@@ -204,8 +204,8 @@ mod tests {
             gates: 1,
             ands: 1,
         };
-        assert_eq!(longest(k, counts(4, 1, 2)), 217);
-        assert_eq!(room(k, counts(4, 1, 2)), 233);
+        assert_eq!(longest(k, counts(4, 1, 2)), 249);
+        assert_eq!(room(k, counts(4, 1, 2)), 265);
     }
 
     #[test]
@@ -234,9 +234,9 @@ mod tests {
         let table = table(&[("covers16", COVERS)], &[row]);
         assert_eq!(table.lines().count(), 2 + 11);
         assert!(
-            table.contains("| 145 | 66 | 8 | 9740 | 1.3 | 1.0 |"),
+            table.contains("| 145 | 66 | 8 | 9772 | 1.3 | 1.0 |"),
             "{table}"
         );
-        assert!(table.contains("| 69 | 44 | 2 | 3834 | – | – |"), "{table}");
+        assert!(table.contains("| 69 | 44 | 2 | 3866 | – | – |"), "{table}");
     }
 }

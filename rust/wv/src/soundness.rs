@@ -83,7 +83,7 @@ mod tests {
     fn good_by_trying_all() {
         let bytes = |counts: Counts| {
             let tau = counts.tau as usize;
-            38 + 48 * (counts.m as usize - tau) + tau * (16 * counts.n.ilog2() as usize + 41)
+            70 + 48 * (counts.m as usize - tau) + tau * (16 * counts.n.ilog2() as usize + 41)
         };
         let good = good_counts(20.0, bytes);
         for height in 1..=MAX_PARTIES.ilog2() {

@@ -271,12 +271,12 @@ fn after_kill(folder: &Folder, proofs: &mut Vec<Vec<u8>>) {
     }
 }
 
-/// The length of a proof of K with M = 4, tau = 2, n = 2 by the paper's rule: 38, one
+/// The length of a proof of K with M = 4, tau = 2, n = 2 by the paper's rule: 70, one
 /// opened node of 16 or two, 32 · 2 and, for each chosen one, 16 + oct(A) + 32 +
 /// oct(I) + oct(A + O), without oct(A) where the last party is hidden. Its own length,
 /// if it is one of these.
 fn bytes_of_proof(proof: &[u8]) -> usize {
-    let longest: usize = 38 + 32 + 32 * 2 + 2 * (16 + 1 + 32 + 1 + 1);
+    let longest: usize = 70 + 32 + 32 * 2 + 2 * (16 + 1 + 32 + 1 + 1);
     match longest.checked_sub(proof.len()) {
         Some(0..=2 | 16..=18) => proof.len(),
         _ => longest,

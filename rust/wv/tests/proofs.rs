@@ -25,16 +25,16 @@ fn prove_small(folder: &Folder) {
     assert_eq!(made.text(), format!("proved {Y} in {len} bytes\n"));
 }
 
-/// 38 bytes of header; opened nodes of 16, 1 to 6 for 4 of 12; 8 instances of 32; 4
+/// 70 bytes of header; opened nodes of 16, 1 to 6 for 4 of 12; 8 instances of 32; 4
 /// chosen ones of 2 siblings of 16, 2 of corrections unless the last party is hidden,
-/// 32, 4 of masked inputs and 5 of the hidden row: 38 + 256 + 4 * 75 = 594 at most
+/// 32, 4 of masked inputs and 5 of the hidden row: 70 + 256 + 4 * 75 = 626 at most
 /// without the nodes.
 #[test]
 fn a_proof_is_made_and_accepted() {
     let folder = Folder::with_shelf("proof");
     prove_small(&folder);
     let len = folder.read("proof").len();
-    let by_nodes = |nodes: usize| [0, 2, 4, 6, 8].map(|saved| 594 + 16 * nodes - saved);
+    let by_nodes = |nodes: usize| [0, 2, 4, 6, 8].map(|saved| 626 + 16 * nodes - saved);
     assert!((1..=6).any(|nodes| by_nodes(nodes).contains(&len)), "{len}");
     ready(&folder, 2);
     assert_eq!(folder.draws(), 1);
@@ -117,7 +117,7 @@ fn refused_proofs() {
     assert_does_not_hold(&folder.wv(&format!("{line} {ORDER} --bits 0")));
     check("hex:f501", "a", &proof).refused(6, "--y has 2 bytes, the circuit asks for 3");
     check("hex:f50102", "a", &proof).refused(7, "--y has bits set behind its 17");
-    check("hex:f50100", "a", &proof[..37]).refused(11, "standard input is no proof");
+    check("hex:f50100", "a", &proof[..69]).refused(11, "standard input is no proof");
     check("hex:f50100", "a", b"").refused(11, "standard input is no proof");
     let mut zeroed = proof.clone();
     zeroed[5] = 1;
@@ -137,7 +137,7 @@ fn changed_proofs() {
     let cut = "cut: another y, message or circuit than the prover's, or a proof that was cut";
     check("cut", &proof[..proof.len() - 1]).refused(12, cut);
     check("long", &[&proof[..], &[0]].concat()).refused(12, "long: ");
-    for place in [6, 37, 38, proof.len() - 1] {
+    for place in [6, 37, 38, 69, 70, proof.len() - 1] {
         let mut changed = proof.clone();
         changed[place] ^= 1;
         assert_does_not_hold(&check("changed", &changed));
@@ -211,6 +211,10 @@ fn a_refusal_draws_no_root() {
     covers("row --y hex:f40100").refused(10, "the witness row gives f50100, and --y is f40100");
     covers("hex:f900fa00 --y hex:f50100")
         .refused(10, "the witness gives f40100, and --y is f50100");
+    let long = format!("hex:{}", "0a".repeat(33));
+    covers(&format!("row --salt {long}")).refused(6, "--salt has 33 bytes, a salt has 32");
+    covers("row --salt row").refused(6, "--salt row has 4 bytes, a salt has 32");
+    covers("row --salt hex:").refused(6, "--salt has 0 bytes, a salt has 32");
     prove("covers16.circuit row --message long")
         .refused(6, "--message long has 4097 bytes, at most 4096");
     ready(&folder, 3);

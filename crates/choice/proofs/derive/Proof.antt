@@ -19,12 +19,12 @@ array-borrow-prefix-flags : tie.Need-array-borrow-prefix-flags
 array-borrow-prefix-flags c = search needs
 
 slice-aggregate-choose-with : tie.Need-slice-aggregate-choose-with
-slice-aggregate-choose-with c = sym (length-same (c .before .before .before .before .before .before .before .args .m) 512 false (c .before .before .before .before .before .before .before .pre .0))
+slice-aggregate-choose-with c = sym (length-same (c .before .before .before .before .before .before .before .before .args .m) 512 false (c .before .before .before .before .before .before .before .before .pre .0))
 
 choose-with-requires : tie.Need-choose-with-requires
 choose-with-requires c κs =
-    let x = c .before .before .before .before .before .before .before .before .args in
-    let p = c .before .before .before .before .before .before .before .before .pre in
+    let x = c .before .before .before .before .before .before .before .before .before .args in
+    let p = c .before .before .before .before .before .before .before .before .before .pre in
     let n = length-same (x .m) 512 false (p .0) in
     (ready-start _ _ (c .before .before .stream .ensures), (omega (arith, n, p .0), (omega (arith, n, p .1 .0), (p .1 .1 .0, (p .1 .1 .1, all-free (x .m) 512 (p .0))))))
 
@@ -33,11 +33,11 @@ same-length c = search needs
 
 returns : tie.Need-returns
 returns c =
-    let x = c .before .before .before .before .before .before .before .before .before .before .before .before .args in
-    let n = length-same (x .m) 512 false (c .before .before .before .before .before .before .before .before .before .before .before .before .pre .0) in
+    let x = c .before .before .before .before .before .before .before .before .before .before .before .before .before .args in
+    let n = length-same (x .m) 512 false (c .before .before .before .before .before .before .before .before .before .before .before .before .before .pre .0) in
     let s = c .before .before .before .before .before .before .stream .result in
-    challenge-is (x .m) (x .tau) (x .n) (x .hstar .now) (boundOf (x .m) (x .tau) (x .n) (x .digest .now) (x .y .now) (x .message .now)) s (c .before .before .before .choose-with .last .1 .1 .1 .1 .0)
-    (λ i. c .before .before .before .before .before .before .before .before .before .before .before .shared-slice-known .given i .fits) (bytes-bound (x .m) (x .tau) (x .n) (x .digest .now) (x .y .now) (x .message .now) (λ i. c .before .before .before .before .before .before .before .before .before .before .shared-slice-known2 .given i .fits) (λ i. c .before .before .before .before .before .before .before .before .before .shared-slice-known3 .given i .fits) (λ i. c .before .before .before .before .before .before .before .before .shared-slice-known4 .given i .fits))
+    challenge-is (x .m) (x .tau) (x .n) (x .hstar .now) (boundOf (x .salt .now) (x .m) (x .tau) (x .n) (x .digest .now) (x .y .now) (x .message .now)) s (c .before .before .before .choose-with .last .1 .1 .1 .1 .0)
+    (λ i. c .before .before .before .before .before .before .before .before .before .before .before .before .shared-slice-known .given i .fits) (bytes-bound (x .salt .now) (x .m) (x .tau) (x .n) (x .digest .now) (x .y .now) (x .message .now) (λ i. c .before .before .before .before .before .before .before .before .before .before .before .shared-slice-known2 .given i .fits) (λ i. c .before .before .before .before .before .before .before .before .before .before .shared-slice-known3 .given i .fits) (λ i. c .before .before .before .before .before .before .before .before .before .shared-slice-known4 .given i .fits) (λ i. c .before .before .before .before .before .before .before .before .shared-slice-known5 .given i .fits))
     (c .before .before .before .before .before .before .stream .ensures)
     (c .before .before .before .choose-with .ensures ∙ ap (λ (M : ℕ). beside (instances M (x .tau) (squeezes 136 (9 * x .tau) s)) (hiddenParties (x .tau) (x .n) (squeezes 136 (9 * x .tau) s))) n)
 

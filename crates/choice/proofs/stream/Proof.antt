@@ -34,10 +34,10 @@ pad-requires c κs =
 returns : tie.Need-returns
 unfolding ready challengeInput
 returns c =
-    let x = c .before .before .before .before .before .before .before .before .before .args in
+    let x = c .before .before .before .before .before .before .before .before .before .before .args in
     let a = took-tag 136 6 _ _ (c .before .before .before .before .new .ensures) (c .before .before .before .absorb-byte .ensures) in
     let b = took-more 136 (x .hstar .now) _ a (c .before .before .absorb .ensures) in
-    let d = took-more 136 (boundOf (x .m) (x .tau) (x .n) (x .digest .now) (x .y .now) (x .message .now)) _ b (c .before .absorb-bound .ensures) in
+    let d = took-more 136 (boundOf (x .salt .now) (x .m) (x .tau) (x .n) (x .digest .now) (x .y .now) (x .message .now)) _ b (c .before .absorb-bound .ensures) in
     c .pad .ensures ∙ ap (padded 136 0x1f) (d .all)
 
 pub stream-spec : {M : Type 1} → statement M

@@ -1,4 +1,4 @@
--- `party::seed_row` meets its contract: the head is the tag, j and i.
+-- `party::seed_row` meets its contract: the head is j and i, after the tag and the salt.
 -- Assumes nothing.
 use Rattle.bits.specs.Bytes.{leBytes}
 use Rattle.keccak.specs.Sponge.{shake128}
@@ -9,17 +9,20 @@ use borrow.Author.Needs.{needs}
 use Rattle.party.proofs.seed_row.Statement.{statement}
 use Rattle.party.proofs.seed_row.Tie as tie
 
-cast-t7 : tie.Need-cast-t7
-cast-t7 c = search needs
-
-cast-t10 : tie.Need-cast-t10
-cast-t10 c = search needs
+cast-t9 : tie.Need-cast-t9
+cast-t9 c = search needs
 
 cast-t12 : tie.Need-cast-t12
 cast-t12 c = search needs
 
+cast-t14 : tie.Need-cast-t14
+cast-t14 c = search needs
+
 slice-aggregate-shake128 : tie.Need-slice-aggregate-shake128
 slice-aggregate-shake128 c = search needs
+
+slice-aggregate-shake128-2 : tie.Need-slice-aggregate-shake128-2
+slice-aggregate-shake128-2 c = search needs
 
 shake128-requires : tie.Need-shake128-requires
 shake128-requires c κs = search needs
@@ -29,16 +32,17 @@ same-length c = search needs
 
 returns : tie.Need-returns
 unfolding seedRow leafInput leBytes
-returns c = c .before .before .shake128 .ensures ∙ ap (shake128 _) (c .before .before .before .before .before .before .before .pre)
+returns c = c .before .before .shake128 .ensures ∙ ap (shake128 _) (c .before .before .before .before .before .before .before .before .before .pre)
 
 pub seed-row-spec : {M : Type 1} → statement M
 seed-row-spec =
     tie.close
     (tie.spec
-    cast-t7
-    cast-t10
+    cast-t9
     cast-t12
+    cast-t14
     slice-aggregate-shake128
+    slice-aggregate-shake128-2
     shake128-requires
     same-length
     returns)

@@ -24,7 +24,7 @@ work-bytes-requires : tie.Need-work-bytes-requires
 work-bytes-requires c κs = known-few _ _ (opened _ _ _ (c .before .answer2 .given .1) (c .before .before .before .read .ensures))
 
 returns : tie.Need-returns
-returns c = prove-short _ _ _ _ _ _ _ _ _ _ _ (c .before .before .before .before .before .read .ensures) _ (c .before .before .before .answer2 .given .1) _ (c .before .work-bytes .ensures) (c .if1 .taken)
+returns c = prove-short _ _ _ _ _ _ _ _ _ _ _ _ (c .before .before .before .before .before .read .ensures) _ (c .before .before .before .answer2 .given .1) _ (c .before .work-bytes .ensures) (c .if1 .taken)
 
 prove-lent-requires : tie.Need-prove-lent-requires
 prove-lent-requires c κs = (opened-legal _ _ _ (c .before .before .before .before .before .answer2 .given .1) (c .before .before .before .before .before .before .before .read .ensures), (opened _ _ _ (c .before .before .before .before .before .answer2 .given .1) (c .before .before .before .before .before .before .before .read .ensures), omega (arith, c .before .before .before .work-bytes .ensures, c .before .before .if1 .left)))
@@ -33,7 +33,7 @@ clear-requires : tie.Need-clear-requires
 clear-requires c κs = search needs
 
 returns-2 : tie.Need-returns-2
-returns-2 c = prove-refused _ _ _ _ _ _ _ _ _ _ _ (c .before .before .before .read .ensures) _ (c .before .answer .given .1)
+returns-2 c = prove-refused _ _ _ _ _ _ _ _ _ _ _ _ (c .before .before .before .read .ensures) _ (c .before .answer .given .1)
 
 same-length : tie.Need-same-length
 same-length c = search needs
@@ -42,7 +42,7 @@ same-length-2 : tie.Need-same-length-2
 same-length-2 c = search needs
 
 returns-3 : tie.Need-returns-3
-returns-3 c = prove-left _ _ _ _ _ _ _ _ _ _ _ (c .before .before .before .before .before .before .before .before .before .before .before .before .before .before .before .before .read .ensures) _ (c .before .before .before .before .before .before .before .before .before .before .before .before .before .before .answer2 .given .1) _ (c .before .before .before .before .before .before .before .before .before .before .before .before .work-bytes .ensures) (c .before .before .before .before .before .before .before .before .before .before .before .if1 .left) (c .before .before .before .before .before .before .before .before .prove-lent .result) _ (c .before .before .before .before .before .before .before .before .prove-lent .ensures) _ (c .before .before .clear .ensures ∙ ap (λ (k : ℕ). replicate k 0) (c .before .before .before .before .before .before .before .before .prove-lent .kept .1 .1 .1 .1 .1 .1 .1 .1 .1 .1 .0))
+returns-3 c = prove-left _ _ _ _ _ _ _ _ _ _ _ _ (c .before .before .before .before .before .before .before .before .before .before .before .before .before .before .before .before .read .ensures) _ (c .before .before .before .before .before .before .before .before .before .before .before .before .before .before .answer2 .given .1) _ (c .before .before .before .before .before .before .before .before .before .before .before .before .work-bytes .ensures) (c .before .before .before .before .before .before .before .before .before .before .before .if1 .left) (c .before .before .before .before .before .before .before .before .prove-lent .result) _ (c .before .before .before .before .before .before .before .before .prove-lent .ensures) _ (c .before .before .clear .ensures ∙ ap (λ (k : ℕ). replicate k 0) (c .before .before .before .before .before .before .before .before .prove-lent .kept .1 .1 .1 .1 .1 .1 .1 .1 .1 .1 .1 .0))
 
 pub prove-spec : {M : Type 1} → statement M
 prove-spec =

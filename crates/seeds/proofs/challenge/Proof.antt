@@ -27,7 +27,7 @@ height-requires c κs = search needs
 returns-2 : tie.Need-returns-2
 unfolding challengeOp
 returns-2 c =
-    let x = c .before .before .before .before .before .before .before .before .before .args in
+    let x = c .before .before .before .before .before .before .before .before .before .before .args in
     rw ((sym (c .before .before .before .counts .ensures) ∙ not-false _ (c .before .before .if1 .left)), count-no (x .n) (sym (c .before .height .ensures) ∙ c .if2 .taken))
 
 statement-fits-requires : tie.Need-statement-fits-requires
@@ -36,7 +36,7 @@ statement-fits-requires c κs = search needs
 returns-3 : tie.Need-returns-3
 unfolding challengeOp
 returns-3 c =
-    let x = c .before .before .before .before .before .before .before .before .before .before .before .args in
+    let x = c .before .before .before .before .before .before .before .before .before .before .before .before .args in
     rw ((sym (c .before .before .before .before .before .counts .ensures) ∙ not-false _ (c .before .before .before .before .if1 .left)), count-yes (x .n) (λ e. c .before .before .if2 .left (c .before .before .before .height .ensures ∙ e)), (sym (c .before .statement-fits .ensures) ∙ not-true _ (c .if3 .taken)))
 
 mul-if4 : tie.Need-mul-if4
@@ -45,17 +45,17 @@ mul-if4 c = search needs
 returns-4 : tie.Need-returns-4
 unfolding challengeOp
 returns-4 c =
-    let x = c .before .before .before .before .before .before .before .before .before .before .before .before .args in
+    let x = c .before .before .before .before .before .before .before .before .before .before .before .before .before .args in
     rw ((sym (c .before .before .before .before .before .before .counts .ensures) ∙ not-false _ (c .before .before .before .before .before .if1 .left)), count-yes (x .n) (λ e. c .before .before .before .if2 .left (c .before .before .before .before .height .ensures ∙ e)), (sym (c .before .before .statement-fits .ensures) ∙ not-false _ (c .before .if3 .left)), ne-eqb (length (x .out .now)) (3 * x .tau) (c .if4 .taken))
 
 cast-derive : tie.Need-cast-derive
 cast-derive c =
-    let z = sizes (c .before .before .before .before .before .before .before .before .before .before .before .before .args .n) (λ e. c .before .before .before .if2 .left (c .before .before .before .before .height .ensures ∙ e)) in
+    let z = sizes (c .before .before .before .before .before .before .before .before .before .before .before .before .before .args .n) (λ e. c .before .before .before .if2 .left (c .before .before .before .before .height .ensures ∙ e)) in
     record { fits = omega arith }
 
 derive-requires : tie.Need-derive-requires
 derive-requires c κs =
-    let x = c .before .before .before .before .before .before .before .before .before .before .before .before .before .args in
+    let x = c .before .before .before .before .before .before .before .before .before .before .before .before .before .before .args in
     let z = sizes (x .n) (λ e. c .before .before .before .before .if2 .left (c .before .before .before .before .before .height .ensures ∙ e)) in
     let f = counts-fit (x .m) (x .tau) (sym (c .before .before .before .before .before .before .before .counts .ensures) ∙ not-false _ (c .before .before .before .before .before .before .if1 .left)) in
     (f .most, (f .below, (omega arith, omega (arith, c .before .if4 .left))))
@@ -66,7 +66,7 @@ same-length c = search needs
 returns-5 : tie.Need-returns-5
 unfolding challengeOp
 returns-5 c =
-    let x = c .before .before .before .before .before .before .before .before .before .before .before .before .before .before .before .before .args in
+    let x = c .before .before .before .before .before .before .before .before .before .before .before .before .before .before .before .before .before .args in
     rw ((sym (c .before .before .before .before .before .before .before .before .before .before .counts .ensures) ∙ not-false _ (c .before .before .before .before .before .before .before .before .before .if1 .left)), count-yes (x .n) (λ e. c .before .before .before .before .before .before .before .if2 .left (c .before .before .before .before .before .before .before .before .height .ensures ∙ e)), (sym (c .before .before .before .before .before .before .statement-fits .ensures) ∙ not-false _ (c .before .before .before .before .before .if3 .left)), eq-eqb (length (x .out .now)) (3 * x .tau) (omega (arith, c .before .before .before .before .if4 .left)))
     (ap (λ (o : List ℕ). done (o ∷ [])) (c .before .before .derive .ensures))
 

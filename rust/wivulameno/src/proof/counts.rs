@@ -105,10 +105,10 @@ mod tests {
 
     #[test]
     fn of_a_header() {
-        let mut proof = [7; 38];
+        let mut proof = [7; 70];
         proof[..6].copy_from_slice(&[145, 0, 66, 0, 8, 0]);
         assert_eq!(Counts::of_proof(&proof), Some(counts(145, 66, 8)));
-        assert_eq!(Counts::of_proof(&proof[..37]), None);
+        assert_eq!(Counts::of_proof(&proof[..69]), None);
         assert_eq!(Counts::of_proof(&[]), None);
         for (place, value) in [(0, 66), (1, 2), (3, 1), (4, 9), (5, 1)] {
             let mut other = proof;

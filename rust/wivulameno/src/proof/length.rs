@@ -15,7 +15,7 @@ use crate::limits::{DIGEST_LEN, PROOF_HEADER_LEN, ROOT_LEN};
 ///
 /// let sizes = Sizes { inputs: 32, outputs: 17, gates: 63, ands: 16 };
 /// let counts = Counts { m: 145, tau: 66, n: 8 };
-/// assert_eq!(longest_proof(sizes, counts), Some(9836));
+/// assert_eq!(longest_proof(sizes, counts), Some(9868));
 /// ```
 pub const fn longest_proof(sizes: Sizes, counts: Counts) -> Option<usize> {
     proof_len(sizes, counts, counts.m.saturating_sub(counts.tau), 0)
@@ -108,14 +108,14 @@ mod tests {
         Counts { m, tau, n }
     }
 
-    /// m10 of the paper: 217 bytes if p = 0, 216 if p = 1. Two nodes are opened, and
+    /// m10 of the paper: 249 bytes if p = 0, 248 if p = 1. Two nodes are opened, and
     /// the room is for three.
     #[test]
     fn the_marked_case() {
-        assert_eq!(longest_proof(K, counts(4, 1, 2)), Some(233));
-        assert_eq!(proof_len(K, counts(4, 1, 2), 3, 0), Some(233));
-        assert_eq!(proof_len(K, counts(4, 1, 2), 2, 0), Some(217));
-        assert_eq!(proof_len(K, counts(4, 1, 2), 2, 1), Some(216));
+        assert_eq!(longest_proof(K, counts(4, 1, 2)), Some(265));
+        assert_eq!(proof_len(K, counts(4, 1, 2), 3, 0), Some(265));
+        assert_eq!(proof_len(K, counts(4, 1, 2), 2, 0), Some(249));
+        assert_eq!(proof_len(K, counts(4, 1, 2), 2, 1), Some(248));
         assert_eq!(proof_len(K, counts(4, 1, 2), 2, 2), None);
         assert_eq!(proof_len(K, counts(4, 1, 2), 4, 0), None);
     }
@@ -137,10 +137,10 @@ mod tests {
         }
     }
 
-    /// By hand: 38 + 48 + 511 (64 + 12,500 + 32 + 64 + 12,532).
+    /// By hand: 70 + 48 + 511 (64 + 12,500 + 32 + 64 + 12,532).
     #[test]
     fn the_longest_of_all() {
-        assert_eq!(MAX_PROOF, 12_873_198);
+        assert_eq!(MAX_PROOF, 12_873_230);
     }
 
     #[test]

@@ -112,8 +112,8 @@ mod measuring {
         let mut work = Work::for_sizes(sizes);
         let mut bytes = 0;
         let prove_time = best(|| {
-            let root = &[0x5a; 16];
-            let made = prove(statement, &witness, root, counts, &mut proof, &mut work);
+            let (root, salt, out) = (&[0x5a; 16], &[0xa5; 32], &mut proof);
+            let made = prove(statement, &witness, root, salt, counts, out, &mut work);
             bytes = made.expect("no refusal");
         });
         let proof = &proof[..bytes];

@@ -168,6 +168,7 @@ mod proof {
     use wivulameno::proof::{check, prove, Counts, Statement};
     use wivulameno::Work;
     use wv::cost::{bits_shown, room, USUAL};
+    use wv::fresh;
 
     const MESSAGE: &[u8] = b"order 4711 of 15 November";
 
@@ -178,7 +179,8 @@ mod proof {
             message: MESSAGE,
         };
         let Counts { m, tau, n } = USUAL;
-        println!("The proof, with M {m}, tau {tau}, n {n}.");
+        println!("The proof, with M {m}, tau {tau}, n {n}, and a new salt.");
+        let salt = fresh::salt().map_err(|failure| failure.to_string())?;
         let mut proof = vec![0; room(sizes(&example.circuit)?, USUAL)];
         let start = Instant::now();
         let mut work = Work::for_circuit(&example.circuit)?;
@@ -186,6 +188,7 @@ mod proof {
             statement,
             &example.witness,
             root,
+            &salt,
             USUAL,
             &mut proof,
             &mut work,

@@ -1,7 +1,7 @@
 //! Which argument a refusal is about.
 
 use crate::names::counted;
-use wivulameno::limits::{MAX_INSTANCES, MAX_MESSAGE};
+use wivulameno::limits::{MAX_INSTANCES, MAX_MESSAGE, SALT_LEN};
 use wivulameno::proof::Counts;
 
 /// Bits that were packed into bytes, one of them for each input or output of a
@@ -38,6 +38,12 @@ pub fn message(name: &str, message: &[u8]) -> Option<String> {
     (len > MAX_MESSAGE).then(|| format!("{name} has {len} bytes, at most {MAX_MESSAGE}"))
 }
 
+/// What is wrong with a salt's length.
+pub fn salt(name: &str, salt: &[u8]) -> Option<String> {
+    let found = counted(salt.len() as u64, "byte");
+    (salt.len() != SALT_LEN).then(|| format!("{name} has {found}, a salt has {SALT_LEN}"))
+}
+
 /// What is wrong with the numbers of a proof.
 pub fn counts(counts: Counts) -> Option<String> {
     let Counts { m, tau, n } = counts;
@@ -69,6 +75,15 @@ mod tests {
         assert_eq!(packed(&[1, 2, 2], 17).unused().unwrap(), set);
         assert_eq!(packed(&[1, 0xff], 16).unused(), None);
         assert_eq!(packed(&[], 3).unused(), None);
+    }
+
+    #[test]
+    fn lengths_of_a_salt() {
+        assert_eq!(salt("--salt", &[0; 32]), None);
+        let short = "--salt has 31 bytes, a salt has 32";
+        assert_eq!(salt("--salt", &[0; 31]).unwrap(), short);
+        let one = "--salt has 1 byte, a salt has 32";
+        assert_eq!(salt("--salt", &[0]).unwrap(), one);
     }
 
     #[test]

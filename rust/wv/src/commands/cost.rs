@@ -98,7 +98,8 @@ impl Row {
         let mut work = Work::for_sizes(sizes);
         let mut len = 0;
         let prove_time = best(|| {
-            let made = prove(statement, &witness, &[0; 16], counts, &mut proof, &mut work);
+            let (root, salt, out) = (&[0; 16], &[0; 32], &mut proof);
+            let made = prove(statement, &witness, root, salt, counts, out, &mut work);
             len = made.expect("no refusal");
         });
         let proof = &proof[..len];

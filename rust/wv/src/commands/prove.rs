@@ -8,6 +8,7 @@ use super::Command;
 use crate::args::Args;
 use crate::cost::USUAL;
 use crate::failure::{tell, Failure};
+use crate::fresh;
 use crate::input::{to_hex, Input};
 use crate::output::{Taken, Target};
 use crate::progress::Progress;
@@ -18,19 +19,23 @@ use wivulameno::{Refusal, Work};
 pub const PROVE: Command = Command {
     name: "prove",
     usage: "CIRCUIT WITNESS --shelf PAGE --log LOG --message MESSAGE --out PROOF
-         [--y Y] [--instances M] [--chosen TAU] [--parties N] [--wait SECONDS]",
+         [--y Y] [--salt SALT] [--instances M] [--chosen TAU] [--parties N]
+         [--wait SECONDS]",
     about: "Make a proof with a root from a shelf.",
     help: "\
 Proves that the circuit gives y for the witness, without showing more of it.
 One root is drawn from the shelf for the proof. A call that would be refused
 draws none. The proof is bound to the circuit file, y and the message: whoever
-checks it needs the same bytes of all three.
+checks it needs the same bytes of all three. The salt stands in the proof.
 
   --shelf PAGE       the shelf, and
   --log LOG          the file that counts its draws
   --message MESSAGE  up to 4096 bytes
   --out PROOF        where the proof goes
   --y Y              the claimed output; without it, what the circuit gives
+  --salt SALT        32 bytes, which the hashes of trees, tapes and commitments
+                     take and the proof shows; without it, new ones from
+                     /dev/urandom, as it should be
   --instances M      2 to 512, usually 145
   --chosen TAU       1 to M - 1, usually 66
   --parties N        2, 4, 8 or 16, usually 8
@@ -64,6 +69,7 @@ stocking or proof that meets a page ahead writes that into the log, for good.
         "message",
         "out",
         "y",
+        "salt",
         "instances",
         "chosen",
         "parties",
@@ -110,6 +116,8 @@ struct Wish {
     message: Input,
     claimed: Option<Input>,
     y: Vec<u8>,
+    given_salt: Option<Input>,
+    salt: Vec<u8>,
     counts: Counts,
 }
 
@@ -124,9 +132,17 @@ impl Wish {
         let witness = args.input(args.place(1))?;
         let claimed = args.option("y").map(|y| args.input(y)).transpose()?;
         let message = args.input(args.needed("message")?)?;
+        let given_salt = args
+            .option("salt")
+            .map(|salt| args.input(salt))
+            .transpose()?;
         let y = match &claimed {
             Some(claimed) => claimed.bytes.clone(),
             None => circuit.outputs(&witness)?,
+        };
+        let salt = match &given_salt {
+            Some(given) => given.bytes.clone(),
+            None => fresh::salt()?,
         };
         Ok(Wish {
             circuit,
@@ -134,6 +150,8 @@ impl Wish {
             message,
             claimed,
             y,
+            given_salt,
+            salt,
             counts,
         })
     }
@@ -146,6 +164,9 @@ impl Wish {
         take("the message", &self.message);
         if let Some(claimed) = &self.claimed {
             take("the claimed output", claimed);
+        }
+        if let Some(salt) = &self.given_salt {
+            take("the salt", salt);
         }
         taken
     }
@@ -165,8 +186,8 @@ impl Wish {
         proof: &mut [u8],
         work: &mut Work,
     ) -> Result<usize, Refusal> {
-        let witness = &self.witness.bytes;
-        proof::prove(self.statement(), witness, root, counts, proof, work)
+        let (witness, salt) = (&self.witness.bytes, &self.salt);
+        proof::prove(self.statement(), witness, root, salt, counts, proof, work)
     }
 
     /// Room for a proof; none for counts that are out of the limits.
@@ -199,10 +220,12 @@ impl Wish {
         let y = self.circuit.output(name, &self.y);
         let cause = match refusal {
             Refusal::Counts => causes::counts(self.counts),
-            Refusal::Length => witness.length().or_else(|| y.length()).or_else(|| {
+            Refusal::Length => {
+                let lengths = witness.length().or_else(|| y.length());
                 let name = self.message.titled("--message");
-                causes::message(&name, &self.message.bytes)
-            }),
+                let message = || causes::message(&name, &self.message.bytes);
+                lengths.or_else(message).or_else(|| self.salt_cause())
+            }
             Refusal::UnusedBits => witness.unused().or_else(|| y.unused()),
             Refusal::Output => self.circuit.outputs(&self.witness).ok().map(|outputs| {
                 let [given, claimed] = [to_hex(&outputs), to_hex(&self.y)];
@@ -211,6 +234,12 @@ impl Wish {
             _ => None,
         };
         cause.unwrap_or_default()
+    }
+
+    /// What is wrong with the salt that was given.
+    fn salt_cause(&self) -> Option<String> {
+        let given = self.given_salt.as_ref()?;
+        causes::salt(&given.titled("--salt"), &given.bytes)
     }
 
     /// Says so if a buyer will not be content with these counts.

@@ -51,7 +51,7 @@ calls t = (
 )
 
 from-above-returns : (t : ℕ) → from-above-lts.Need-returns (calls t) (from-above-at t) from-above.Post
-from-above-returns t c = above-end (openedBy (c .before .before .before .args .marks .now)) (c .before .before .before .args .values .now) (c .before .before .before .args .d) (c .before .before .before .args .x) (c .if1 .taken)
+from-above-returns t c = above-end (c .before .before .before .args .tree) (openedBy (c .before .before .before .args .marks .now)) (c .before .before .before .args .values .now) (c .before .before .before .args .d) (c .before .before .before .args .x) (c .if1 .taken)
 
 from-above-is-opened-requires : (t : ℕ) → from-above-lts.Need-is-opened-requires (calls t) (from-above-at t) from-above.Post
 from-above-is-opened-requires t c κs = c .before .before .before .pre .1 .1 .0
@@ -69,7 +69,7 @@ from-above-copy-requires : (t : ℕ) → from-above-lts.Need-copy-requires (call
 from-above-copy-requires t c κs = sym (ap length (c .before .row .ensures) ∙ row-length (c .before .before .before .before .before .before .before .before .args .values .now) 16 (c .before .before .opened-before .result) (value-inside (c .before .before .before .before .before .before .before .before .args .marks .now) (c .before .before .before .before .before .before .before .before .args .values .now) (c .before .before .before .before .before .before .before .before .args .x) (c .before .before .opened-before .result) (c .before .before .opened-before .ensures) (c .before .before .before .before .before .before .before .before .pre .1 .1 .0) (c .before .before .before .before .before .before .before .before .pre .1 .0) (sym (c .before .before .before .before .is-opened .ensures) ∙ c .before .before .before .if2 .taken)))
 
 from-above-returns-2 : (t : ℕ) → from-above-lts.Need-returns-2 (calls t) (from-above-at t) from-above.Post
-from-above-returns-2 t c = above-opened (openedBy (c .before .before .before .before .before .before .before .before .before .before .args .marks .now)) (c .before .before .before .before .before .before .before .before .before .before .args .values .now) (c .before .before .before .before .before .before .before .before .before .before .args .d) (c .before .before .before .before .before .before .before .before .before .before .args .x) (c .before .before .before .before .before .before .before .if1 .left) _ (sym (c .before .before .before .before .before .before .is-opened .ensures) ∙ c .before .before .before .before .before .if2 .taken) (c .before .copy .ensures ∙ (c .before .before .before .row .ensures ∙ ap (rowOf (c .before .before .before .before .before .before .before .before .before .before .args .values .now) 16) (c .before .before .before .before .opened-before .ensures)))
+from-above-returns-2 t c = above-opened (c .before .before .before .before .before .before .before .before .before .before .args .tree) (openedBy (c .before .before .before .before .before .before .before .before .before .before .args .marks .now)) (c .before .before .before .before .before .before .before .before .before .before .args .values .now) (c .before .before .before .before .before .before .before .before .before .before .args .d) (c .before .before .before .before .before .before .before .before .before .before .args .x) (c .before .before .before .before .before .before .before .if1 .left) _ (sym (c .before .before .before .before .before .before .is-opened .ensures) ∙ c .before .before .before .before .before .if2 .taken) (c .before .copy .ensures ∙ (c .before .before .before .row .ensures ∙ ap (rowOf (c .before .before .before .before .before .before .before .before .before .before .args .values .now) 16) (c .before .before .before .before .opened-before .ensures)))
 
 from-above-sub-from-above : (t : ℕ) → from-above-lts.Need-sub-from-above (calls t) (from-above-at t) from-above.Post
 from-above-sub-from-above t c = omega (arith, c .before .before .if1 .left)
@@ -81,7 +81,7 @@ from-above-child-requires : (t : ℕ) → from-above-lts.Need-child-requires (ca
 from-above-child-requires t c κs = omega (arith, c .before .before .before .before .before .before .pre .1 .1 .0, c .before .before .before .before .before .before .pre .1 .1 .1)
 
 from-above-returns-3 : (t : ℕ) → from-above-lts.Need-returns-3 (calls t) (from-above-at t) from-above.Post
-from-above-returns-3 t c = above-child (openedBy (c .before .before .before .before .before .before .before .args .marks .now)) (c .before .before .before .before .before .before .before .args .values .now) (c .before .before .before .before .before .before .before .args .d) (c .before .before .before .before .before .before .before .args .x) (c .before .before .before .before .if1 .left) _ _ (sym (c .before .before .before .is-opened .ensures) ∙ c .before .before .if2 .left) (c .before .from-above .ensures) (c .child .ensures)
+from-above-returns-3 t c = above-child (c .before .before .before .before .before .before .before .args .tree) (openedBy (c .before .before .before .before .before .before .before .args .marks .now)) (c .before .before .before .before .before .before .before .args .values .now) (c .before .before .before .before .before .before .before .args .d) (c .before .before .before .before .before .before .before .args .x) (c .before .before .before .before .if1 .left) _ _ (sym (c .before .before .before .is-opened .ensures) ∙ c .before .before .if2 .left) (c .before .from-above .ensures) (c .child .ensures)
 
 pub +from-above-spec : {M : Type 1} → statement M
 +from-above-spec = close μ-from-above λ t. from-above-lts.spec (calls t)

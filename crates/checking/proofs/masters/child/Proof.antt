@@ -21,7 +21,7 @@ copy-requires c κs =
     sym (ap length (c .before .row .ensures) ∙ row-length (c .before .before .before .before .children .last .1 .1 .1 .0) 16 (c .before .before .before .before .before .before .before .args .x % 2) (omega (arith, c .before .before .before .before .children .kept .1 .1 .1 .0)))
 
 returns : tie.Need-returns
-returns c = c .before .copy .ensures ∙ (c .before .before .before .row .ensures ∙ child-row (c .before .before .before .before .before .before .before .before .before .args .x) _ _ (c .before .before .before .before .before .before .children .ensures))
+returns c = c .before .copy .ensures ∙ (c .before .before .before .row .ensures ∙ child-row (c .before .before .before .before .before .before .before .before .before .args .tree) (c .before .before .before .before .before .before .before .before .before .args .x) _ _ (c .before .before .before .before .before .before .children .ensures))
 
 slice-aggregate-children : tie.Need-slice-aggregate-children
 slice-aggregate-children c = search needs

@@ -33,7 +33,7 @@ from-above-requires c κs =
     (c .before .before .before .before .before .pre .1 .1 .1, (omega (arith, w, c .before .before .before .before .before .pre .1 .1 .0), omega (arith, w, c .before .before .before .before .before .pre .1 .1 .0)))
 
 returns-2 : tie.Need-returns-2
-returns-2 c = master-path _ _ _ _ _ _ _ _ (c .before .before .before .if1 .left) (c .before .before .height .ensures) (c .before .leaves .ensures) (c .from-above .ensures)
+returns-2 c = master-path _ _ _ _ _ _ _ _ _ (c .before .before .before .if1 .left) (c .before .before .height .ensures) (c .before .leaves .ensures) (c .from-above .ensures)
 
 pub master-of-spec : {M : Type 1} → statement M
 master-of-spec =

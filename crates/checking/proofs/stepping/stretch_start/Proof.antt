@@ -14,7 +14,7 @@ use Rattle.checking.proofs.stepping.stretch_start.Tie as tie
 
 abbrev Inv-loop : tie.InvT-loop
 Inv-loop s table proof marks j z k at₀ i₀ at i =
-    (i ≤ j) × ((at ≤ 16422 + maxStretch * i) × (at ≡ stretchStart (circuitOf s) (k .instances) (k .parties) (asksIn (k .parties) table) i))
+    (i ≤ j) × ((at ≤ 16454 + maxStretch * i) × (at ≡ stretchStart (circuitOf s) (k .instances) (k .parties) (asksIn (k .parties) table) i))
 
 abbrev μ-loop : tie.MeasureT-loop
 μ-loop s table proof marks j z k at₀ i₀ at i = j - i

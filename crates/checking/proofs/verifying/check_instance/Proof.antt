@@ -18,7 +18,7 @@ slice-aggregate-copy c = search needs
 copy-requires : tie.Need-copy-requires
 copy-requires c κs =
     let x = c .before .before .before .before .before .before .before .before .before .before .before .args in
-    open-online (circuitOf (x .s .now)) (x .inst .parties) (x .inst .number) (x .p) (x .y .now) (x .master .now) (x .part .now) (c .before .before .before .before .before .if1 .taken) (c .before .before .before .before .before .before .before .before .before .before .before .pre .1 .1 .1 .0)
+    open-online (circuitOf (x .s .now)) (x .inst .parties) (x .inst .context) (x .p) (x .y .now) (x .master .now) (x .part .now) (c .before .before .before .before .before .if1 .taken) (c .before .before .before .before .before .before .before .before .before .before .before .pre .1 .1 .1 .0)
 
 same-length : tie.Need-same-length
 same-length c = search needs
@@ -29,20 +29,20 @@ same-length-2 c = search needs
 returns : tie.Need-returns
 returns c =
     let x = c .before .before .before .before .before .before .before .before .before .before .before .before .before .args in
-    open-answer (circuitOf (x .s .now)) (x .inst .parties) (x .inst .number) (x .p) (x .y .now) (x .master .now) (x .part .now) (c .before .before .before .before .before .before .before .if1 .taken) (c .before .before .before .before .before .reopen .result) (c .before .copy .last .1 .0)
+    open-answer (circuitOf (x .s .now)) (x .inst .parties) (x .inst .context) (x .p) (x .y .now) (x .master .now) (x .part .now) (c .before .before .before .before .before .before .before .if1 .taken) (c .before .before .before .before .before .reopen .result) (c .before .copy .last .1 .0)
     (c .before .before .before .before .before .reopen .ensures) (c .before .copy .ensures)
 
 replay-requires : tie.Need-replay-requires
 replay-requires c κs =
     let x = c .before .before .before .before .before .before .before .args in
     let q = c .before .before .before .before .before .before .before .pre in
-    (q .0, (omega (arith, q .1 .0, c .before .if1 .left), (hidden-size (circuitOf (x .s .now)) (x .inst .parties) (x .inst .number) (x .p) (x .y .now) (x .master .now) (x .part .now) (c .before .if1 .left) (q .1 .1 .1 .0), hidden-unused (circuitOf (x .s .now)) (x .inst .parties) (x .inst .number) (x .p) (x .y .now) (x .master .now) (x .part .now) (c .before .if1 .left) (q .1 .1 .1 .1))))
+    (q .0, (omega (arith, q .1 .0, c .before .if1 .left), (hidden-size (circuitOf (x .s .now)) (x .inst .parties) (x .inst .context) (x .p) (x .y .now) (x .master .now) (x .part .now) (c .before .if1 .left) (q .1 .1 .1 .0), hidden-unused (circuitOf (x .s .now)) (x .inst .parties) (x .inst .context) (x .p) (x .y .now) (x .master .now) (x .part .now) (c .before .if1 .left) (q .1 .1 .1 .1))))
 
 returns-2 : tie.Need-returns-2
 returns-2 c =
     let x = c .before .before .before .before .before .before .before .before .before .before .args in
     let r = c .before .before .replay .result in
-    hidden-answer (circuitOf (x .s .now)) (x .inst .parties) (x .inst .number) (x .p) (x .y .now) (x .master .now) (x .part .now) (c .before .before .before .before .if1 .left) (r .agrees) (r .commitments) (r .online)
+    hidden-answer (circuitOf (x .s .now)) (x .inst .parties) (x .inst .context) (x .p) (x .y .now) (x .master .now) (x .part .now) (c .before .before .before .before .if1 .left) (r .agrees) (r .commitments) (r .online)
     (c .before .before .replay .ensures)
 
 pub check-instance-spec : {M : Type 1} → statement M

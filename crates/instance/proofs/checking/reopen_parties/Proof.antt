@@ -111,7 +111,7 @@ returns c =
       (
         filled-tapes _ _ _ l (c .before .before .before .before .before .before .before .hold-opened .last .1 .1 .1 .1 .1 .0) k _ _ a r y f _ (tapes-shown _ _ _ _ _ (p .0 .tree) (p .1 .0) (x .part .now) _ (e .1)),
         filled-corrections _ (x .inst .parties) _ l (c .before .before .before .before .before .before .before .hold-opened .last .1 .1 .1 .1 .1 .0) k _ _ a r y f
-            ∙ corrections-zero _ _ _ _ _ (p .0 .known) (x .inst .parties) _ (x .inst .number) (x .p) (p .0 .tree) (x .part .now) (p .1 .1) _ _ (c .before .before .before .before .if1 .taken) t (c .before .before .clear .ensures),
+            ∙ corrections-zero _ _ _ _ _ (p .0 .known) (x .inst .parties) _ (x .inst .context) (x .p) (p .0 .tree) (x .part .now) (p .1 .1) _ _ (c .before .before .before .before .if1 .taken) t (c .before .before .clear .ensures),
       ),
     )
 
@@ -133,7 +133,7 @@ returns-2 c =
       (
         filled-tapes _ _ _ l (c .before .before .before .before .before .before .before .before .before .hold-opened .last .1 .1 .1 .1 .1 .0) k _ _ a r y f _ (tapes-shown _ _ _ _ _ (p .0 .tree) (p .1 .0) (x .part .now) _ (e .1)),
         filled-corrections _ (x .inst .parties) _ l (c .before .before .before .before .before .before .before .before .before .hold-opened .last .1 .1 .1 .1 .1 .0) k _ _ a r y f
-            ∙ corrections-sent _ _ _ _ _ (p .0 .known) (x .inst .parties) _ (x .inst .number) (x .p) (p .0 .tree) (x .part .now) (p .1 .1) (c .before .before .before .before .before .oct .result) _ (c .before .before .before .before .before .before .if1 .left) (c .before .before .before .before .before .oct .ensures) (c .before .before .copy .ensures),
+            ∙ corrections-sent _ _ _ _ _ (p .0 .known) (x .inst .parties) _ (x .inst .context) (x .p) (p .0 .tree) (x .part .now) (p .1 .1) (c .before .before .before .before .before .oct .result) _ (c .before .before .before .before .before .before .if1 .left) (c .before .before .before .before .before .oct .ensures) (c .before .before .copy .ensures),
       ),
     )
 

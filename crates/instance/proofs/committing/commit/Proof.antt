@@ -15,7 +15,7 @@ use Rattle.instance.proofs.committing.commit.Tie as tie
 
 abbrev Inv-loop : tie.InvT-loop
 Inv-loop p theirs seeds corrections j n s₀ i₀ s i =
-    (i ≤ n) × (s ≡ taken (commitmentsInput j (flatten (tabulate i (comAt j n p theirs seeds corrections)))))
+    (i ≤ n) × (s ≡ taken (commitmentsInput (j .number) (flatten (tabulate i (comAt j n p theirs seeds corrections)))))
 
 abbrev μ-loop : tie.MeasureT-loop
 μ-loop p theirs seeds corrections j n s₀ i₀ s i = n - i
@@ -25,11 +25,11 @@ start-commitments-requires c κs = tt
 
 loop-holds : tie.Need-loop-holds Inv-loop μ-loop
 loop-holds c =
-    let x = c .before .before .before .before .args in
-    (omega arith, coms-none (x .inst .number) (comAt (x .inst .number) (x .inst .parties) (x .p) (x .theirs .now) (x .seeds .now) (x .corrections .now)) _ (c .start-commitments .ensures))
+    let x = c .before .before .before .before .before .args in
+    (omega arith, coms-none (x .inst .context .number) (comAt (x .inst .context) (x .inst .parties) (x .p) (x .theirs .now) (x .seeds .now) (x .corrections .now)) _ (c .start-commitments .ensures))
 
 absorb-requires : tie.Need-absorb-requires Inv-loop μ-loop
-absorb-requires c κs = (omega arith, (refl, coms-room (c .before .before .before .before .before .before .before .args .inst .number) (c .before .before .loop .i) (comAt (c .before .before .before .before .before .before .before .args .inst .number) (c .before .before .before .before .before .before .before .args .inst .parties) (c .before .before .before .before .before .before .before .args .p) (c .before .before .before .before .before .before .before .args .theirs .now) (c .before .before .before .before .before .before .before .args .seeds .now) (c .before .before .before .before .before .before .before .args .corrections .now)) (c .before .before .loop .s) (c .before .before .loop .inv .1)))
+absorb-requires c κs = (omega arith, (refl, coms-room (c .before .before .before .before .before .before .before .before .args .inst .context .number) (c .before .before .loop .i) (comAt (c .before .before .before .before .before .before .before .before .args .inst .context) (c .before .before .before .before .before .before .before .before .args .inst .parties) (c .before .before .before .before .before .before .before .before .args .p) (c .before .before .before .before .before .before .before .before .args .theirs .now) (c .before .before .before .before .before .before .before .before .args .seeds .now) (c .before .before .before .before .before .before .before .before .args .corrections .now)) (c .before .before .loop .s) (c .before .before .loop .inv .1)))
 
 commitment-requires : tie.Need-commitment-requires Inv-loop μ-loop
 commitment-requires c κs = (omega arith, omega arith)
@@ -38,7 +38,7 @@ slice-aggregate-absorb : tie.Need-slice-aggregate-absorb Inv-loop μ-loop
 slice-aggregate-absorb c = sym (ap length (c .before .commitment .ensures) ∙ commitment-length _ _ _ _ _)
 
 absorb-requires-2 : tie.Need-absorb-requires-2 Inv-loop μ-loop
-absorb-requires-2 c κs = (omega arith, (refl, coms-room (c .before .before .before .before .before .before .before .before .before .args .inst .number) (c .before .before .before .before .loop .i) (comAt (c .before .before .before .before .before .before .before .before .before .args .inst .number) (c .before .before .before .before .before .before .before .before .before .args .inst .parties) (c .before .before .before .before .before .before .before .before .before .args .p) (c .before .before .before .before .before .before .before .before .before .args .theirs .now) (c .before .before .before .before .before .before .before .before .before .args .seeds .now) (c .before .before .before .before .before .before .before .before .before .args .corrections .now)) (c .before .before .before .before .loop .s) (c .before .before .before .before .loop .inv .1)))
+absorb-requires-2 c κs = (omega arith, (refl, coms-room (c .before .before .before .before .before .before .before .before .before .before .args .inst .context .number) (c .before .before .before .before .loop .i) (comAt (c .before .before .before .before .before .before .before .before .before .before .args .inst .context) (c .before .before .before .before .before .before .before .before .before .before .args .inst .parties) (c .before .before .before .before .before .before .before .before .before .before .args .p) (c .before .before .before .before .before .before .before .before .before .before .args .theirs .now) (c .before .before .before .before .before .before .before .before .before .before .args .seeds .now) (c .before .before .before .before .before .before .before .before .before .before .args .corrections .now)) (c .before .before .before .before .loop .s) (c .before .before .before .before .loop .inv .1)))
 
 add-i : tie.Need-add-i Inv-loop μ-loop
 add-i c = omega arith
@@ -48,31 +48,31 @@ loop-less c = omega arith
 
 loop-again : tie.Need-loop-again Inv-loop μ-loop
 loop-again c =
-    let x = c .before .before .before .before .before .before .before .args in
+    let x = c .before .before .before .before .before .before .before .before .args in
     let l = c .before .before .loop in
-    let f = comAt (x .inst .number) (x .inst .parties) (x .p) (x .theirs .now) (x .seeds .now) (x .corrections .now) in (
+    let f = comAt (x .inst .context) (x .inst .parties) (x .p) (x .theirs .now) (x .seeds .now) (x .corrections .now) in (
       omega arith,
       ⊎-elim
           (λ w.
-          coms-turn (x .inst .number) (l .i) f (l .s) (l .inv .1) (x .theirs .now) _
-          (com-theirs (x .inst .number) (x .inst .parties) (x .p) (x .theirs .now) (x .seeds .now) (x .corrections .now) (l .i) (w .0 .taken))
+          coms-turn (x .inst .context .number) (l .i) f (l .s) (l .inv .1) (x .theirs .now) _
+          (com-theirs (x .inst .context) (x .inst .parties) (x .p) (x .theirs .now) (x .seeds .now) (x .corrections .now) (l .i) (w .0 .taken))
           (w .2 ∙ w .1 .ensures))
           (λ w.
-          coms-turn (x .inst .number) (l .i) f (l .s) (l .inv .1) (w .1 .result) _
-          (com-own (x .inst .number) (x .inst .parties) (x .p) (x .theirs .now) (x .seeds .now) (x .corrections .now) (l .i) (w .1 .result) (w .0 .left) (w .1 .ensures))
+          coms-turn (x .inst .context .number) (l .i) f (l .s) (l .inv .1) (w .1 .result) _
+          (com-own (x .inst .context) (x .inst .parties) (x .p) (x .theirs .now) (x .seeds .now) (x .corrections .now) (l .i) (w .1 .result) (w .0 .left) (w .1 .ensures))
           (w .4 ∙ w .3 .ensures))
           (c .if1 .came),
     )
 
 finish-requires : tie.Need-finish-requires Inv-loop μ-loop
-finish-requires c κs = coms-room (c .before .before .before .before .before .before .args .inst .number) (c .before .loop .i) (comAt (c .before .before .before .before .before .before .args .inst .number) (c .before .before .before .before .before .before .args .inst .parties) (c .before .before .before .before .before .before .args .p) (c .before .before .before .before .before .before .args .theirs .now) (c .before .before .before .before .before .before .args .seeds .now) (c .before .before .before .before .before .before .args .corrections .now)) (c .before .loop .s) (c .before .loop .inv .1)
+finish-requires c κs = coms-room (c .before .before .before .before .before .before .before .args .inst .context .number) (c .before .loop .i) (comAt (c .before .before .before .before .before .before .before .args .inst .context) (c .before .before .before .before .before .before .before .args .inst .parties) (c .before .before .before .before .before .before .before .args .p) (c .before .before .before .before .before .before .before .args .theirs .now) (c .before .before .before .before .before .before .before .args .seeds .now) (c .before .before .before .before .before .before .before .args .corrections .now)) (c .before .loop .s) (c .before .loop .inv .1)
 
 returns : tie.Need-returns Inv-loop μ-loop
 returns c =
-    let x = c .before .before .before .before .before .before .before .args in
+    let x = c .before .before .before .before .before .before .before .before .args in
     let l = c .before .before .loop in
-    coms-end (x .inst .number) (l .i) (comAt (x .inst .number) (x .inst .parties) (x .p) (x .theirs .now) (x .seeds .now) (x .corrections .now)) (l .s) (l .inv .1) (x .inst .parties) _ (omega arith)
-    (com-bytes (x .inst .number) (x .inst .parties) (x .p) (x .theirs .now) (x .seeds .now) (x .corrections .now) (λ k. c .before .before .before .before .before .before .shared-slice-known .given k .fits) (λ k. c .before .before .before .before .before .shared-slice-known2 .given k .fits) (λ k. c .before .before .before .before .shared-slice-known3 .given k .fits))
+    coms-end (x .inst .context .number) (l .i) (comAt (x .inst .context) (x .inst .parties) (x .p) (x .theirs .now) (x .seeds .now) (x .corrections .now)) (l .s) (l .inv .1) (x .inst .parties) _ (omega arith)
+    (com-bytes (x .inst .context) (x .inst .parties) (x .p) (x .theirs .now) (x .seeds .now) (x .corrections .now) (λ k. c .before .before .before .before .before .before .before .shared-slice-known .given k .fits))
     (c .finish .ensures)
 
 pub commit-spec : {M : Type 1} → statement M

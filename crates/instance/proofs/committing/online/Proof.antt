@@ -51,6 +51,7 @@ rows-in-requires : tie.Need-rows-in-requires Inv-loop μ-loop
 rows-in-requires c κs = c .loop-test .taken
 
 -- a block of rows is inside
+
 inside : (c : tie.After-rows-in Inv-loop μ-loop)
     → c .before .before .before .before .before .rows-at .result + c .rows-in .result * c .before .before .before .before .before .before .row-bytes .result ≤ length (c .before .before .loop .memory)
 inside c =

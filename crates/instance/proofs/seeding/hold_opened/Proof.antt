@@ -15,26 +15,26 @@ use Rattle.instance.proofs.seeding.hold_opened.Tie as tie
 
 layout-requires : tie.Need-layout-requires
 layout-requires c κs =
-    let k = c .before .before .before .pre .0 .known .legal .laid in
+    let k = c .before .before .before .before .pre .0 .known .legal .laid in
     omega (arith, k .few-inputs, k .few-gates)
 
 cast-k : tie.Need-cast-k
 cast-k c = search needs
 
 leaves-at-requires : tie.Need-leaves-at-requires
-leaves-at-requires c κs = places-room _ _ _ _ _ (c .before .before .before .before .pre .0) _ (c .layout .ensures)
+leaves-at-requires c κs = places-room _ _ _ _ _ (c .before .before .before .before .before .pre .0) _ (c .layout .ensures)
 
 mul-end : tie.Need-mul-end
 mul-end c = search needs
 
 add-end : tie.Need-add-end
-add-end c = omega (arith, leaves-fit _ _ _ _ _ (c .before .before .before .before .before .pre .0) _ (c .before .layout .ensures) _ (c .leaves-at .ensures))
+add-end c = omega (arith, leaves-fit _ _ _ _ _ (c .before .before .before .before .before .before .pre .0) _ (c .before .layout .ensures) _ (c .leaves-at .ensures))
 
 seeds-at-requires : tie.Need-seeds-at-requires
-seeds-at-requires c κs = places-room _ _ _ _ _ (c .before .before .before .before .before .pre .0) _ (c .before .layout .ensures)
+seeds-at-requires c κs = places-room _ _ _ _ _ (c .before .before .before .before .before .before .pre .0) _ (c .before .layout .ensures)
 
 rows-at-requires : tie.Need-rows-at-requires
-rows-at-requires c κs = let r = places-room _ _ _ _ _ (c .before .before .before .before .before .before .pre .0) _ (c .before .before .layout .ensures) in (r .0, r .1 .0)
+rows-at-requires c κs = let r = places-room _ _ _ _ _ (c .before .before .before .before .before .before .before .pre .0) _ (c .before .before .layout .ensures) in (r .0, r .1 .0)
 
 sub-opened-below : tie.Need-sub-opened-below
 sub-opened-below c = omega arith
@@ -44,12 +44,12 @@ part-opened-below-start c = omega arith
 
 part-opened-below-end : tie.Need-part-opened-below-end
 part-opened-below-end c =
-    omega (arith, leaves-fit _ _ _ _ _ (c .before .before .before .before .before .before .before .pre .0) _ (c .before .before .before .layout .ensures) _ (c .before .before .leaves-at .ensures))
+    omega (arith, leaves-fit _ _ _ _ _ (c .before .before .before .before .before .before .before .before .pre .0) _ (c .before .before .before .layout .ensures) _ (c .before .before .leaves-at .ensures))
 
 opened-below-requires : tie.Need-opened-below-requires
 opened-below-requires c κs =
-    let p = c .before .before .before .before .before .before .before .before .pre in
-    let x = c .before .before .before .before .before .before .before .before .args in
+    let p = c .before .before .before .before .before .before .before .before .before .pre in
+    let x = c .before .before .before .before .before .before .before .before .before .args in
     let fit = leaves-fit _ _ _ _ _ (p .0) _ (c .before .before .before .before .layout .ensures) _ (c .before .before .before .leaves-at .ensures) in
     let leaves = tree-leaves (x .inst .parties) (x .inst .height) (p .0 .tree) in
     let size = part-size (c .before .before .before .leaves-at .result) (16 * x .inst .parties) (x .memory .now) fit in
@@ -57,8 +57,8 @@ opened-below-requires c κs =
 
 seed-rows-requires : tie.Need-seed-rows-requires
 seed-rows-requires c κs =
-    let p = c .before .before .before .before .before .before .before .before .before .before .before .before .pre in
-    let x = c .before .before .before .before .before .before .before .before .before .before .before .before .args in
+    let p = c .before .before .before .before .before .before .before .before .before .before .before .before .before .pre in
+    let x = c .before .before .before .before .before .before .before .before .before .before .before .before .before .args in
     let leaves = c .before .before .before .before .before .before .before .leaves-at .result in
     let e = c .before .before .before .before .before .before .before .before .layout .ensures in
     let el = c .before .before .before .before .before .before .before .leaves-at .ensures in
@@ -73,8 +73,8 @@ seed-rows-requires c κs =
 
 tape-rows-requires : tie.Need-tape-rows-requires
 tape-rows-requires c κs =
-    let p = c .before .before .before .before .before .before .before .before .before .before .before .before .before .before .before .before .pre in
-    let x = c .before .before .before .before .before .before .before .before .before .before .before .before .before .before .before .before .args in
+    let p = c .before .before .before .before .before .before .before .before .before .before .before .before .before .before .before .before .before .pre in
+    let x = c .before .before .before .before .before .before .before .before .before .before .before .before .before .before .before .before .before .args in
     let leaves = c .before .before .before .before .before .before .before .before .before .before .before .leaves-at .result in
     let e = c .before .before .before .before .before .before .before .before .before .before .before .before .layout .ensures in
     let el = c .before .before .before .before .before .before .before .before .before .before .before .leaves-at .ensures in
@@ -96,8 +96,8 @@ same-length c = search needs
 
 returns : tie.Need-returns
 returns c =
-    let p = c .before .before .before .before .before .before .before .before .before .before .before .before .before .before .before .before .before .before .before .pre in
-    let x = c .before .before .before .before .before .before .before .before .before .before .before .before .before .before .before .before .before .before .before .args in
+    let p = c .before .before .before .before .before .before .before .before .before .before .before .before .before .before .before .before .before .before .before .before .pre in
+    let x = c .before .before .before .before .before .before .before .before .before .before .before .before .before .before .before .before .before .before .before .before .args in
     let e = c .before .before .before .before .before .before .before .before .before .before .before .before .before .before .before .layout .ensures in
     let leaves = c .before .before .before .before .before .before .before .before .before .before .before .before .before .before .leaves-at .result in
     let el = c .before .before .before .before .before .before .before .before .before .before .before .before .before .before .leaves-at .ensures in
@@ -111,8 +111,8 @@ returns c =
     let e₂ = c .before .before .before .before .before .before .seed-rows .ensures in
     let e₃ = c .before .before .tape-rows .ensures in
     let n = x .inst .parties in
-    let d = ap (seedsBut n (x .p) (x .inst .number)) (b .ensures) in
-    (seeds-are _ _ _ _ _ (p .0) _ e _ _ _ el es er (x .p) (x .inst .number) _ _ _ L size e₁ e₂ e₃ ∙ d, tapes-are _ _ _ _ _ (p .0) _ e _ _ _ el es er (x .p) (x .inst .number) _ _ _ L size e₁ e₂ e₃ ∙ ap (tapesBut (circuitOf (x .s .now)) n (x .p) (x .inst .number)) d)
+    let d = ap (seedsBut n (x .p) (x .inst .context)) (b .ensures) in
+    (seeds-are _ _ _ _ _ (p .0) _ e _ _ _ el es er (x .p) (x .inst .context) _ _ _ L size e₁ e₂ e₃ ∙ d, tapes-are _ _ _ _ _ (p .0) _ e _ _ _ el es er (x .p) (x .inst .context) _ _ _ L size e₁ e₂ e₃ ∙ ap (tapesBut (circuitOf (x .s .now)) n (x .p) (x .inst .context)) d)
 
 pub hold-opened-spec : {M : Type 1} → statement M
 hold-opened-spec =

@@ -13,26 +13,26 @@ use Rattle.instance.proofs.seeding.hold_parties.Tie as tie
 
 layout-requires : tie.Need-layout-requires
 layout-requires c κs =
-    let k = c .before .before .before .pre .0 .known .legal .laid in
+    let k = c .before .before .before .before .pre .0 .known .legal .laid in
     omega (arith, k .few-inputs, k .few-gates)
 
 cast-k : tie.Need-cast-k
 cast-k c = search needs
 
 leaves-at-requires : tie.Need-leaves-at-requires
-leaves-at-requires c κs = places-room _ _ _ _ _ (c .before .before .before .before .pre .0) _ (c .layout .ensures)
+leaves-at-requires c κs = places-room _ _ _ _ _ (c .before .before .before .before .before .pre .0) _ (c .layout .ensures)
 
 mul-end : tie.Need-mul-end
 mul-end c = search needs
 
 add-end : tie.Need-add-end
-add-end c = omega (arith, leaves-fit _ _ _ _ _ (c .before .before .before .before .before .pre .0) _ (c .before .layout .ensures) _ (c .leaves-at .ensures))
+add-end c = omega (arith, leaves-fit _ _ _ _ _ (c .before .before .before .before .before .before .pre .0) _ (c .before .layout .ensures) _ (c .leaves-at .ensures))
 
 seeds-at-requires : tie.Need-seeds-at-requires
-seeds-at-requires c κs = places-room _ _ _ _ _ (c .before .before .before .before .before .pre .0) _ (c .before .layout .ensures)
+seeds-at-requires c κs = places-room _ _ _ _ _ (c .before .before .before .before .before .before .pre .0) _ (c .before .layout .ensures)
 
 rows-at-requires : tie.Need-rows-at-requires
-rows-at-requires c κs = let r = places-room _ _ _ _ _ (c .before .before .before .before .before .before .pre .0) _ (c .before .before .layout .ensures) in (r .0, r .1 .0)
+rows-at-requires c κs = let r = places-room _ _ _ _ _ (c .before .before .before .before .before .before .before .pre .0) _ (c .before .before .layout .ensures) in (r .0, r .1 .0)
 
 sub-leaves-below : tie.Need-sub-leaves-below
 sub-leaves-below c = omega arith
@@ -42,12 +42,12 @@ part-leaves-below-start c = omega arith
 
 part-leaves-below-end : tie.Need-part-leaves-below-end
 part-leaves-below-end c =
-    omega (arith, leaves-fit _ _ _ _ _ (c .before .before .before .before .before .before .before .pre .0) _ (c .before .before .before .layout .ensures) _ (c .before .before .leaves-at .ensures))
+    omega (arith, leaves-fit _ _ _ _ _ (c .before .before .before .before .before .before .before .before .pre .0) _ (c .before .before .before .layout .ensures) _ (c .before .before .leaves-at .ensures))
 
 leaves-below-requires : tie.Need-leaves-below-requires
 leaves-below-requires c κs =
-    let p = c .before .before .before .before .before .before .before .before .pre in
-    let x = c .before .before .before .before .before .before .before .before .args in
+    let p = c .before .before .before .before .before .before .before .before .before .pre in
+    let x = c .before .before .before .before .before .before .before .before .before .args in
     let fit = leaves-fit _ _ _ _ _ (p .0) _ (c .before .before .before .before .layout .ensures) _ (c .before .before .before .leaves-at .ensures) in
     let leaves = tree-leaves (x .inst .parties) (x .inst .height) (p .0 .tree) in
     let size = part-size (c .before .before .before .leaves-at .result) (16 * x .inst .parties) (x .memory .now) fit in
@@ -55,8 +55,8 @@ leaves-below-requires c κs =
 
 seed-rows-requires : tie.Need-seed-rows-requires
 seed-rows-requires c κs =
-    let p = c .before .before .before .before .before .before .before .before .before .before .before .before .pre in
-    let x = c .before .before .before .before .before .before .before .before .before .before .before .before .args in
+    let p = c .before .before .before .before .before .before .before .before .before .before .before .before .before .pre in
+    let x = c .before .before .before .before .before .before .before .before .before .before .before .before .before .args in
     let leaves = c .before .before .before .before .before .before .before .leaves-at .result in
     let e = c .before .before .before .before .before .before .before .before .layout .ensures in
     let el = c .before .before .before .before .before .before .before .leaves-at .ensures in
@@ -71,8 +71,8 @@ seed-rows-requires c κs =
 
 tape-rows-requires : tie.Need-tape-rows-requires
 tape-rows-requires c κs =
-    let p = c .before .before .before .before .before .before .before .before .before .before .before .before .before .before .before .before .pre in
-    let x = c .before .before .before .before .before .before .before .before .before .before .before .before .before .before .before .before .args in
+    let p = c .before .before .before .before .before .before .before .before .before .before .before .before .before .before .before .before .before .pre in
+    let x = c .before .before .before .before .before .before .before .before .before .before .before .before .before .before .before .before .before .args in
     let leaves = c .before .before .before .before .before .before .before .before .before .before .before .leaves-at .result in
     let e = c .before .before .before .before .before .before .before .before .before .before .before .before .layout .ensures in
     let el = c .before .before .before .before .before .before .before .before .before .before .before .leaves-at .ensures in
@@ -94,8 +94,8 @@ same-length c = search needs
 
 returns : tie.Need-returns
 returns c =
-    let p = c .before .before .before .before .before .before .before .before .before .before .before .before .before .before .before .before .before .before .before .pre in
-    let x = c .before .before .before .before .before .before .before .before .before .before .before .before .before .before .before .before .before .before .before .args in
+    let p = c .before .before .before .before .before .before .before .before .before .before .before .before .before .before .before .before .before .before .before .before .pre in
+    let x = c .before .before .before .before .before .before .before .before .before .before .before .before .before .before .before .before .before .before .before .before .args in
     let e = c .before .before .before .before .before .before .before .before .before .before .before .before .before .before .before .layout .ensures in
     let leaves = c .before .before .before .before .before .before .before .before .before .before .before .before .before .before .leaves-at .result in
     let el = c .before .before .before .before .before .before .before .before .before .before .before .before .before .before .leaves-at .ensures in
@@ -110,8 +110,8 @@ returns c =
     let e₃ = c .before .before .tape-rows .ensures in
     let d = b .ensures in
     let h = p .0 .tree .height in (
-      seeds-are _ _ _ _ _ (p .0) _ e _ _ _ el es er (x .inst .parties) (x .inst .number) _ _ _ L size e₁ e₂ e₃ ∙ master-seeds (x .inst .parties) (x .inst .number) (x .inst .height) (x .master .now) L h d,
-      tapes-are _ _ _ _ _ (p .0) _ e _ _ _ el es er (x .inst .parties) (x .inst .number) _ _ _ L size e₁ e₂ e₃ ∙ master-tapes (x .inst .parties) (x .inst .number) (x .inst .height) (x .master .now) L h d (circuitOf (x .s .now)),
+      seeds-are _ _ _ _ _ (p .0) _ e _ _ _ el es er (x .inst .parties) (x .inst .context) _ _ _ L size e₁ e₂ e₃ ∙ master-seeds (x .inst .parties) (x .inst .context) (x .inst .height) (x .master .now) L h d,
+      tapes-are _ _ _ _ _ (p .0) _ e _ _ _ el es er (x .inst .parties) (x .inst .context) _ _ _ L size e₁ e₂ e₃ ∙ master-tapes (x .inst .parties) (x .inst .context) (x .inst .height) (x .master .now) L h d (circuitOf (x .s .now)),
     )
 
 pub hold-parties-spec : {M : Type 1} → statement M

@@ -22,7 +22,7 @@ abbrev μ-loop : tie.MeasureT-loop
 
 loop-holds : tie.Need-loop-holds Inv-loop μ-loop
 loop-holds c =
-    let x = c .before .args in
+    let x = c .before .before .args in
     (omega arith, (refl, none-written (x .memory .now) (x .to)))
 
 cast-k : tie.Need-cast-k Inv-loop μ-loop
@@ -60,7 +60,7 @@ key-requires c κs = omega arith
 
 slice-aggregate-seed-row : tie.Need-slice-aggregate-seed-row Inv-loop μ-loop
 slice-aggregate-seed-row c =
-    let x = c .before .before .before .before .before .before .before .args in
+    let x = c .before .before .before .before .before .before .before .before .args in
     let l = c .before .before .before .before .before .loop in
     sym (read-size (x .leaves + 16 * l .i) 16 (l .memory) (c .before .key .result) (omega arith) (c .before .key .ensures))
 
@@ -75,7 +75,7 @@ part-seed-row-end c = omega arith
 
 seed-row-requires : tie.Need-seed-row-requires Inv-loop μ-loop
 seed-row-requires c κs =
-    let x = c .before .before .before .before .before .before .before .before .args in
+    let x = c .before .before .before .before .before .before .before .before .before .args in
     let l = c .before .before .before .before .before .before .loop in
     part-size (x .to + 32 * l .i) 32 (l .memory) (omega arith)
 
@@ -87,24 +87,24 @@ loop-less c = omega arith
 
 loop-again : tie.Need-loop-again Inv-loop μ-loop
 loop-again c =
-    let x = c .before .before .before .before .args in
+    let x = c .before .before .before .before .before .args in
     let l = c .before .before .loop in
     let m = x .memory .now in
     let leaves = take (16 * x .inst .parties) (drop (x .leaves) m) in
-    let f = seedBut (x .p) (x .inst .number) leaves in
+    let f = seedBut (x .p) (x .inst .context) leaves in
     let a = x .to + 32 * l .i in
     let size = part-size a 32 (l .memory) (omega arith) in
-    let turn = row-written 32 f (seed-size (x .p) (x .inst .number) leaves) m (x .to) (l .i) a (a + 32) (l .memory) in
+    let turn = row-written 32 f (seed-size (x .p) (x .inst .context) leaves) m (x .to) (l .i) a (a + 32) (l .memory) in
     let q : c .if1 .memory ≡ sets m (x .to) (flatten (tabulate (l .i + 1) f)) = ⊎-elim
     (λ w.
     w .5
     ∙ turn (w .2 .last .0) (omega arith) refl (omega arith) (l .inv .1 .1) (w .2 .kept .0 ∙ size)
-    (seed-zero (x .p) (x .inst .number) leaves (l .i) _ (w .2 .last .0) (w .0 .taken) size (w .2 .ensures)))
+    (seed-zero (x .p) (x .inst .context) leaves (l .i) _ (w .2 .last .0) (w .0 .taken) size (w .2 .ensures)))
     (λ w.
     w .8
     ∙ turn (w .5 .last .1 .1 .1 .0) (omega arith) refl (omega arith) (l .inv .1 .1) (w .5 .kept .1 .1 .1 .0 ∙ size)
-    (seed-derived (x .p) (x .inst .number) leaves (l .i) (w .2 .result) (w .5 .last .1 .1 .1 .0) (w .0 .left)
-    (leaf-read (x .inst .parties) (x .p) (x .inst .number) (l .i) (x .leaves) (x .to) m (l .memory) (w .2 .result) (c .before .loop-test .taken) (omega arith) (omega arith) (l .inv .1 .1) (w .2 .ensures))
+    (seed-derived (x .p) (x .inst .context) leaves (l .i) (w .2 .result) (w .5 .last .1 .1 .1 .0) (w .0 .left)
+    (leaf-read (x .inst .parties) (x .p) (x .inst .context) (l .i) (x .leaves) (x .to) m (l .memory) (w .2 .result) (c .before .loop-test .taken) (omega arith) (omega arith) (l .inv .1 .1) (w .2 .ensures))
     (w .5 .ensures)))
     (c .if1 .came) in
     (omega arith, (ap length q ∙ length-sets m (x .to) (flatten (tabulate (l .i + 1) f)), q))
@@ -114,9 +114,9 @@ same-length c = c .before .loop .inv .1 .0
 
 returns : tie.Need-returns Inv-loop μ-loop
 returns c =
-    let x = c .before .before .before .args in
+    let x = c .before .before .before .before .args in
     let l = c .before .loop in
-    seeds-end (x .p) (x .inst .number) (take (16 * x .inst .parties) (drop (x .leaves) (x .memory .now))) (x .inst .parties) (l .i) (x .to) (x .memory .now) (l .memory) (omega arith) (l .inv .1 .1)
+    seeds-end (x .p) (x .inst .context) (take (16 * x .inst .parties) (drop (x .leaves) (x .memory .now))) (x .inst .parties) (l .i) (x .to) (x .memory .now) (l .memory) (omega arith) (l .inv .1 .1)
 
 pub seed-rows-spec : {M : Type 1} → statement M
 seed-rows-spec =

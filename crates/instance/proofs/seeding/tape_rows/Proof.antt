@@ -26,32 +26,34 @@ abbrev μ-loop : tie.MeasureT-loop
 μ-loop s p seeds to memory₀ j n inputs ands len i₀ memory i = n - i
 
 mul-oct : tie.Need-mul-oct Inv-loop μ-loop
-mul-oct c = omega (arith, ands-low _ _ _ _ _ (c .before .before .pre .0), c .before .before .pre .0 .legal .laid .few-gates)
+mul-oct c = omega (arith, ands-low _ _ _ _ _ (c .before .before .before .pre .0), c .before .before .before .pre .0 .legal .laid .few-gates)
 
 add-oct : tie.Need-add-oct Inv-loop μ-loop
-add-oct c = omega (arith, ands-low _ _ _ _ _ (c .before .before .pre .0), c .before .before .pre .0 .legal .laid .few-gates, c .before .before .pre .0 .legal .laid .few-inputs)
+add-oct c = omega (arith, ands-low _ _ _ _ _ (c .before .before .before .pre .0), c .before .before .before .pre .0 .legal .laid .few-gates, c .before .before .before .pre .0 .legal .laid .few-inputs)
 
 oct-requires : tie.Need-oct-requires Inv-loop μ-loop
 oct-requires c κs = tt
 
 loop-holds : tie.Need-loop-holds Inv-loop μ-loop
 loop-holds c =
-    let x = c .before .before .before .args in
+    let x = c .before .before .before .before .args in
     (omega arith, (refl, none-written (x .memory .now) (x .to)))
 
 -- row i is before the seeds
+
 inside : (c : tie.In-loop Inv-loop μ-loop)
-    → c .before .before .before .before .before .args .to + c .before .loop .i * c .before .before .oct .result + c .before .before .oct .result
-    ≤ c .before .before .before .before .before .args .seeds
+    → c .before .before .before .before .before .before .args .to + c .before .loop .i * c .before .before .oct .result + c .before .before .oct .result
+    ≤ c .before .before .before .before .before .before .args .seeds
 inside c =
-    let x = c .before .before .before .before .before .args in
-    omega (arith, row-fits (x .inst .parties) (c .before .before .oct .result) (c .before .loop .i) (c .loop-test .taken), c .before .before .before .before .before .pre .1 .1 .0, ap (λ (k : ℕ). x .inst .parties * k) (c .before .before .oct .ensures))
+    let x = c .before .before .before .before .before .before .args in
+    omega (arith, row-fits (x .inst .parties) (c .before .before .oct .result) (c .before .loop .i) (c .loop-test .taken), c .before .before .before .before .before .before .pre .1 .1 .0, ap (λ (k : ℕ). x .inst .parties * k) (c .before .before .oct .ensures))
 
 -- and so in the memory
+
 within : (c : tie.In-loop Inv-loop μ-loop)
-    → c .before .before .before .before .before .args .to + c .before .loop .i * c .before .before .oct .result + c .before .before .oct .result
+    → c .before .before .before .before .before .before .args .to + c .before .loop .i * c .before .before .oct .result + c .before .before .oct .result
     ≤ length (c .before .loop .memory)
-within c = omega (arith, inside c, c .before .loop .inv .1 .0, c .before .before .before .before .before .pre .1 .1 .1)
+within c = omega (arith, inside c, c .before .loop .inv .1 .0, c .before .before .before .before .before .before .pre .1 .1 .1)
 
 cast-k : tie.Need-cast-k Inv-loop μ-loop
 cast-k c = omega arith
@@ -91,12 +93,12 @@ cast-used-bits c = omega arith
 
 used-bits-requires : tie.Need-used-bits-requires Inv-loop μ-loop
 used-bits-requires c κs =
-    let p = c .before .before .before .before .before .before .before .before .pre in
+    let p = c .before .before .before .before .before .before .before .before .before .pre in
     (omega (arith, p .0 .legal .laid .few-inputs), (omega (arith, ands-low _ _ _ _ _ (p .0), p .0 .legal .laid .few-gates), omega (arith, p .1 .0)))
 
 slice-aggregate-tape : tie.Need-slice-aggregate-tape Inv-loop μ-loop
 slice-aggregate-tape c =
-    let x = c .before .before .before .before .before .before .before .before .before .before .args in
+    let x = c .before .before .before .before .before .before .before .before .before .before .before .args in
     let l = c .before .before .before .before .before .before .loop in
     sym (read-size (x .seeds + 32 * l .i) 16 (l .memory) (c .before .before .key .result) (omega arith) (c .before .before .key .ensures))
 
@@ -120,30 +122,30 @@ loop-less c = omega arith
 
 loop-again : tie.Need-loop-again Inv-loop μ-loop
 loop-again c =
-    let start = c .before .before .before .before .before .before in
+    let start = c .before .before .before .before .before .before .before in
     let x = start .args in
     let l = c .before .before .loop in
     let m = x .memory .now in
     let known = start .pre .0 in
     let C = circuitOf (x .s .now) in
     let seeds = take (32 * x .inst .parties) (drop (x .seeds) m) in
-    let f = tapeBut C (x .inst .parties) (x .p) (x .inst .number) seeds in
+    let f = tapeBut C (x .inst .parties) (x .p) (x .inst .context) seeds in
     let len = c .before .before .before .oct .result in
     let e = c .before .before .before .oct .ensures ∙ sym (circuit-row _ _ _ _ _ known) in
     let a = x .to + l .i * len in
     let size = part-size a len (l .memory) (within (c .before)) in
-    let turn = row-written len f (tape-size C (x .inst .parties) (x .p) (x .inst .number) seeds len e) m (x .to) (l .i) a (a + len) (l .memory) in
+    let turn = row-written len f (tape-size C (x .inst .parties) (x .p) (x .inst .context) seeds len e) m (x .to) (l .i) a (a + len) (l .memory) in
     let h = inside (c .before) in
     let q : c .if1 .memory ≡ sets m (x .to) (flatten (tabulate (l .i + 1) f)) = ⊎-elim
     (λ w.
     w .5
     ∙ turn (w .2 .last .0) refl refl (omega (arith, within (c .before), l .inv .1 .0)) (l .inv .1 .1) (w .2 .kept .0 ∙ size)
-    (tape-zero C (x .inst .parties) (x .p) (x .inst .number) seeds (l .i) _ (w .2 .last .0) (w .0 .taken) (size ∙ e) (w .2 .ensures)))
+    (tape-zero C (x .inst .parties) (x .p) (x .inst .context) seeds (l .i) _ (w .2 .last .0) (w .0 .taken) (size ∙ e) (w .2 .ensures)))
     (λ w.
     w .9
     ∙ turn (w .6 .last .1 .1 .1 .1 .0) refl refl (omega (arith, within (c .before), l .inv .1 .0)) (l .inv .1 .1) (w .6 .kept .1 .1 .1 .1 .0 ∙ size)
-    (tape-derived C (x .inst .parties) (x .p) (x .inst .number) seeds (l .i) (w .3 .result) _ (w .2 .result) (w .6 .last .1 .1 .1 .1 .0) (w .0 .left)
-    (seed-read C (x .inst .parties) (x .p) (x .inst .number) (l .i) (x .seeds) (x .to) len m (l .memory) (w .2 .result) e (c .before .loop-test .taken) (omega arith) (omega (arith, h)) (l .inv .1 .1) (w .2 .ensures))
+    (tape-derived C (x .inst .parties) (x .p) (x .inst .context) seeds (l .i) (w .3 .result) _ (w .2 .result) (w .6 .last .1 .1 .1 .1 .0) (w .0 .left)
+    (seed-read C (x .inst .parties) (x .p) (x .inst .context) (l .i) (x .seeds) (x .to) len m (l .memory) (w .2 .result) e (c .before .loop-test .taken) (omega arith) (omega (arith, h)) (l .inv .1 .1) (w .2 .ensures))
     (used-is _ _ _ _ _ known (x .inst .parties) (l .i) (w .3 .result) (w .3 .ensures)) (size ∙ e) (w .6 .ensures)))
     (c .if1 .came) in
     (omega arith, (ap length q ∙ length-sets m (x .to) (flatten (tabulate (l .i + 1) f)), q))
@@ -153,9 +155,9 @@ same-length c = c .before .loop .inv .1 .0
 
 returns : tie.Need-returns Inv-loop μ-loop
 returns c =
-    let x = c .before .before .before .before .before .args in
+    let x = c .before .before .before .before .before .before .args in
     let l = c .before .loop in
-    tapes-end (circuitOf (x .s .now)) (x .inst .parties) (x .p) (x .inst .number) (take (32 * x .inst .parties) (drop (x .seeds) (x .memory .now))) (l .i) (x .to) (x .memory .now) (l .memory) (omega arith) (l .inv .1 .1)
+    tapes-end (circuitOf (x .s .now)) (x .inst .parties) (x .p) (x .inst .context) (take (32 * x .inst .parties) (drop (x .seeds) (x .memory .now))) (l .i) (x .to) (x .memory .now) (l .memory) (omega arith) (l .inv .1 .1)
 
 pub tape-rows-spec : {M : Type 1} → statement M
 tape-rows-spec =

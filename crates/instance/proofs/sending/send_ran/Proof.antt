@@ -66,7 +66,7 @@ returns c =
     let q = c .before .before .before .before .before .before .before .put in
     let h = c .before .before .before .before .before .before .before .before .before .before .before .send-held in
     let size = rest-length (q .result) (broadcastBytes (x .z)) (q .last .1 .1 .0) (omega (arith, q .ensures .0, q .kept .1 .1 .0, h .ensures .0, h .kept .1 .1 .1 .1 .1 .0, p .0, p .1)) in
-    ran-laid (x .z) (x .inst .parties) (x .inst .height) (x .inst .number) (x .p) (h .result) (q .result) (length (q .last .1 .1 .0) - q .result) _ _ (x .master .now) (x .memory .now)
+    ran-laid (x .z) (x .inst .parties) (x .inst .height) (x .inst .context) (x .p) (h .result) (q .result) (length (q .last .1 .1 .0) - q .result) _ _ (x .master .now) (x .memory .now)
     (x .part .now) (h .last .1 .1 .1 .1 .1 .0) (q .last .1 .1 .0) (x .masked .now) (c .before .before .pack-row .last .1 .1 .1 .1 .0)
     (h .ensures .0) (h .ensures .1) (h .kept .1 .1 .1 .1 .1 .0) (omega (arith, h .ensures .0, p .1)) (q .ensures .0) (q .ensures .1) (omega arith) (c .before .before .before .before .before .before .before .before .before .before .before .before .before .layout .ensures) size
     (c .before .before .pack-row .ensures)

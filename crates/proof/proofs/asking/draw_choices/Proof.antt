@@ -19,11 +19,16 @@ same-length c = search needs
 
 returns : tie.Need-returns
 returns c =
-    let x = c .before .before .before .before .before .before .before .before .before .before .before .args in
+    let x = c .before .before .before .before .before .before .before .before .before .before .before .before .args in
     let q = c .before .before .challenge in
-    challenge-drawn (x .s .now) (x .m) (x .tau) (x .n) (x .hstar .now) (x .y .now) (x .message .now) (x .choices .now) (c .before .before .before .before .before .before .before .before .before .before .before .pre .0) (c .before .before .before .before .before .before .before .before .before .before .before .pre .1) _ _ (q .result) (c .before .before .before .before .before .sha3-256 .ensures) (q .ensures)
+    challenge-drawn (x .s .now) (x .m) (x .tau) (x .n) (x .hstar .now) (x .salt .now) (x .y .now) (x .message .now) (x .choices .now) (c .before .before .before .before .before .before .before .before .before .before .before .before .pre .0) (c .before .before .before .before .before .before .before .before .before .before .before .before .pre .1) _ _ (q .result) (c .before .before .before .before .before .sha3-256 .ensures) (q .ensures)
 
 pub draw-choices-spec : {M : Type 1} → statement M
 draw-choices-spec =
     tie.close
-    (tie.spec sha3-256-requires slice-aggregate-challenge challenge-requires same-length returns)
+    (tie.spec
+    sha3-256-requires
+    slice-aggregate-challenge
+    challenge-requires
+    same-length
+    returns)

@@ -14,7 +14,7 @@ use Rattle.proof.proofs.asking.proof_bytes.Tie as tie
 
 abbrev Inv-loop : tie.InvT-loop
 Inv-loop s z table opened m n h at₀ j₀ at j =
-    (j ≤ m) × ((at ≤ 16422 + maxStretch * j) × (at ≡ stretchStart (circuitOf s) m n (asksIn n table) j))
+    (j ≤ m) × ((at ≤ 16454 + maxStretch * j) × (at ≡ stretchStart (circuitOf s) m n (asksIn n table) j))
 
 abbrev μ-loop : tie.MeasureT-loop
 μ-loop s z table opened m n h at₀ j₀ at j = m - j

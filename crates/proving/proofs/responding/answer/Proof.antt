@@ -43,25 +43,25 @@ sub-end : tie.Need-sub-end
 sub-end c =
     let x = c .before .before .before .before .before .before .before .before .before .before .args in
     let p = c .before .before .before .before .before .before .before .before .before .before .pre in
-    size-start (x .s .now) (x .k .instances) (x .k .parties) (x .witness .now) (x .nodes .now) (x .table .now) (x .part .now) (p .1 .1) (c .before .before .mark-nodes .result) (c .proof-bytes .result) (c .before .before .mark-nodes .ensures .0) (c .proof-bytes .ensures)
+    size-start (x .s .now) (x .k .instances) (x .k .parties) (x .salt) (x .witness .now) (x .nodes .now) (x .table .now) (x .part .now) (p .1 .1) (c .before .before .mark-nodes .result) (c .proof-bytes .result) (c .before .before .mark-nodes .ensures .0) (c .proof-bytes .ensures)
 
 slice-relend-prefix-respond : tie.Need-slice-relend-prefix-respond
 slice-relend-prefix-respond c =
     let x = c .before .before .before .before .before .before .before .before .before .before .args in
     let p = c .before .before .before .before .before .before .before .before .before .before .pre in
-    part-inside (x .s .now) (x .k .instances) (x .k .parties) (x .witness .now) (x .nodes .now) (x .table .now) (x .part .now) (p .1 .1) (c .before .before .mark-nodes .result) (c .proof-bytes .result) (c .before .before .mark-nodes .ensures .0) (c .proof-bytes .ensures)
+    part-inside (x .s .now) (x .k .instances) (x .k .parties) (x .salt) (x .witness .now) (x .nodes .now) (x .table .now) (x .part .now) (p .1 .1) (c .before .before .mark-nodes .result) (c .proof-bytes .result) (c .before .before .mark-nodes .ensures .0) (c .proof-bytes .ensures)
 
 slice-aggregate-respond : tie.Need-slice-aggregate-respond
 slice-aggregate-respond c =
     let x = c .before .before .before .before .before .before .before .before .before .before .before .args in
     let p = c .before .before .before .before .before .before .before .before .before .before .before .pre in
-    sym (length-part (x .s .now) (x .k .instances) (x .k .parties) (x .witness .now) (x .nodes .now) (x .table .now) (x .part .now) (p .1 .1) (c .before .before .before .mark-nodes .result) (c .before .proof-bytes .result) (c .before .before .before .mark-nodes .ensures .0) (c .before .proof-bytes .ensures))
+    sym (length-part (x .s .now) (x .k .instances) (x .k .parties) (x .salt) (x .witness .now) (x .nodes .now) (x .table .now) (x .part .now) (p .1 .1) (c .before .before .before .mark-nodes .result) (c .before .proof-bytes .result) (c .before .before .before .mark-nodes .ensures .0) (c .before .proof-bytes .ensures))
 
 respond-requires : tie.Need-respond-requires
 respond-requires c κs =
     let x = c .before .before .before .before .before .before .before .before .before .before .before .before .args in
     let p = c .before .before .before .before .before .before .before .before .before .before .before .before .pre in
-    (p .0, (p .1 .0, response-asks (x .s .now) (x .k .instances) (x .k .parties) (x .witness .now) (x .nodes .now) (x .table .now) (x .part .now) (p .1 .1) (c .before .before .before .before .mark-nodes .result) (c .before .before .proof-bytes .result) (c .before .before .before .before .mark-nodes .ensures .0) (c .before .before .proof-bytes .ensures)))
+    (p .0, (p .1 .0, response-asks (x .s .now) (x .k .instances) (x .k .parties) (x .salt) (x .witness .now) (x .nodes .now) (x .table .now) (x .part .now) (p .1 .1) (c .before .before .before .before .mark-nodes .result) (c .before .before .proof-bytes .result) (c .before .before .before .before .mark-nodes .ensures .0) (c .before .before .proof-bytes .ensures)))
 
 array-share-prefix-marks : tie.Need-array-share-prefix-marks
 array-share-prefix-marks c =
@@ -79,13 +79,13 @@ slice-relend-prefix-gather : tie.Need-slice-relend-prefix-gather
 slice-relend-prefix-gather c =
     let x = c .before .before .before .before .before .before .before .before .before .before .before .before .before .before .before .before .before .before .args in
     let p = c .before .before .before .before .before .before .before .before .before .before .before .before .before .before .before .before .before .before .pre in
-    front-place (x .s .now) (x .k .instances) (x .k .parties) (x .witness .now) (x .nodes .now) (x .table .now) (x .part .now) (p .1 .1) (c .before .before .before .before .before .before .before .before .before .before .mark-nodes .result) (c .before .before .before .before .before .before .before .before .proof-bytes .result) (c .before .before .before .before .before .before .before .before .before .before .mark-nodes .ensures .0) (c .before .before .before .before .before .before .before .before .proof-bytes .ensures) (responseOf (circuitOf (x .s .now)) (x .k .instances) (x .k .parties) (x .witness .now) (masterIn (x .nodes .now)) (asksIn (x .k .parties) (x .table .now))) (c .before .before .before .before .before .respond .last .1 .1 .1 .1 .1 .1 .1 .0) (c .before .before .before .before .before .respond .ensures)
+    front-place (x .s .now) (x .k .instances) (x .k .parties) (x .salt) (x .witness .now) (x .nodes .now) (x .table .now) (x .part .now) (p .1 .1) (c .before .before .before .before .before .before .before .before .before .before .mark-nodes .result) (c .before .before .before .before .before .before .before .before .proof-bytes .result) (c .before .before .before .before .before .before .before .before .before .before .mark-nodes .ensures .0) (c .before .before .before .before .before .before .before .before .proof-bytes .ensures) (responseOf (circuitOf (x .s .now)) (x .k .instances) (x .k .parties) (x .salt) (x .witness .now) (masterIn (x .nodes .now)) (asksIn (x .k .parties) (x .table .now))) (c .before .before .before .before .before .respond .last .1 .1 .1 .1 .1 .1 .1 .1 .0) (c .before .before .before .before .before .respond .ensures)
 
 slice-aggregate-gather-2 : tie.Need-slice-aggregate-gather-2
 slice-aggregate-gather-2 c =
     let x = c .before .before .before .before .before .before .before .before .before .before .before .before .before .before .before .before .before .before .before .args in
     let p = c .before .before .before .before .before .before .before .before .before .before .before .before .before .before .before .before .before .before .before .pre in
-    sym (front-part (x .s .now) (x .k .instances) (x .k .parties) (x .witness .now) (x .nodes .now) (x .table .now) (x .part .now) (p .1 .1) (c .before .before .before .before .before .before .before .before .before .before .before .mark-nodes .result) (c .before .before .before .before .before .before .before .before .before .proof-bytes .result) (c .before .before .before .before .before .before .before .before .before .before .before .mark-nodes .ensures .0) (c .before .before .before .before .before .before .before .before .before .proof-bytes .ensures) (responseOf (circuitOf (x .s .now)) (x .k .instances) (x .k .parties) (x .witness .now) (masterIn (x .nodes .now)) (asksIn (x .k .parties) (x .table .now))) (c .before .before .before .before .before .before .respond .last .1 .1 .1 .1 .1 .1 .1 .0) (c .before .before .before .before .before .before .respond .ensures))
+    sym (front-part (x .s .now) (x .k .instances) (x .k .parties) (x .salt) (x .witness .now) (x .nodes .now) (x .table .now) (x .part .now) (p .1 .1) (c .before .before .before .before .before .before .before .before .before .before .before .mark-nodes .result) (c .before .before .before .before .before .before .before .before .before .proof-bytes .result) (c .before .before .before .before .before .before .before .before .before .before .before .mark-nodes .ensures .0) (c .before .before .before .before .before .before .before .before .before .proof-bytes .ensures) (responseOf (circuitOf (x .s .now)) (x .k .instances) (x .k .parties) (x .salt) (x .witness .now) (masterIn (x .nodes .now)) (asksIn (x .k .parties) (x .table .now))) (c .before .before .before .before .before .before .respond .last .1 .1 .1 .1 .1 .1 .1 .1 .0) (c .before .before .before .before .before .before .respond .ensures))
 
 gather-requires : tie.Need-gather-requires
 gather-requires c κs =
@@ -94,16 +94,16 @@ gather-requires c κs =
     let low = rows-low (x .k .instances) (p .1 .1 .few) (x .nodes .now) (p .1 .1 .rows) in
     let back = front-back 1024 (length (x .nodes .now) / 16) (c .before .before .before .before .before .before .before .before .before .before .before .mark-nodes .last .1 .1 .0) low (c .before .before .before .before .before .before .before .before .before .before .before .mark-nodes .kept .1 .1 .0) in
     let l = ap length back ∙ c .before .before .before .before .before .before .before .before .before .before .before .mark-nodes .kept .1 .1 .0 ∙ prefix-length (length (x .nodes .now) / 16) 1024 low ∙ rows-right (x .k .instances) (p .1 .1 .few) (x .nodes .now) (p .1 .1 .rows) in
-    (p .1 .1 .rows ∙ ap (λ (i : ℕ). 16 * i) (sym l), front-fits (x .s .now) (x .k .instances) (x .k .parties) (x .witness .now) (x .nodes .now) (x .table .now) (x .part .now) (p .1 .1) (c .before .before .before .before .before .before .before .before .before .before .before .mark-nodes .result) (c .before .before .before .before .before .before .before .before .before .proof-bytes .result) (c .before .before .before .before .before .before .before .before .before .before .before .mark-nodes .ensures .0) (c .before .before .before .before .before .before .before .before .before .proof-bytes .ensures) (responseOf (circuitOf (x .s .now)) (x .k .instances) (x .k .parties) (x .witness .now) (masterIn (x .nodes .now)) (asksIn (x .k .parties) (x .table .now))) (c .before .before .before .before .before .before .respond .last .1 .1 .1 .1 .1 .1 .1 .0) (c .before .before .before .before .before .before .respond .ensures) _ (back ∙ c .before .before .before .before .before .before .before .before .before .before .before .mark-nodes .ensures .1))
+    (p .1 .1 .rows ∙ ap (λ (i : ℕ). 16 * i) (sym l), front-fits (x .s .now) (x .k .instances) (x .k .parties) (x .salt) (x .witness .now) (x .nodes .now) (x .table .now) (x .part .now) (p .1 .1) (c .before .before .before .before .before .before .before .before .before .before .before .mark-nodes .result) (c .before .before .before .before .before .before .before .before .before .proof-bytes .result) (c .before .before .before .before .before .before .before .before .before .before .before .mark-nodes .ensures .0) (c .before .before .before .before .before .before .before .before .before .proof-bytes .ensures) (responseOf (circuitOf (x .s .now)) (x .k .instances) (x .k .parties) (x .salt) (x .witness .now) (masterIn (x .nodes .now)) (asksIn (x .k .parties) (x .table .now))) (c .before .before .before .before .before .before .respond .last .1 .1 .1 .1 .1 .1 .1 .1 .0) (c .before .before .before .before .before .before .respond .ensures) _ (back ∙ c .before .before .before .before .before .before .before .before .before .before .before .mark-nodes .ensures .1))
 
 same-length : tie.Need-same-length
 same-length c =
     let x = c .before .before .before .before .before .before .before .before .before .before .before .before .before .before .before .before .before .before .before .before .before .before .args in
     let p = c .before .before .before .before .before .before .before .before .before .before .before .before .before .before .before .before .before .before .before .before .before .before .pre in
-    answer-kept (x .s .now) (x .k .instances) (x .k .parties) (x .witness .now) (x .nodes .now) (x .table .now) (x .part .now) (p .1 .1) (c .before .before .before .before .before .before .before .before .before .before .before .before .before .before .mark-nodes .result) (c .before .before .before .before .before .before .before .before .before .before .before .before .proof-bytes .result) (c .before .before .before .before .before .before .before .before .before .before .before .before .before .before .mark-nodes .ensures .0) (c .before .before .before .before .before .before .before .before .before .before .before .before .proof-bytes .ensures) (responseOf (circuitOf (x .s .now)) (x .k .instances) (x .k .parties) (x .witness .now) (masterIn (x .nodes .now)) (asksIn (x .k .parties) (x .table .now))) (c .before .before .before .before .before .before .before .before .before .respond .last .1 .1 .1 .1 .1 .1 .1 .0) (c .before .before .before .before .before .before .before .before .before .respond .ensures) (c .before .before .gather .last .1 .1 .0) (c .before .before .before .before .before .before .before .before .before .respond .kept .1 .1 .1 .1 .1 .1 .1 .0) (c .before .before .gather .kept .1 .1 .0)
+    answer-kept (x .s .now) (x .k .instances) (x .k .parties) (x .salt) (x .witness .now) (x .nodes .now) (x .table .now) (x .part .now) (p .1 .1) (c .before .before .before .before .before .before .before .before .before .before .before .before .before .before .mark-nodes .result) (c .before .before .before .before .before .before .before .before .before .before .before .before .proof-bytes .result) (c .before .before .before .before .before .before .before .before .before .before .before .before .before .before .mark-nodes .ensures .0) (c .before .before .before .before .before .before .before .before .before .before .before .before .proof-bytes .ensures) (responseOf (circuitOf (x .s .now)) (x .k .instances) (x .k .parties) (x .salt) (x .witness .now) (masterIn (x .nodes .now)) (asksIn (x .k .parties) (x .table .now))) (c .before .before .before .before .before .before .before .before .before .respond .last .1 .1 .1 .1 .1 .1 .1 .1 .0) (c .before .before .before .before .before .before .before .before .before .respond .ensures) (c .before .before .gather .last .1 .1 .0) (c .before .before .before .before .before .before .before .before .before .respond .kept .1 .1 .1 .1 .1 .1 .1 .1 .0) (c .before .before .gather .kept .1 .1 .0)
 
 same-length-2 : tie.Need-same-length-2
-same-length-2 c = c .before .before .before .before .before .before .before .before .before .respond .kept .1 .1 .1 .1 .1 .1 .1 .1 .0
+same-length-2 c = c .before .before .before .before .before .before .before .before .before .respond .kept .1 .1 .1 .1 .1 .1 .1 .1 .1 .0
 
 returns : tie.Need-returns
 returns c =
@@ -111,7 +111,7 @@ returns c =
     let p = c .before .before .before .before .before .before .before .before .before .before .before .before .before .before .before .before .before .before .before .before .before .before .pre in
     let low = rows-low (x .k .instances) (p .1 .1 .few) (x .nodes .now) (p .1 .1 .rows) in
     let back = front-back 1024 (length (x .nodes .now) / 16) (c .before .before .before .before .before .before .before .before .before .before .before .before .before .before .mark-nodes .last .1 .1 .0) low (c .before .before .before .before .before .before .before .before .before .before .before .before .before .before .mark-nodes .kept .1 .1 .0) in
-    (c .before .before .before .before .before .before .before .before .before .before .before .before .proof-bytes .ensures, answer-made (x .s .now) (x .k .instances) (x .k .parties) (x .witness .now) (x .nodes .now) (x .table .now) (x .part .now) (p .1 .1) (c .before .before .before .before .before .before .before .before .before .before .before .before .before .before .mark-nodes .result) (c .before .before .before .before .before .before .before .before .before .before .before .before .proof-bytes .result) (c .before .before .before .before .before .before .before .before .before .before .before .before .before .before .mark-nodes .ensures .0) (c .before .before .before .before .before .before .before .before .before .before .before .before .proof-bytes .ensures) (responseOf (circuitOf (x .s .now)) (x .k .instances) (x .k .parties) (x .witness .now) (masterIn (x .nodes .now)) (asksIn (x .k .parties) (x .table .now))) (c .before .before .before .before .before .before .before .before .before .respond .last .1 .1 .1 .1 .1 .1 .1 .0) (c .before .before .before .before .before .before .before .before .before .respond .ensures) _ _ (back ∙ c .before .before .before .before .before .before .before .before .before .before .before .before .before .before .mark-nodes .ensures .1) (c .before .before .gather .ensures))
+    (c .before .before .before .before .before .before .before .before .before .before .before .before .proof-bytes .ensures, answer-made (x .s .now) (x .k .instances) (x .k .parties) (x .salt) (x .witness .now) (x .nodes .now) (x .table .now) (x .part .now) (p .1 .1) (c .before .before .before .before .before .before .before .before .before .before .before .before .before .before .mark-nodes .result) (c .before .before .before .before .before .before .before .before .before .before .before .before .proof-bytes .result) (c .before .before .before .before .before .before .before .before .before .before .before .before .before .before .mark-nodes .ensures .0) (c .before .before .before .before .before .before .before .before .before .before .before .before .proof-bytes .ensures) (responseOf (circuitOf (x .s .now)) (x .k .instances) (x .k .parties) (x .salt) (x .witness .now) (masterIn (x .nodes .now)) (asksIn (x .k .parties) (x .table .now))) (c .before .before .before .before .before .before .before .before .before .respond .last .1 .1 .1 .1 .1 .1 .1 .1 .0) (c .before .before .before .before .before .before .before .before .before .respond .ensures) _ _ (back ∙ c .before .before .before .before .before .before .before .before .before .before .before .before .before .before .mark-nodes .ensures .1) (c .before .before .gather .ensures))
 
 pub answer-spec : {M : Type 1} → statement M
 answer-spec =

@@ -9,7 +9,7 @@ use lib.ListN.{length, take}
 use Rattle.bits.proofs.Rows.{part-length, rows-none, rows-turn}
 use Rattle.bits.specs.Bits.{tabulate}
 use Rattle.circuit.specs.File.{circuitOf}
-use Rattle.hashing.specs.Inputs.{allCommitmentsInput, allOnlineInput}
+use Rattle.hashing.specs.Inputs.{contextOf, allCommitmentsInput, allOnlineInput}
 use Rattle.hashing.specs.Steps.{taken}
 use Rattle.hashing.proofs.Digests.{taken-more}
 use Rattle.instance.specs.Instance.{masterCommitments, masterOnline}
@@ -21,11 +21,11 @@ use Rattle.proving.proofs.responding.first.Statement.{statement}
 use Rattle.proving.proofs.responding.first.Tie as tie
 
 abbrev Inv-loop : tie.InvT-loop
-Inv-loop s z witness nodes onlines₀ memory₀ m n h all₀ j₀ onlines memory all j =
-    (j ≤ m) × ((length onlines ≡ length onlines₀) × ((length memory ≡ length memory₀) × ((all ≡ taken (allCommitmentsInput (flatten (tabulate j (commitmentsAt (circuitOf s) n witness (masterIn nodes)))))) × (take (j * 32) onlines ≡ flatten (tabulate j (onlineAt (circuitOf s) n witness (masterIn nodes)))))))
+Inv-loop s z salt witness nodes onlines₀ memory₀ m n h all₀ j₀ onlines memory all j =
+    (j ≤ m) × ((length onlines ≡ length onlines₀) × ((length memory ≡ length memory₀) × ((all ≡ taken (allCommitmentsInput (flatten (tabulate j (commitmentsAt (circuitOf s) n salt witness (masterIn nodes)))))) × (take (j * 32) onlines ≡ flatten (tabulate j (onlineAt (circuitOf s) n salt witness (masterIn nodes)))))))
 
 abbrev μ-loop : tie.MeasureT-loop
-μ-loop s z witness nodes onlines₀ memory₀ m n h all₀ j₀ onlines memory all j = m - j
+μ-loop s z salt witness nodes onlines₀ memory₀ m n h all₀ j₀ onlines memory all j = m - j
 
 start-all-commitments-requires : tie.Need-start-all-commitments-requires Inv-loop μ-loop
 start-all-commitments-requires c κs = tt
@@ -33,7 +33,7 @@ start-all-commitments-requires c κs = tt
 loop-holds : tie.Need-loop-holds Inv-loop μ-loop
 loop-holds c =
     let x = c .before .before .before .before .before .before .args in
-    (omega arith, (refl, (refl, (all-none (circuitOf (x .s .now)) (x .k .parties) (x .witness .now) (masterIn (x .nodes .now)) _ (c .start-all-commitments .ensures), rows-none 32 (x .onlines .now)))))
+    (omega arith, (refl, (refl, (all-none (circuitOf (x .s .now)) (x .k .parties) (x .salt) (x .witness .now) (masterIn (x .nodes .now)) _ (c .start-all-commitments .ensures), rows-none 32 (x .onlines .now)))))
 
 master-requires : tie.Need-master-requires Inv-loop μ-loop
 master-requires c κs = omega (arith, c .before .loop .inv .0, c .before .before .before .before .before .before .before .before .pre .1 .1 .0)
@@ -66,6 +66,7 @@ part-copy-start : tie.Need-part-copy-start Inv-loop μ-loop
 part-copy-start c = omega arith
 
 -- the row lies inside
+
 inside : (c : tie.After-copy-arg2 Inv-loop μ-loop) → 32 * c .before .before .before .before .before .before .before .before .before .before .before .before .before .loop .j + 32 ≤ length (c .before .before .before .before .before .before .before .before .before .before .before .before .before .loop .onlines)
 inside c = omega (arith, c .before .before .before .before .before .before .before .before .before .before .before .before .loop-test .taken, c .before .before .before .before .before .before .before .before .before .before .before .before .before .loop .inv .1 .0, c .before .before .before .before .before .before .before .before .before .before .before .before .before .before .before .before .before .before .before .before .pre .1 .1 .1 .1)
 
@@ -97,12 +98,12 @@ loop-again c =
         (
           d .kept .1 .1 .1 .1 .1 .0 ∙ l .inv .1 .1 .0,
           (
-            all-turn (circuitOf (x .s .now)) (x .k .parties) (x .witness .now) (masterIn (x .nodes .now)) (l .j) (l .all) (l .inv .1 .1 .1 .0) _ _
-                (d .ensures .0 ∙ ap (masterCommitments (circuitOf (x .s .now)) (x .k .parties) (l .j)) (c .before .before .before .before .before .before .before .before .before .before .before .before .before .before .before .master .ensures)) (c .before .before .before .before .before .before .before .absorb .ensures),
-            rows-turn 32 (l .j) a (a + 32) (omega arith) refl (l .onlines) (inside (c .before .before .before .before)) (onlineAt (circuitOf (x .s .now)) (x .k .parties) (x .witness .now) (masterIn (x .nodes .now))) z
+            all-turn (circuitOf (x .s .now)) (x .k .parties) (x .salt) (x .witness .now) (masterIn (x .nodes .now)) (l .j) (l .all) (l .inv .1 .1 .1 .0) _ _
+                (d .ensures .0 ∙ ap (masterCommitments (circuitOf (x .s .now)) (x .k .parties) (contextOf (x .salt) (l .j))) (c .before .before .before .before .before .before .before .before .before .before .before .before .before .before .before .master .ensures)) (c .before .before .before .before .before .before .before .absorb .ensures),
+            rows-turn 32 (l .j) a (a + 32) (omega arith) refl (l .onlines) (inside (c .before .before .before .before)) (onlineAt (circuitOf (x .s .now)) (x .k .parties) (x .salt) (x .witness .now) (masterIn (x .nodes .now))) z
                 (k ∙ part-length 32 (l .j) a (a + 32) (omega arith) refl (l .onlines) (inside (c .before .before .before .before)))
                 (l .inv .1 .1 .1 .1)
-                (c .before .before .copy .ensures ∙ d .ensures .1 ∙ ap (masterOnline (circuitOf (x .s .now)) (x .k .parties) (l .j) (x .witness .now)) (c .before .before .before .before .before .before .before .before .before .before .before .before .before .before .before .master .ensures)),
+                (c .before .before .copy .ensures ∙ d .ensures .1 ∙ ap (masterOnline (circuitOf (x .s .now)) (x .k .parties) (contextOf (x .salt) (l .j)) (x .witness .now)) (c .before .before .before .before .before .before .before .before .before .before .before .before .before .before .before .master .ensures)),
           ),
         ),
       ),
@@ -142,8 +143,8 @@ returns c =
     let x = c .before .before .before .before .before .before .before .before .before .before .before .before .before .before .before .before .args in
     let p = c .before .before .before .before .before .before .before .before .before .before .before .before .before .before .before .before .pre in
     let e : l .j ≡ x .k .instances = omega (arith, c .before .before .before .before .before .before .before .before .loop-test .left, l .inv .0) in
-    let w = onlines-end (circuitOf (x .s .now)) (x .k .parties) (x .witness .now) (masterIn (x .nodes .now)) (x .k .instances) (l .j) (l .onlines) e (l .inv .1 .0 ∙ p .1 .1 .1 .1) (l .inv .1 .1 .1 .1) in (
-      first-end (circuitOf (x .s .now)) (x .k .parties) (x .witness .now) (masterIn (x .nodes .now)) (l .j) (l .all) (l .inv .1 .1 .1 .0) (x .k .instances) (l .onlines) _ _ _ _ _ e
+    let w = onlines-end (circuitOf (x .s .now)) (x .k .parties) (x .salt) (x .witness .now) (masterIn (x .nodes .now)) (x .k .instances) (l .j) (l .onlines) e (l .inv .1 .0 ∙ p .1 .1 .1 .1) (l .inv .1 .1 .1 .1) in (
+      first-end (circuitOf (x .s .now)) (x .k .parties) (x .salt) (x .witness .now) (masterIn (x .nodes .now)) (l .j) (l .all) (l .inv .1 .1 .1 .0) (x .k .instances) (l .onlines) _ _ _ _ _ e
           (c .before .before .before .finish2 .ensures) w (c .before .before .before .before .before .before .before .start-all-online .ensures) (c .before .before .before .before .before .absorb2 .ensures) (c .before .before .before .before .finish .ensures) (c .transcript .ensures),
       w,
     )

@@ -7,6 +7,7 @@ use mathlib.Core.List.{List, _++_}
 use Prim.Native.Nat.{ℕ, _+_, _-_, _*_, _≤_}
 use borrow.Rule.Slice.PartMut.{same-len-mid, mid-len}
 use lib.ListN.{length, take, drop}
+use Rattle.hashing.specs.Inputs.{contextOf}
 use Rattle.circuit.specs.File.{circuitOf}
 use Rattle.instance.specs.Instance.{masterOnline, stretchOf}
 use Rattle.proof.specs.Protocol.{responseOf}
@@ -19,18 +20,18 @@ use Rattle.proving.proofs.responding.respond.Statement.{statement}
 use Rattle.proving.proofs.responding.respond.Tie as tie
 
 abbrev Inv-loop : tie.InvT-loop
-Inv-loop s z table opened witness nodes part₀ memory₀ m n h end₀ j₀ part memory end j =
-    (j ≤ m) × ((length part ≡ length part₀) × ((length memory ≡ length memory₀) × ((end ≡ length (sent (circuitOf s) n witness (masterIn nodes) (asksIn n table) (take opened part₀) j)) × (part ≡ take end part₀ ++ drop end (sent (circuitOf s) n witness (masterIn nodes) (asksIn n table) (take opened part₀) m)))))
+Inv-loop s z salt table opened witness nodes part₀ memory₀ m n h end₀ j₀ part memory end j =
+    (j ≤ m) × ((length part ≡ length part₀) × ((length memory ≡ length memory₀) × ((end ≡ length (sent (circuitOf s) n salt witness (masterIn nodes) (asksIn n table) (take opened part₀) j)) × (part ≡ take end part₀ ++ drop end (sent (circuitOf s) n salt witness (masterIn nodes) (asksIn n table) (take opened part₀) m)))))
 
 abbrev μ-loop : tie.MeasureT-loop
-μ-loop s z table opened witness nodes part₀ memory₀ m n h end₀ j₀ part memory end j = j
+μ-loop s z salt table opened witness nodes part₀ memory₀ m n h end₀ j₀ part memory end j = j
 
 loop-holds : tie.Need-loop-holds Inv-loop μ-loop
 loop-holds c =
     let x = c .before .before .before .before .before .before .args in
     let p = c .before .before .before .before .before .before .pre .1 .1 .size in
-    let f = front-length _ _ _ _ _ _ _ _ (c .before .before .before .before .before .before .pre .1 .1) in
-    (omega arith, (refl, (refl, (sent-size (circuitOf (x .s .now)) (x .k .parties) (x .witness .now) (masterIn (x .nodes .now)) (asksIn (x .k .parties) (x .table .now)) (take (x .opened) (x .part .now)) (x .k .instances) (x .part .now) f p, sent-begin (circuitOf (x .s .now)) (x .k .parties) (x .witness .now) (masterIn (x .nodes .now)) (asksIn (x .k .parties) (x .table .now)) (take (x .opened) (x .part .now)) (x .k .instances) (x .part .now) f p))))
+    let f = front-length _ _ _ _ _ _ _ _ _ (c .before .before .before .before .before .before .pre .1 .1) in
+    (omega arith, (refl, (refl, (sent-size (circuitOf (x .s .now)) (x .k .parties) (x .salt) (x .witness .now) (masterIn (x .nodes .now)) (asksIn (x .k .parties) (x .table .now)) (take (x .opened) (x .part .now)) (x .k .instances) (x .part .now) f p, sent-begin (circuitOf (x .s .now)) (x .k .parties) (x .salt) (x .witness .now) (masterIn (x .nodes .now)) (asksIn (x .k .parties) (x .table .now)) (take (x .opened) (x .part .now)) (x .k .instances) (x .part .now) f p))))
 
 sub-j : tie.Need-sub-j Inv-loop μ-loop
 sub-j c = omega arith
@@ -45,31 +46,35 @@ stretch-bytes-requires c κs =
     (p .0 .known, (p .0 .tree, party-low (x .k .parties) (c .before .before .loop .j - 1) (c .asked .result) (x .table .now) (p .1 .1 .asking) (c .asked .ensures)))
 
 -- the stretch begins inside
+
 fits : (c : tie.After-stretch-bytes Inv-loop μ-loop) → c .stretch-bytes .result ≤ c .before .before .before .loop .end
 fits c =
     let x = c .before .before .before .before .before .before .before .before .before .before .args in
     let l = c .before .before .before .loop in
-    start-fits (circuitOf (x .s .now)) (x .k .parties) (x .witness .now) (masterIn (x .nodes .now)) (x .table .now) (take (x .opened) (x .part .now)) (l .j - 1) (l .j) (c .before .asked .result) (c .stretch-bytes .result) (l .end) (omega (arith, c .before .before .loop-test .taken)) (c .before .asked .ensures) (c .stretch-bytes .ensures) (l .inv .1 .1 .1 .0)
+    start-fits (circuitOf (x .s .now)) (x .k .parties) (x .salt) (x .witness .now) (masterIn (x .nodes .now)) (x .table .now) (take (x .opened) (x .part .now)) (l .j - 1) (l .j) (c .before .asked .result) (c .stretch-bytes .result) (l .end) (omega (arith, c .before .before .loop-test .taken)) (c .before .asked .ensures) (c .stretch-bytes .ensures) (l .inv .1 .1 .1 .0)
 
 -- there the stretches before it end
-begins : (c : tie.After-stretch-bytes Inv-loop μ-loop) → c .before .before .before .loop .end - c .stretch-bytes .result ≡ length (sent (circuitOf (c .before .before .before .before .before .before .before .before .before .before .args .s .now)) (c .before .before .before .before .before .before .before .before .before .before .args .k .parties) (c .before .before .before .before .before .before .before .before .before .before .args .witness .now) (masterIn (c .before .before .before .before .before .before .before .before .before .before .args .nodes .now)) (asksIn (c .before .before .before .before .before .before .before .before .before .before .args .k .parties) (c .before .before .before .before .before .before .before .before .before .before .args .table .now)) (take (c .before .before .before .before .before .before .before .before .before .before .args .opened) (c .before .before .before .before .before .before .before .before .before .before .args .part .now)) (c .before .before .before .loop .j - 1))
+
+begins : (c : tie.After-stretch-bytes Inv-loop μ-loop) → c .before .before .before .loop .end - c .stretch-bytes .result ≡ length (sent (circuitOf (c .before .before .before .before .before .before .before .before .before .before .args .s .now)) (c .before .before .before .before .before .before .before .before .before .before .args .k .parties) (c .before .before .before .before .before .before .before .before .before .before .args .salt) (c .before .before .before .before .before .before .before .before .before .before .args .witness .now) (masterIn (c .before .before .before .before .before .before .before .before .before .before .args .nodes .now)) (asksIn (c .before .before .before .before .before .before .before .before .before .before .args .k .parties) (c .before .before .before .before .before .before .before .before .before .before .args .table .now)) (take (c .before .before .before .before .before .before .before .before .before .before .args .opened) (c .before .before .before .before .before .before .before .before .before .before .args .part .now)) (c .before .before .before .loop .j - 1))
 begins c =
     let x = c .before .before .before .before .before .before .before .before .before .before .args in
     let l = c .before .before .before .loop in
-    start-is (circuitOf (x .s .now)) (x .k .parties) (x .witness .now) (masterIn (x .nodes .now)) (x .table .now) (take (x .opened) (x .part .now)) (l .j - 1) (l .j) (c .before .asked .result) (c .stretch-bytes .result) (l .end) (omega (arith, c .before .before .loop-test .taken)) (c .before .asked .ensures) (c .stretch-bytes .ensures) (l .inv .1 .1 .1 .0)
+    start-is (circuitOf (x .s .now)) (x .k .parties) (x .salt) (x .witness .now) (masterIn (x .nodes .now)) (x .table .now) (take (x .opened) (x .part .now)) (l .j - 1) (l .j) (c .before .asked .result) (c .stretch-bytes .result) (l .end) (omega (arith, c .before .before .loop-test .taken)) (c .before .asked .ensures) (c .stretch-bytes .ensures) (l .inv .1 .1 .1 .0)
 
 -- the bytes of all stretches
-whole : (c : tie.After-stretch-bytes Inv-loop μ-loop) → length (c .before .before .before .before .before .before .before .before .before .before .args .part .now) ≡ length (sent (circuitOf (c .before .before .before .before .before .before .before .before .before .before .args .s .now)) (c .before .before .before .before .before .before .before .before .before .before .args .k .parties) (c .before .before .before .before .before .before .before .before .before .before .args .witness .now) (masterIn (c .before .before .before .before .before .before .before .before .before .before .args .nodes .now)) (asksIn (c .before .before .before .before .before .before .before .before .before .before .args .k .parties) (c .before .before .before .before .before .before .before .before .before .before .args .table .now)) (take (c .before .before .before .before .before .before .before .before .before .before .args .opened) (c .before .before .before .before .before .before .before .before .before .before .args .part .now)) (c .before .before .before .before .before .before .before .before .before .before .args .k .instances))
+
+whole : (c : tie.After-stretch-bytes Inv-loop μ-loop) → length (c .before .before .before .before .before .before .before .before .before .before .args .part .now) ≡ length (sent (circuitOf (c .before .before .before .before .before .before .before .before .before .before .args .s .now)) (c .before .before .before .before .before .before .before .before .before .before .args .k .parties) (c .before .before .before .before .before .before .before .before .before .before .args .salt) (c .before .before .before .before .before .before .before .before .before .before .args .witness .now) (masterIn (c .before .before .before .before .before .before .before .before .before .before .args .nodes .now)) (asksIn (c .before .before .before .before .before .before .before .before .before .before .args .k .parties) (c .before .before .before .before .before .before .before .before .before .before .args .table .now)) (take (c .before .before .before .before .before .before .before .before .before .before .args .opened) (c .before .before .before .before .before .before .before .before .before .before .args .part .now)) (c .before .before .before .before .before .before .before .before .before .before .args .k .instances))
 whole c =
     let x = c .before .before .before .before .before .before .before .before .before .before .args in
-    sent-size (circuitOf (x .s .now)) (x .k .parties) (x .witness .now) (masterIn (x .nodes .now)) (asksIn (x .k .parties) (x .table .now)) (take (x .opened) (x .part .now)) (x .k .instances) (x .part .now) (front-length _ _ _ _ _ _ _ _ (c .before .before .before .before .before .before .before .before .before .before .pre .1 .1)) (c .before .before .before .before .before .before .before .before .before .before .pre .1 .1 .size)
+    sent-size (circuitOf (x .s .now)) (x .k .parties) (x .salt) (x .witness .now) (masterIn (x .nodes .now)) (asksIn (x .k .parties) (x .table .now)) (take (x .opened) (x .part .now)) (x .k .instances) (x .part .now) (front-length _ _ _ _ _ _ _ _ _ (c .before .before .before .before .before .before .before .before .before .before .pre .1 .1)) (c .before .before .before .before .before .before .before .before .before .before .pre .1 .1 .size)
 
 -- the stretch ends inside
+
 ends : (c : tie.After-stretch-bytes Inv-loop μ-loop) → c .before .before .before .loop .end ≤ length (c .before .before .before .loop .part)
 ends c =
     let x = c .before .before .before .before .before .before .before .before .before .before .args in
     let l = c .before .before .before .loop in
-    omega (arith, whole c, l .inv .1 .0, l .inv .1 .1 .1 .0, sent-inside (circuitOf (x .s .now)) (x .k .parties) (x .witness .now) (masterIn (x .nodes .now)) (asksIn (x .k .parties) (x .table .now)) (take (x .opened) (x .part .now)) (l .j - 1) (l .j) (x .k .instances) (omega (arith, c .before .before .loop-test .taken)) (l .inv .0))
+    omega (arith, whole c, l .inv .1 .0, l .inv .1 .1 .1 .0, sent-inside (circuitOf (x .s .now)) (x .k .parties) (x .salt) (x .witness .now) (masterIn (x .nodes .now)) (asksIn (x .k .parties) (x .table .now)) (take (x .opened) (x .part .now)) (l .j - 1) (l .j) (x .k .instances) (omega (arith, c .before .before .loop-test .taken)) (l .inv .0))
 
 sub-start : tie.Need-sub-start Inv-loop μ-loop
 sub-start c = fits c
@@ -87,12 +92,13 @@ sub-copy : tie.Need-sub-copy Inv-loop μ-loop
 sub-copy c = omega arith
 
 -- the h'_j lies inside
+
 inside : (c : tie.After-part Inv-loop μ-loop) → 32 * (c .before .before .before .before .loop .j - 1) + 32 ≤ length (c .before .before .before .before .loop .part)
 inside c =
     let x = c .before .before .before .before .before .before .before .before .before .before .before .args in
     let p = c .before .before .before .before .before .before .before .before .before .before .before .pre in
     let l = c .before .before .before .before .loop in
-    omega (arith, l .inv .0, l .inv .1 .0, c .before .before .before .loop-test .taken, onlines-inside (circuitOf (x .s .now)) (x .k .parties) (x .witness .now) (masterIn (x .nodes .now)) (asksIn (x .k .parties) (x .table .now)) (take (x .opened) (x .part .now)) (x .k .instances) (x .part .now) (front-length _ _ _ _ _ _ _ _ (p .1 .1)) (p .1 .1 .size))
+    omega (arith, l .inv .0, l .inv .1 .0, c .before .before .before .loop-test .taken, onlines-inside (circuitOf (x .s .now)) (x .k .parties) (x .salt) (x .witness .now) (masterIn (x .nodes .now)) (asksIn (x .k .parties) (x .table .now)) (take (x .opened) (x .part .now)) (x .k .instances) (x .part .now) (front-length _ _ _ _ _ _ _ _ _ (p .1 .1)) (p .1 .1 .size))
 
 part-copy-start : tie.Need-part-copy-start Inv-loop μ-loop
 part-copy-start c = omega arith
@@ -141,8 +147,8 @@ stretch-requires c κs =
             ap length (c .before .before .before .master .ensures) ∙ length-masterIn (x .k .instances) (x .nodes .now) (p .1 .1 .rows) (l .j - 1) (omega (arith, l .inv .0, c .before .before .before .before .before .before .before .before .before .before .before .loop-test .taken)),
             (
               c .before .before .before .before .before .copy .ensures
-                  ∙ online-there (circuitOf (x .s .now)) (x .k .parties) (x .witness .now) (masterIn (x .nodes .now)) (asksIn (x .k .parties) (x .table .now)) (take (x .opened) (x .part .now)) (l .j - 1) (l .j) (x .k .instances) (omega (arith, c .before .before .before .before .before .before .before .before .before .before .before .loop-test .taken)) (l .inv .0) start (l .end) (x .part .now) (l .part) (whole b) (begins b) (l .inv .1 .1 .1 .0) (l .inv .1 .1 .1 .1) (32 * (l .j - 1)) (l .inv .1 .0) (p .1 .1 .onlines) refl
-                  ∙ ap (masterOnline (circuitOf (x .s .now)) (x .k .parties) (l .j - 1) (x .witness .now)) (sym (c .before .before .before .master .ensures)),
+                  ∙ online-there (circuitOf (x .s .now)) (x .k .parties) (x .salt) (x .witness .now) (masterIn (x .nodes .now)) (asksIn (x .k .parties) (x .table .now)) (take (x .opened) (x .part .now)) (l .j - 1) (l .j) (x .k .instances) (omega (arith, c .before .before .before .before .before .before .before .before .before .before .before .loop-test .taken)) (l .inv .0) start (l .end) (x .part .now) (l .part) (whole b) (begins b) (l .inv .1 .1 .1 .0) (l .inv .1 .1 .1 .1) (32 * (l .j - 1)) (l .inv .1 .0) (p .1 .1 .onlines) refl
+                  ∙ ap (masterOnline (circuitOf (x .s .now)) (x .k .parties) (contextOf (x .salt) (l .j - 1)) (x .witness .now)) (sym (c .before .before .before .master .ensures)),
               mid-len start (l .end) (l .part) (ends b) ∙ omega (arith, fits b) ∙ b .stretch-bytes .ensures,
             ),
           ),
@@ -167,8 +173,8 @@ loop-again c =
           v .kept .1 .1 .1 .1 .1 .1 .1 .1 .0 ∙ l .inv .1 .1 .0,
           (
             begins b,
-            sent-turn (circuitOf (x .s .now)) (x .k .parties) (x .witness .now) (masterIn (x .nodes .now)) (asksIn (x .k .parties) (x .table .now)) (take (x .opened) (x .part .now)) (l .j - 1) (l .j) (x .k .instances) (omega (arith, c .before .before .before .before .before .before .before .before .before .before .before .before .before .before .before .before .loop-test .taken)) (l .inv .0) start (l .end) (x .part .now) (l .part) (whole b) (begins b) (l .inv .1 .1 .1 .0) (l .inv .1 .1 .1 .1) (v .last .1 .1 .1 .1 .1 .1 .1 .0)
-                (v .ensures ∙ ap₂ (λ (u : List ℕ) (i : ℕ). stretchOf (circuitOf (x .s .now)) (x .k .parties) (l .j - 1) (x .witness .now) u (askOf (x .k .parties) i)) (c .before .before .before .before .before .before .before .before .master .ensures) (c .before .before .before .before .before .before .before .before .before .before .before .before .before .before .before .asked .ensures)),
+            sent-turn (circuitOf (x .s .now)) (x .k .parties) (x .salt) (x .witness .now) (masterIn (x .nodes .now)) (asksIn (x .k .parties) (x .table .now)) (take (x .opened) (x .part .now)) (l .j - 1) (l .j) (x .k .instances) (omega (arith, c .before .before .before .before .before .before .before .before .before .before .before .before .before .before .before .before .loop-test .taken)) (l .inv .0) start (l .end) (x .part .now) (l .part) (whole b) (begins b) (l .inv .1 .1 .1 .0) (l .inv .1 .1 .1 .1) (v .last .1 .1 .1 .1 .1 .1 .1 .0)
+                (v .ensures ∙ ap₂ (λ (u : List ℕ) (i : ℕ). stretchOf (circuitOf (x .s .now)) (x .k .parties) (contextOf (x .salt) (l .j - 1)) (x .witness .now) u (askOf (x .k .parties) i)) (c .before .before .before .before .before .before .before .before .master .ensures) (c .before .before .before .before .before .before .before .before .before .before .before .before .before .before .before .asked .ensures)),
           ),
         ),
       ),
@@ -184,9 +190,9 @@ returns : tie.Need-returns Inv-loop μ-loop
 returns c =
     let l = c .before .loop in
     let x = c .before .before .before .before .before .before .before .before .args in
-    let f = front-length _ _ _ _ _ _ _ _ (c .before .before .before .before .before .before .before .before .pre .1 .1) ∙ sym (c .before .before .before .before .before .before .before .before .pre .1 .1 .place) in
-    sent-end (circuitOf (x .s .now)) (x .k .parties) (x .witness .now) (masterIn (x .nodes .now)) (asksIn (x .k .parties) (x .table .now)) (take (x .opened) (x .part .now)) (l .j) (x .k .instances) (l .end) (x .part .now) (l .part) (omega (arith, c .loop-test .left)) (l .inv .1 .1 .1 .0) (l .inv .1 .1 .1 .1)
-    ∙ ap (λ (i : ℕ). take i (x .part .now) ++ responseOf (circuitOf (x .s .now)) (x .k .instances) (x .k .parties) (x .witness .now) (masterIn (x .nodes .now)) (asksIn (x .k .parties) (x .table .now))) f
+    let f = front-length _ _ _ _ _ _ _ _ _ (c .before .before .before .before .before .before .before .before .pre .1 .1) ∙ sym (c .before .before .before .before .before .before .before .before .pre .1 .1 .place) in
+    sent-end (circuitOf (x .s .now)) (x .k .parties) (x .salt) (x .witness .now) (masterIn (x .nodes .now)) (asksIn (x .k .parties) (x .table .now)) (take (x .opened) (x .part .now)) (l .j) (x .k .instances) (l .end) (x .part .now) (l .part) (omega (arith, c .loop-test .left)) (l .inv .1 .1 .1 .0) (l .inv .1 .1 .1 .1)
+    ∙ ap (λ (i : ℕ). take i (x .part .now) ++ responseOf (circuitOf (x .s .now)) (x .k .instances) (x .k .parties) (x .salt) (x .witness .now) (masterIn (x .nodes .now)) (asksIn (x .k .parties) (x .table .now))) f
 
 pub respond-spec : {M : Type 1} → statement M
 respond-spec =
