@@ -145,12 +145,12 @@ enum wv_answer {
 #define WV_MAX_LISTED 16         /* wv_one_of is lent 1 to 16 outputs */
 #define WV_MAX_WORK 6436864      /* a work buffer for every circuit */
 #define WV_MAX_STACK 98304       /* no call takes more of the stack */
-#define WV_MAX_PARTIES 16        /* there are 2, 4, 8 or 16 parties */
+#define WV_MAX_PARTIES 64        /* there are 2, 4, 8, 16, 32 or 64 parties */
 #define WV_MAX_INSTANCES 512     /* a proof has 2 to 512 instances */
 #define WV_MAX_INSTANCE_NUMBER 65535
 #define WV_MAX_MESSAGE 4096      /* the longest message */
 #define WV_PROOF_HEADER_LEN 70
-#define WV_MAX_PROOF 12873230    /* room for every proof; see wv_proof_len */
+#define WV_MAX_PROOF 12889582    /* room for every proof; see wv_proof_len */
 #define WV_MAX_CALLERS 16        /* a shared checker has callers 0 to 15 */
 #define WV_MAX_QUOTA 512         /* and checks 1 to 512 instances in a call; */
 #define WV_SHARED_STATE 7537     /* its state */
@@ -364,9 +364,9 @@ uint32_t wv_small(uint32_t inputs, uint32_t outputs, uint32_t gates,
                   uint8_t *out, size_t out_len, uint64_t *written);
 
 /*
- * A run of a circuit by n parties; n is 2, 4, 8 or 16, and A is the number of
- * AND gates. Each length below is a number of bits in that / 8 bytes, rounded
- * up; the unused bits of a last byte are zero.
+ * A run of a circuit by n parties; n is 2, 4, 8, 16, 32 or 64, and A is the
+ * number of AND gates. Each length below is a number of bits in that / 8 bytes,
+ * rounded up; the unused bits of a last byte are zero.
  *
  *   witness        I bits
  *   tapes          n rows, party 0 first, each of I + 2 A bits in bytes of its
@@ -402,7 +402,7 @@ static inline size_t wv_work_len(uint32_t inputs, uint32_t gates)
  * Writes the corrections of the tapes of n parties to corrections. Refuses a
  * circuit as above, then:
  *   6  the work buffer is shorter than wv_work_len says
- *   8  n is not 2, 4, 8 or 16
+ *   8  n is not 2, 4, 8, 16, 32 or 64
  *   6  the length of the tapes or of corrections is not as above
  *   7  an unused bit of the tapes is not zero
  */
@@ -416,7 +416,7 @@ uint32_t wv_prepare(const uint8_t *circuit, size_t circuit_len, uint32_t n,
  * wrong. Writes the masked inputs, the n broadcast rows, and the outputs of the
  * run to y. Refuses a circuit as above, then:
  *   6  the work buffer is shorter than wv_work_len says
- *   8  n is not 2, 4, 8 or 16
+ *   8  n is not 2, 4, 8, 16, 32 or 64
  *   6  the length of the witness, the tapes, the corrections, masked_inputs,
  *      rows or y is not as above
  *   7  an unused bit of the witness, the tapes or the corrections is not zero
@@ -437,7 +437,7 @@ uint32_t wv_run(const uint8_t *circuit, size_t circuit_len, uint32_t n,
  * that were passed, and the rest of the row is zero. Refuses a circuit as
  * above, then:
  *   6  the work buffer is shorter than wv_work_len says
- *   8  n is not 2, 4, 8 or 16
+ *   8  n is not 2, 4, 8, 16, 32 or 64
  *   9  p is not below n, or cut is above G
  *   6  the length of the witness, the tapes, shown_tapes (as tapes),
  *      corrections, masked_inputs or row (one row) is not as above
@@ -458,7 +458,7 @@ uint32_t wv_show(const uint8_t *circuit, size_t circuit_len,
  * writes the n broadcast rows to rows; row p is as lent. Refuses a circuit as
  * above, then:
  *    6  the work buffer is shorter than wv_work_len says
- *    8  n is not 2, 4, 8 or 16
+ *    8  n is not 2, 4, 8, 16, 32 or 64
  *    9  p is not below n
  *    6  the length of the tapes, the corrections, the masked inputs, the row
  *       (one row), y or rows is not as above
@@ -578,8 +578,8 @@ uint32_t wv_draw(uint8_t *page, size_t page_len, uint64_t count,
                  uint8_t root[WV_ROOT_LEN]);
 
 /*
- * A tree of seeds has n leaves, one for each party; n is 2, 4, 8 or 16. The
- * number j of an instance is 0 to 65535. A wider number is refused, not cut
+ * A tree of seeds has n leaves, one for each party; n is 2, 4, 8, 16, 32 or 64.
+ * The number j of an instance is 0 to 65535. A wider number is refused, not cut
  * down. Never use 65535 for an instance: it is the number of the tree over the
  * masters (wv_masters), and wv_expand(65535, n, salt, root, ..) gives the masters
  * of n instances. The instances of a proof have 0 to m - 1.
@@ -597,7 +597,7 @@ uint32_t wv_draw(uint8_t *page, size_t page_len, uint64_t count,
 /*
  * Writes the n leaves of the tree of instance j over the master (16 bytes) to
  * leaves: 16 n bytes, party 0 first. Refuses in this order:
- *   8  j is above 65535, or n is not 2, 4, 8 or 16
+ *   8  j is above 65535, or n is not 2, 4, 8, 16, 32 or 64
  *   6  the length of the salt (32), of the master or of leaves is not that
  */
 uint32_t wv_expand(uint32_t j, uint32_t n,
@@ -608,9 +608,9 @@ uint32_t wv_expand(uint32_t j, uint32_t n,
 /*
  * Opens all leaves but that of party p: writes the siblings of the nodes on the
  * way from the top to leaf p to siblings, top first. These are 16 bytes for
- * each level: 16, 32, 48 or 64 bytes for n = 2, 4, 8 or 16. Refuses in this
- * order:
- *   8  j is above 65535, or n is not 2, 4, 8 or 16
+ * each level: 16, 32, 48, 64, 80 or 96 bytes for n = 2, 4, 8, 16, 32 or 64.
+ * Refuses in this order:
+ *   8  j is above 65535, or n is not 2, 4, 8, 16, 32 or 64
  *   9  p is not below n
  *   6  the length of the salt (32), of the master (16) or of siblings is not that
  */
@@ -672,7 +672,8 @@ uint32_t wv_cover(uint32_t m, const uint8_t *hidden, size_t hidden_len,
  * Writes 3 bytes to out for each chosen instance, in ascending order: its
  * number (16 bits, little-endian) and its hidden party (one byte). Refuses in
  * this order:
- *   8  m is not 2 to 512, tau is not 1 to m - 1, or n is not 2, 4, 8 or 16
+ *   8  m is not 2 to 512, tau is not 1 to m - 1, or n is not 2, 4, 8, 16, 32
+ *      or 64
  *   6  hstar, the salt or the digest is not of 32 bytes, y is not of 1 to 32
  *      bytes, the message is longer than 4096 bytes, or out is not of 3 tau bytes
  */
@@ -687,9 +688,9 @@ uint32_t wv_challenge(uint32_t m, uint32_t tau, uint32_t n,
 /*
  * A proof says that its maker has a witness for which the circuit gives y. It
  * is bound to the circuit file, to y and to a message of 0 to 4096 bytes. There
- * are m instances (2 to 512) of a run by n parties (2, 4, 8 or 16); a challenge
- * (wv_challenge) chooses tau of them (1 to m - 1), each with one party that
- * stays hidden.
+ * are m instances (2 to 512) of a run by n parties (2, 4, 8, 16, 32 or 64); a
+ * challenge (wv_challenge) chooses tau of them (1 to m - 1), each with one party
+ * that stays hidden.
  *
  * All numbers are little-endian. A proof starts with m and tau (16 bits each),
  * n and a zero (one byte each), h* (32 bytes) and the salt (32). Then come the
@@ -725,9 +726,11 @@ static inline size_t wv_proof_len(uint32_t inputs, uint32_t outputs,
     if (inputs < 1 || inputs > WV_MAX_INPUTS
         || outputs < 1 || outputs > WV_MAX_OUTPUTS || ands > WV_MAX_GATES
         || m < 2 || m > WV_MAX_INSTANCES || tau < 1 || tau >= m
-        || (n != 2 && n != 4 && n != 8 && n != WV_MAX_PARTIES))
+        || (n != 2 && n != 4 && n != 8 && n != 16 && n != 32
+            && n != WV_MAX_PARTIES))
         return 0;
-    levels = n == 2 ? 1 : n == 4 ? 2 : n == 8 ? 3 : 4;
+    levels = n == 2 ? 1 : n == 4 ? 2 : n == 8 ? 3 : n == 16 ? 4
+             : n == 32 ? 5 : 6;
     chosen = 16 * levels + (ands + 7) / 8 + 32 + (inputs + 7) / 8
              + (ands + outputs + 7) / 8;
     return WV_PROOF_HEADER_LEN + 48 * (size_t)(m - tau) + tau * chosen;
@@ -742,7 +745,8 @@ static inline size_t wv_proof_len(uint32_t inputs, uint32_t outputs,
  * The work buffer is as the top of this file says. Refuses a circuit as above,
  * then:
  *    6  the work buffer is shorter than wv_work_len says
- *    8  m is not 2 to 512, tau is not 1 to m - 1, or n is not 2, 4, 8 or 16
+ *    8  m is not 2 to 512, tau is not 1 to m - 1, or n is not 2, 4, 8, 16, 32
+ *       or 64
  *    6  the witness is not of I bits or y not of O bits, the message is longer
  *       than 4096 bytes, the root is not of 16 bytes, the salt not of 32, or
  *       proof has fewer bytes than wv_proof_len says

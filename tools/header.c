@@ -29,6 +29,8 @@ static void proof_lengths(void)
     equal("covers16, n 4", wv_proof_len(32, 17, 16, 163, 80, 4), 10054);
     equal("covers16, n 8", wv_proof_len(32, 17, 16, 145, 66, 8), 9868);
     equal("covers16, n 16", wv_proof_len(32, 17, 16, 142, 56, 16), 10190);
+    equal("covers16, n 32", wv_proof_len(32, 17, 16, 150, 47, 32), 10795);
+    equal("covers16, n 64", wv_proof_len(32, 17, 16, 151, 45, 64), 11413);
     equal("worst", wv_proof_len(512, 1, 4096, 220, 141, 2), 164179);
     equal("the shortest", wv_proof_len(1, 1, 0, 2, 1, 2), 168);
     equal("the longest",
@@ -51,7 +53,10 @@ static void numbers_out_of_limits(void)
     equal("all chosen", wv_proof_len(2, 1, 1, 4, 4, 2), 0);
     equal("one party", wv_proof_len(2, 1, 1, 4, 1, 1), 0);
     equal("three parties", wv_proof_len(2, 1, 1, 4, 1, 3), 0);
-    equal("32 parties", wv_proof_len(2, 1, 1, 4, 1, 32), 0);
+    equal("48 parties", wv_proof_len(2, 1, 1, 4, 1, 48), 0);
+    equal("63 parties", wv_proof_len(2, 1, 1, 4, 1, 63), 0);
+    equal("65 parties", wv_proof_len(2, 1, 1, 4, 1, 65), 0);
+    equal("128 parties", wv_proof_len(2, 1, 1, 4, 1, 128), 0);
 }
 
 static void page_lengths(void)

@@ -221,13 +221,13 @@ static const uint8_t salt[WV_SALT_LEN] = {5};
 
 static void test_tree(void)
 {
-    uint8_t master[16], leaves[16 * PARTIES_MOST], siblings[64];
+    uint8_t master[16], leaves[16 * PARTIES_MOST], siblings[96];
 
     hide_bits(master, 128);
-    accepted("expand", wv_expand(7, 16, salt, sizeof salt, master, 16,
+    accepted("expand", wv_expand(7, PARTIES_MOST, salt, sizeof salt, master, 16,
                                  leaves, sizeof leaves));
     follows("leaves", leaves, sizeof leaves);
-    accepted("open", wv_open(7, 16, 5, salt, sizeof salt, master, 16,
+    accepted("open", wv_open(7, PARTIES_MOST, 5, salt, sizeof salt, master, 16,
                              siblings, sizeof siblings));
     follows("siblings", siblings, sizeof siblings);
 }
@@ -320,7 +320,7 @@ static uint32_t challenge(unsigned declared)
 #define M 10
 #define TAU 4
 #define PROOF_MOST \
-    (70 + 48 * M + TAU * (64 + OCT(WV_MAX_GATES) + 32 + 64 + ROW_MOST))
+    (70 + 48 * M + TAU * (96 + OCT(WV_MAX_GATES) + 32 + 64 + ROW_MOST))
 
 static uint8_t proof[PROOF_MOST];
 
@@ -411,6 +411,7 @@ int main(int argc, char **argv)
         test_circuit(argv[i], argv[i + 1]);
         test_prove(2);
         test_prove(16);
+        test_prove(PARTIES_MOST);
     }
     test_hashes();
     test_tree();

@@ -148,7 +148,7 @@ module _ (s : List ℕ) (z : Sizes) (n : ℕ) (m : List ℕ) (held : Held s z n 
   unfolding tapesLoaded
   tape-low = second-low l n (tapeBytes z) tapes tapes zeroed (given .room .room) (held .some) (held .few) (omega (arith, tapes-fit)) (omega arith) (omega arith)
 
-  words-after : drop (correctionsAt l) words ≡ drop (correctionsAt l) zeroed
+  words-after : drop (planesEnd l) words ≡ drop (planesEnd l) zeroed
   unfolding tapesLoaded
   words-after = before-held l n (tapeBytes z) zeroed (given .room .room) (held .few) (omega arith) tapes
 
@@ -218,7 +218,7 @@ module _ (s : List ℕ) (z : Sizes) (n : ℕ) (m : List ℕ) (held : Held s z n 
     pub begun-after : (j : ℕ) → planesEnd l ≤ j → getD (begun z n v m) j 0 ≡ getD zeroed j 0
     unfolding begun
     begun-after j h =
-        masks-other l v words words-room tape-low (z .inputs) (omega arith) j h ∙ held-at (correctionsAt l) words zeroed words-after j h
+        masks-other l v words words-room tape-low (z .inputs) (omega arith) j h ∙ held-at (planesEnd l) words zeroed words-after j h
 
     pub begun-rows : (j : ℕ) → rowsAt l ≤ j → getD (begun z n v m) j 0 ≡ getD m j 0
     begun-rows j h = begun-after j (omega arith) ∙ held-at (rowsAt l) zeroed m zeroed-after j h

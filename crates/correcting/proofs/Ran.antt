@@ -342,11 +342,11 @@ module _ (s : List ℕ) (z : Sizes) (n : ℕ) (m : List ℕ) (held : Held s z n 
         ext-bitAt part (pack cs) (part-low k (correctionsAt l) fin low) (pack-lt cs) (size ∙ ap oct (sym corrections-count) ∙ sym (length-pack cs))
         (λ i h.
         let hi : i < 8 * k = omega (arith, size) in
-        bitAt-take k (drop (correctionsAt l) fin) i hi ∙ bitAt-drop (correctionsAt l) fin i ∙ bits-same (correctionsAt l) fin done fin-other i
+        bitAt-take k (drop (correctionsAt l) fin) i hi ∙ bitAt-drop (correctionsAt l) fin i ∙ bits-same l fin done fin-other i
         ∙ ⊎-elim
         (λ a. walk-ends .1 .new i i (omega arith) a ∙ sym (bitAt-pack cs i))
         (λ a.
-        walk-ends .1 .beyond i a ∙ bits-same (correctionsAt l) start (correctionsCleared l m) (begun-after s z n m held values) i
+        walk-ends .1 .beyond i a ∙ bits-same l start (correctionsCleared l m) (begun-after s z n m held values) i
         ∙ cleared-bit l m (omega (arith, held .rows)) i hi ∙ sym (bitAt-pack cs i ∙ List·getD-eq-default cs false {n = i} (omega (arith, corrections-count))))
         (lt-or-le i (z .ands)))
 

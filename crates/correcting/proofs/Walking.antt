@@ -38,10 +38,11 @@ use Rattle.correcting.proofs.Holding.{Runs, fixed, sentBy, xor-runs, in
 shown-none : (z : ℕ → ℕ) → shownBy 0 z ≡ wordsSent
 shown-none z = fun-ext (λ u. fun-ext (λ x. chosen-none (z u) x))
 
--- bits from byte a on, where no byte changed
-pub bits-same : (a : ℕ) (s t : List ℕ) → ((j : ℕ) → a ≤ j → getD s j 0 ≡ getD t j 0) → (v : ℕ) → bitAt s (8 * a + v) ≡ bitAt t (8 * a + v)
+-- bits from the corrections on, where no byte after the planes changed
+pub bits-same : (l : Layout) (s t : List ℕ) → ((j : ℕ) → planesEnd l ≤ j → getD s j 0 ≡ getD t j 0) → (v : ℕ)
+    → bitAt s (8 * correctionsAt l + v) ≡ bitAt t (8 * correctionsAt l + v)
 unfolding bitAt
-bits-same a s t h v = ap (λ (x : ℕ). testBit x ((8 * a + v) % 8)) (h ((8 * a + v) / 8) (omega arith))
+bits-same l s t h v = ap (λ (x : ℕ). testBit x ((8 * correctionsAt l + v) % 8)) (h ((8 * correctionsAt l + v) / 8) (omega arith))
 
 -- a correction put stands before the rows
 fixed-after : (l : Layout) (m : List ℕ) (t : ℕ) (d : Bool) → t < l .ands → (j : ℕ) → rowsAt l ≤ j → getD (fixed l m t d) j 0 ≡ getD m j 0
@@ -70,9 +71,9 @@ module _ (l : Layout) (t : ℕ) (mem next· fin : List ℕ) (bs : List Bool) whe
   made-on : length next· ≡ length mem → ((j : ℕ) → planesEnd l ≤ j → getD next· j 0 ≡ getD mem j 0) → Made l t next· fin bs → Made l t mem fin bs
   made-on e h r = record {
     size = r .size ∙ e;
-    kept = λ v x. r .kept v x ∙ bits-same (correctionsAt l) next· mem h v;
+    kept = λ v x. r .kept v x ∙ bits-same l next· mem h v;
     new = r .new;
-    beyond = λ v x. r .beyond v x ∙ bits-same (correctionsAt l) next· mem h v;
+    beyond = λ v x. r .beyond v x ∙ bits-same l next· mem h v;
     after = λ j x. r .after j x ∙ h j (omega arith);
   }
 
@@ -81,15 +82,15 @@ module _ (l : Layout) (t : ℕ) (mem next· fin : List ℕ) (bs : List Bool) whe
       → ((j : ℕ) → planesEnd l ≤ j → getD next· j 0 ≡ getD (fixed l mem t d) j 0) → Made l (suc t) next· fin bs → Made l t mem fin (d ∷ bs)
   made-and d ht room e h r = record {
     size = r .size ∙ e;
-    kept = λ v x. r .kept v (omega arith) ∙ bits-same (correctionsAt l) next· (fixed l mem t d) h v ∙ bitAt-putBit-other mem _ d _ (omega arith);
+    kept = λ v x. r .kept v (omega arith) ∙ bits-same l next· (fixed l mem t d) h v ∙ bitAt-putBit-other mem _ d _ (omega arith);
     new = new-and;
-    beyond = λ v x. r .beyond v x ∙ bits-same (correctionsAt l) next· (fixed l mem t d) h v ∙ bitAt-putBit-other mem _ d _ (omega arith);
+    beyond = λ v x. r .beyond v x ∙ bits-same l next· (fixed l mem t d) h v ∙ bitAt-putBit-other mem _ d _ (omega arith);
     after = λ j x. r .after j x ∙ h j (omega arith) ∙ fixed-after l mem t d ht j x;
   }
     where
       own : bitAt fin (8 * correctionsAt l + t) ≡ d
       own =
-          r .kept t (omega arith) ∙ bits-same (correctionsAt l) next· (fixed l mem t d) h t
+          r .kept t (omega arith) ∙ bits-same l next· (fixed l mem t d) h t
           ∙ bitAt-putBit mem (8 * correctionsAt l + t) d (omega arith)
 
       new-and : (v u : ℕ) → v ≡ t + u → v < l .ands → bitAt fin (8 * correctionsAt l + v) ≡ getD (d ∷ bs) u false

@@ -46,8 +46,8 @@ Complete =
     → Proves s witness y message root salt M tau n buffer work k left
     → (c : Circuit) → readCircuit s ≡ legal c → (lent : List ℕ) → workBytes c ≤ length lent → Accepted s y message (take k left) lent
 
--- the header of a proof file: "11 a header under 38 bytes" (by document 02, order 10, under 70), "out of limits or with its zero byte not 0"; "M is 2..512, τ 1..M−1, n 2, 4, 8
--- or 16"
+-- the header of a proof file: "11 a header under 38 bytes" (by document 02, order 10, under 70), "out of limits or with its zero byte not
+-- 0"; "M is 2..512, τ 1..M−1"; document 02, order 13: "n of 2, 4, 8, 16, 32 and 64"
 pub record GoodHeader (proof : List ℕ) (header : Header) : Type 0 where
   pub size : headerBytes ≤ length proof
   pub M-least : 2 ≤ header .M

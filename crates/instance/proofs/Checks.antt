@@ -7,7 +7,7 @@ use Prim.Native.Nat.{ℕ, suc, _+_, _-_, _*_, _≤_, _<_}
 use native.Mathlib.Omega.{arith}
 use native.Mathlib.Numerals.{add-one}
 use borrow.Author.Tests.{eq-eqb, ne-eqb}
-use borrow.Rule.Slice.PartMut.{putMid, mid-len, drop-put}
+use borrow.Rule.Slice.PartMut.{putMid, mid-len, take-put, drop-put}
 use lib.Dec.{eqb}
 use lib.ListN.{length, take, drop, replicate, length-drop}
 use lib.Seq.{take-all, take-at, drop-at, length-take-le}
@@ -18,6 +18,7 @@ use Rattle.circuit.specs.File.{circuitOf}
 use Rattle.circuit.specs.declared.Sizes.{Sizes}
 use Rattle.planes.specs.Steps.{correctionsAt, rowsAt, seedsAt, heldEnd}
 use Rattle.planes.specs.declared.Layout.{Layout}
+use Rattle.planes.proofs.Fits.{seeds-before}
 use Rattle.walk.specs.Steps.{layoutOf}
 use Rattle.plain.specs.Tapes.{andsOf}
 use Rattle.packed.specs.Steps.{tapesHeld, correctionsHeld}
@@ -28,6 +29,7 @@ use Rattle.instance.specs.Instance.{hiding, seedsBut}
 use Rattle.instance.specs.Stretch.{correctionBytes, stretchBytes, siblingsPart, correctionsPart, commitmentPart, maskedPart, rowPart}
 use Rattle.instance.specs.Opened.{openedSeeds, openedShowing, stretchUnused}
 use Rattle.instance.specs.Steps.{Tree, seedsHeld, tapesBut}
+use Rattle.instance.proofs.Written.{part-first}
 use Rattle.instance.proofs.Tapes.{tapes-hidden}
 use Rattle.instance.proofs.Rooms.{part-kept, corrections-inside, corrections-size}
 
@@ -187,8 +189,13 @@ module _ (z : Sizes) (n : ℕ) (l : Layout) (e : l ≡ layoutOf z) (m : List ℕ
       let d : rows ≡ rowsAt (layoutOf z) = er ∙ ap rowsAt e in
       ap (λ (k : ℕ). drop k filled) (sym d) ∙ drop-put at rows m y (inside .0) (inside .1) short ∙ ap (λ (k : ℕ). drop k m) d
 
-  pub filled-seeds : (x : List ℕ) → seedsHeld z n m ≡ x → seedsHeld z n filled ≡ x
-  filled-seeds x d = part-kept (rowsAt (layoutOf z)) (seedsAt (layoutOf z) n) (32 * n) m filled (omega arith) after ∙ d
+  -- and so are the seeds, which stand before
+  pub filled-seeds : n ≤ 64 → (x : List ℕ) → seedsHeld z n m ≡ x → seedsHeld z n filled ≡ x
+  filled-seeds few x d =
+      let k : ℕ = seedsAt (layoutOf z) in
+      let h : k + 32 * n ≤ at = omega (arith, ea ∙ ap correctionsAt e, seeds-before (layoutOf z), few) in
+      sym (part-first (32 * n) k at filled h) ∙ ap (λ (t : List ℕ). take (32 * n) (drop k t)) (take-put at (rows - at) m y (omega (arith, inside)))
+      ∙ part-first (32 * n) k at m h ∙ d
 
   pub filled-tapes : (x : List ℕ) → tapesHeld z n m ≡ x → tapesHeld z n filled ≡ x
   filled-tapes x d = part-kept (rowsAt (layoutOf z)) (rowsAt (layoutOf z)) (n * oct (z .inputs + 2 * z .ands)) m filled (omega arith) after ∙ d

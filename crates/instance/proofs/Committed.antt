@@ -1,9 +1,9 @@
 -- The commitments of an instance, taken in one after the other.
 -- Assumes nothing.
-use mathlib.Core.Path.{_≡_, sym, ap, _∙_}
+use mathlib.Core.Path.{_≡_, refl, sym, ap, _∙_}
 use mathlib.Core.Bool.{Bool, true, false, cond}
 use mathlib.Core.List.{List, [], _∷_, _++_, flatten, append-assoc}
-use Prim.Native.Nat.{ℕ, zero, suc, _+_, _<_}
+use Prim.Native.Nat.{ℕ, zero, suc, _+_, _-_, _≤_, _<_}
 use native.Mathlib.Nat.{mod-lt}
 use native.Mathlib.Numerals.{add-one}
 use native.Mathlib.Omega.{arith}
@@ -16,18 +16,20 @@ use Rattle.bits.specs.Bits.{tabulate}
 use Rattle.bits.specs.Bytes.{leBytes, rowOf}
 use Rattle.bits.proofs.Little.{leBytes-lt}
 use Rattle.bits.proofs.Rows.{row-lt, flatten-more}
+use Rattle.bits.proofs.Tabulate.{tabulate-cong}
 use Rattle.keccak.specs.declared.sponge.Sponge.{Sponge}
 use Rattle.keccak.specs.Steps.{turned, byteAt, absorbs, padded, squeezeByte, squeezes}
 use Rattle.keccak.specs.Sponge.{sha3-256}
 use Rattle.keccak.proofs.Absorbing.{Bytes}
 use Rattle.keccak.proofs.Lengths.{length-sha3-256}
 use Rattle.hashing.specs.Inputs.{commitmentInput, ownCorrections, commitmentsInput}
-use Rattle.party.specs.Derive.{commitmentOf}
-use Rattle.instance.proofs.Hashed.{sha3-bytes}
+use Rattle.party.specs.Derive.{commitmentTo, commitmentOf}
 use Rattle.hashing.specs.Steps.{taken, given}
 use Rattle.hashing.proofs.Hashes.{bytes-append, bytes-one}
 use Rattle.hashing.proofs.Digests.{taken-more, taken-room, given-taken}
-use Rattle.instance.specs.Instance.{commitmentsDigest}
+use Rattle.instance.specs.Instance.{commitmentsDigest, commitmentsOf}
+use Rattle.instance.specs.Steps.{FirstTaken}
+use Rattle.instance.proofs.Hashed.{sha3-bytes}
 
 -- a part of bytes is bytes
 pub bytes-take : (k : ℕ) (M : List ℕ) → Bytes M → Bytes (take k M)
@@ -53,6 +55,9 @@ module _ (j : Context) (n i : ℕ) (seeds corrections : List ℕ) where
   pub commitment-length : length (commitmentOf j n i seeds corrections) ≡ 32
   unfolding commitmentOf
   commitment-length = length-sha3-256 _
+
+pub digest-length : (M r : List ℕ) → r ≡ sha3-256 M → length r ≡ 32
+digest-length M r e = ap length e ∙ length-sha3-256 M
 
 -- rows of bytes are bytes
 pub bytes-rows : (n : ℕ) (f : ℕ → List ℕ) → ((i : ℕ) → Bytes (f i)) → Bytes (flatten (tabulate n f))
@@ -96,6 +101,11 @@ module _ (j i : ℕ) (f : ℕ → List ℕ) (s : Sponge) (e : s ≡ taken (commi
       ∙ (given-taken (commitmentsInput j (flatten (tabulate i f))) (bytes-input j (flatten (tabulate i f)) (bytes-rows i f h))
       ∙ ap (λ (k : ℕ). sha3-256 (commitmentsInput j (flatten (tabulate k f)))) q))
 
+-- all n are taken in
+pub taken-all : (j i n : ℕ) (f : ℕ → List ℕ) (s : Sponge) → s ≡ taken (commitmentsInput j (flatten (tabulate i f))) → i ≡ n
+    → s ≡ taken (commitmentsInput j (flatten (tabulate n f)))
+taken-all j i n f s e q = e ∙ ap (λ (k : ℕ). taken (commitmentsInput j (flatten (tabulate k f)))) q
+
 -- the commitments, with `theirs` as party p's
 module _ (j : Context) (n p : ℕ) (theirs seeds corrections : List ℕ) where
   abbrev pub comAt : ℕ → List ℕ
@@ -110,3 +120,36 @@ module _ (j : Context) (n p : ℕ) (theirs seeds corrections : List ℕ) where
   pub com-bytes : Bytes theirs → (i : ℕ) → Bytes (comAt i)
   com-bytes h i =
       bytes-either (eqb i p) theirs (commitmentOf j n i seeds corrections) h (commitment-bytes j n i seeds corrections)
+
+-- a party before n − 1 does not commit to the corrections
+commitment-others : (j : Context) (n i : ℕ) (seeds c d : List ℕ) → (i + 1 ≡ n → ⊥) → commitmentOf j n i seeds c ≡ commitmentOf j n i seeds d
+unfolding commitmentOf commitmentInput ownCorrections
+commitment-others j n i seeds c d h = rw (ne-eqb (i + 1) n h)
+
+-- nor has it another's commitment in its place
+pub first-taken : (j : Context) (n : ℕ) (theirs seeds c : List ℕ) (s : Sponge)
+    → s ≡ taken (commitmentsInput (j .number) (flatten (tabulate (n - 1) (comAt j n n theirs seeds c)))) → FirstTaken n j seeds s
+first-taken j n theirs seeds c s e = record {
+  first =
+      e ∙ ap (λ (t : List (List ℕ)). taken (commitmentsInput (j .number) (flatten t)))
+      (tabulate-cong (n - 1) (comAt j n n theirs seeds c) (λ i. commitmentOf j n i seeds [])
+      (λ i l. rw (ne-eqb i n (λ d. omega (arith, d, l))) (commitment-others j n i seeds c [] (λ d. omega (arith, d, l)))));
+}
+
+pub first-room : (n : ℕ) (j : Context) (seeds : List ℕ) (s : Sponge) → FirstTaken n j seeds s → s .fill < 136
+first-room n j seeds s f = coms-room (j .number) (n - 1) (λ i. commitmentOf j n i seeds []) s (f .first)
+
+-- party n − 1 commits last, to the corrections too
+pub commitments-joined : (j : Context) (n : ℕ) (seeds last corr r : List ℕ) (s : Sponge) → 1 ≤ n → FirstTaken n j seeds s → last ≡ rowOf seeds 32 (n - 1)
+    → r ≡ given (absorbs 136 s (commitmentTo j n (n - 1) last corr)) → r ≡ commitmentsDigest (j .number) (commitmentsOf n j seeds corr)
+unfolding commitmentsOf commitmentOf
+commitments-joined j n seeds last corr r s some taken-in own e =
+    let f : ℕ → List ℕ = λ i. commitmentOf j n i seeds corr in
+    let first : s ≡ taken (commitmentsInput (j .number) (flatten (tabulate (n - 1) f))) =
+    taken-in .first
+    ∙ ap (λ (t : List (List ℕ)). taken (commitmentsInput (j .number) (flatten t)))
+    (tabulate-cong (n - 1) (λ i. commitmentOf j n i seeds []) f (λ i l. commitment-others j n i seeds [] corr (λ d. omega (arith, d, l)))) in
+    let all : absorbs 136 s (f (n - 1)) ≡ taken (commitmentsInput (j .number) (flatten (tabulate (n - 1 + 1) f))) =
+    coms-turn (j .number) (n - 1) f s first (f (n - 1)) (absorbs 136 s (f (n - 1))) refl refl in
+    coms-end (j .number) (n - 1 + 1) f (absorbs 136 s (f (n - 1))) all n r (omega arith) (λ k. commitment-bytes j n k seeds corr)
+    (e ∙ ap (λ (row : List ℕ). given (absorbs 136 s (commitmentTo j n (n - 1) row corr))) own)

@@ -11,22 +11,23 @@ use lib.ListN.{length, take, drop, length-append, length-drop, drop-of-length-le
 use lib.Seq.{take-at, drop-at, drop-drop}
 use Rattle.hashing.specs.declared.Context.{Context}
 use Rattle.bits.specs.Bits.{tabulate, oct, pack}
+use Rattle.bits.specs.Bytes.{rowOf}
 use Rattle.parties.specs.Parties.{heightOf}
 use Rattle.circuit.specs.File.{circuitOf}
 use Rattle.circuit.specs.declared.Sizes.{Sizes}
-use Rattle.planes.specs.Steps.{Room, correctionsAt, rowsAt, seedsAt, leavesAt, broadcastWord, tapeWords}
+use Rattle.planes.specs.Steps.{Room, correctionsAt, rowsAt, broadcastWord, tapeWords}
 use Rattle.planes.specs.declared.Layout.{Layout}
 use Rattle.walk.specs.Steps.{layoutOf}
 use Rattle.packed.specs.Steps.{correctionsHeld, broadcastBytes, sentBit}
 use Rattle.mpc.specs.Steps.{Known}
 use Rattle.mpc.proofs.Opened.{circuit-inputs, circuit-outputs, circuit-ands}
-use Rattle.party.specs.Derive.{commitmentOf}
+use Rattle.party.specs.Derive.{commitmentTo, commitmentOf}
 use Rattle.tree.specs.Tree.{siblingsBelow}
-use Rattle.instance.specs.Instance.{hiding, masterMasked, sentCorrections, stretchOf}
+use Rattle.instance.specs.Instance.{hiding, masterSeeds, masterMasked, sentCorrections, stretchOf}
 use Rattle.instance.specs.Stretch.{correctionBytes, stretchBytes}
-use Rattle.instance.specs.Steps.{Tree, seedsHeld, heldBytes, rowSent, Ran}
+use Rattle.instance.specs.Steps.{Tree, heldBytes, rowSent, Ran}
 use Rattle.instance.proofs.Trees.{tree-sizes}
-use Rattle.instance.proofs.Sent.{seeds-part, corrections-part}
+use Rattle.instance.proofs.Sent.{corrections-part}
 use Rattle.instance.proofs.Checks.{sent-few}
 
 -- x is written at a place
@@ -102,17 +103,16 @@ module _ (z : Sizes) (n p v : ℕ) (m : List ℕ) (sent : v ≡ cond (eqb (suc p
       ∙ sent-front (eqb (suc p) n) (oct (z .ands)) v (correctionsAt (layoutOf z)) m sent
 
   -- what is written of it is as stated, in the places that the code has
-  pub held-laid : (h : ℕ) (j : Context) (third : ℕ) (l : Layout) (at rows a b : ℕ) (master p0 z1 y p3 : List ℕ) → l ≡ layoutOf z → at ≡ correctionsAt l → rows ≡ rowsAt l
-      → a ≡ seedsAt l n → b ≡ leavesAt l n → z1 ≡ siblingsBelow j h 1 p master
-      → y ≡ commitmentOf j n p (take (b - a) (drop a m)) (take (rows - at) (drop at m)) → third ≡ heldBytes z n h p
+  pub held-laid : (h : ℕ) (j : Context) (third : ℕ) (l : Layout) (at rows : ℕ) (master own p0 z1 y p3 : List ℕ) → l ≡ layoutOf z → at ≡ correctionsAt l → rows ≡ rowsAt l
+      → z1 ≡ siblingsBelow j h 1 p master → y ≡ commitmentTo j n p own (take (rows - at) (drop at m)) → third ≡ heldBytes z n h p
       → p3 ≡ z1 ++ take (at + v - at) (drop at m) ++ y ++ drop third p0
       → p3 ≡ siblingsBelow j h 1 p master ++ sentCorrections n p (correctionsHeld z m)
-      ++ commitmentOf j n p (seedsHeld z n m) (correctionsHeld z m) ++ drop (heldBytes z n h p) p0
-  held-laid h j third l at rows a b master p0 z1 y p3 e ea er eb ec e1 e2 e3 q =
+      ++ commitmentTo j n p own (correctionsHeld z m) ++ drop (heldBytes z n h p) p0
+  held-laid h j third l at rows master own p0 z1 y p3 e ea er e1 e2 e3 q =
       q
       ∙ ap₂ _++_
       (ap₂ _++_ (ap₂ _++_ e1 (sent-part l at e ea))
-      (e2 ∙ ap₂ (commitmentOf j n p) (seeds-part z n l e m a b eb ec) (corrections-part z n l e m at rows ea er)))
+      (e2 ∙ ap (commitmentTo j n p own) (corrections-part z n l e m at rows ea er)))
       (ap (λ (k : ℕ). drop k p0) e3)
 
 -- the corrections that are sent are some of all
@@ -124,7 +124,7 @@ pub held-few : (z : Sizes) (n h p : ℕ) → heldBytes z n h p ≤ 16 * h + oct 
 held-few z n h p = omega (arith, sent-most z n p (cond (eqb (suc p) n) 0 (oct (z .ands))) refl)
 
 -- what the broadcast row asks, of t bytes
-pub row-asks : (z : Sizes) (l : Layout) (p t : ℕ) (m : List ℕ) → Room (layoutOf z) m → l ≡ layoutOf z → p < 16 → t ≡ broadcastBytes z
+pub row-asks : (z : Sizes) (l : Layout) (p t : ℕ) (m : List ℕ) → Room (layoutOf z) m → l ≡ layoutOf z → p < 64 → t ≡ broadcastBytes z
     → Room l m × ((p < 64) × ((broadcastWord l (z .ands + z .outputs) ≤ tapeWords l) × (oct (z .ands + z .outputs) ≤ t)))
 row-asks z l p t m room e few et = rw e (room, (omega arith, (omega arith, omega (arith, et))))
 
@@ -139,33 +139,33 @@ stretch-size s z n h p k tree =
     ∙ ap₂ (size (z .ands) (z .inputs)) (circuit-outputs s (z .inputs) (z .outputs) (z .gates) (z .ands) k) (sym (tree .height))
 
 -- the stretch is as stated: of a memory m that holds the run
-pub stretch-made : (s : List ℕ) (z : Sizes) (n h : ℕ) (j : Context) (p : ℕ) (w master m x part : List ℕ) → p < n → Tree n h → Ran (circuitOf s) z n j w master m
-    → x ≡ masterMasked (circuitOf s) n j w master
+pub stretch-made : (s : List ℕ) (z : Sizes) (n h : ℕ) (j : Context) (p : ℕ) (w master own m x part : List ℕ) → p < n → Tree n h → own ≡ rowOf (masterSeeds n j master) 32 p
+    → Ran (circuitOf s) z n j w master m → x ≡ masterMasked (circuitOf s) n j w master
     → part ≡ siblingsBelow j h 1 p master ++ sentCorrections n p (correctionsHeld z m)
-    ++ commitmentOf j n p (seedsHeld z n m) (correctionsHeld z m) ++ x ++ rowSent z p m → part ≡ stretchOf (circuitOf s) n j w master (hiding p)
-unfolding stretchOf
-stretch-made s z n h j p w master m x part few tree ran ex q =
+    ++ commitmentTo j n p own (correctionsHeld z m) ++ x ++ rowSent z p m → part ≡ stretchOf (circuitOf s) n j w master (hiding p)
+unfolding stretchOf commitmentOf
+stretch-made s z n h j p w master own m x part few tree eo ran ex q =
     q
     ∙ ap₂ _++_
     (ap₂ _++_
     (ap₂ _++_
     (ap₂ _++_ (ap (λ (k : ℕ). siblingsBelow j k 1 p master) (tree .height)) (ap (sentCorrections n p) (ran .corrections)))
-    (ap₂ (commitmentOf j n p) (ran .seeds) (ran .corrections)))
+    (ap₂ (commitmentTo j n p) eo (ran .corrections)))
     ex)
     (ran .row p few)
 
 -- the masked inputs x and the row r are written after the parts that need no run
-pub ran-laid : (z : Sizes) (n h : ℕ) (j : Context) (p third fourth k t : ℕ) (l : Layout) (master m p0 p1 p2 x r : List ℕ) → third ≡ heldBytes z n h p
+pub ran-laid : (z : Sizes) (n h : ℕ) (j : Context) (p third fourth k t : ℕ) (l : Layout) (master own m p0 p1 p2 x r : List ℕ) → third ≡ heldBytes z n h p
     → p1 ≡ siblingsBelow j h 1 p master ++ sentCorrections n p (correctionsHeld z m)
-    ++ commitmentOf j n p (seedsHeld z n m) (correctionsHeld z m) ++ drop (heldBytes z n h p) p0 → length p1 ≡ length p0 → third ≤ length p0
+    ++ commitmentTo j n p own (correctionsHeld z m) ++ drop (heldBytes z n h p) p0 → length p1 ≡ length p0 → third ≤ length p0
     → fourth ≡ third + length x → p2 ≡ take third p1 ++ x ++ drop (third + length x) p1 → length p2 ≤ fourth + k → l ≡ layoutOf z → t ≡ broadcastBytes z
     → r ≡ pack (tabulate (8 * t) (λ q. ltb q (z .ands + z .outputs) && sentBit l m p q))
     → putMid fourth k p2 r
     ≡ siblingsBelow j h 1 p master ++ sentCorrections n p (correctionsHeld z m)
-    ++ commitmentOf j n p (seedsHeld z n m) (correctionsHeld z m) ++ x ++ rowSent z p m
+    ++ commitmentTo j n p own (correctionsHeld z m) ++ x ++ rowSent z p m
 unfolding rowSent
-ran-laid z n h j p third fourth k t l master m p0 p1 p2 x r e3 e1 l1 inside e4 e2 h4 el et er =
-    let front : List ℕ = siblingsBelow j h 1 p master ++ sentCorrections n p (correctionsHeld z m) ++ commitmentOf j n p (seedsHeld z n m) (correctionsHeld z m) in
+ran-laid z n h j p third fourth k t l master own m p0 p1 p2 x r e3 e1 l1 inside e4 e2 h4 el et er =
+    let front : List ℕ = siblingsBelow j h 1 p master ++ sentCorrections n p (correctionsHeld z m) ++ commitmentTo j n p own (correctionsHeld z m) in
     two-parts third (heldBytes z n h p) fourth k front p0 p1 p2 x r e3 e1 l1 inside e4 e2 h4
     ∙ ap (λ (y : List ℕ). front ++ x ++ y)
     (er ∙ ap₂ (λ (y : Layout) (i : ℕ). pack (tabulate (8 * i) (λ q. ltb q (z .ands + z .outputs) && sentBit y m p q))) el et)

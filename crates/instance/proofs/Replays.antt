@@ -13,7 +13,7 @@ use Rattle.bits.specs.Bytes.{sameBytes}
 use Rattle.parties.specs.Parties.{heightOf}
 use Rattle.circuit.specs.File.{circuitOf}
 use Rattle.circuit.specs.declared.Sizes.{Sizes}
-use Rattle.planes.specs.Steps.{correctionsAt, seedsAt, leavesAt}
+use Rattle.planes.specs.Steps.{correctionsAt, seedsAt, seedsEnd}
 use Rattle.planes.specs.declared.Layout.{Layout}
 use Rattle.walk.specs.Steps.{layoutOf}
 use Rattle.plain.specs.Tapes.{andsOf}
@@ -49,7 +49,7 @@ module _ (s : List ℕ) (z : Sizes) (n h : ℕ) (j : Context) (p : ℕ) (m : Lis
       go false e f = ap (λ (k : ℕ). take k (drop (correctionsAt (layoutOf z)) m)) e ∙ f
 
   -- h_j, in the places that the code has
-  pub commitments-opened : (l : Layout) (a b at : ℕ) (r : List ℕ) → l ≡ layoutOf z → a ≡ seedsAt l n → b ≡ leavesAt l n → at ≡ correctionsAt l
+  pub commitments-opened : (l : Layout) (a b at : ℕ) (r : List ℕ) → l ≡ layoutOf z → a ≡ seedsAt l → b ≡ seedsEnd l n → at ≡ correctionsAt l
       → r ≡ commitmentsDigest (j .number)
       (committed n j p (take (16 * h + x + 32 - (16 * h + x)) (drop (16 * h + x) part)) (take (b - a) (drop a m)) (take (at + x - at) (drop at m)))
       → r ≡ commitmentsDigest (j .number) (openedCommitments (circuitOf s) n j p part)

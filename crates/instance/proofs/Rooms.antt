@@ -2,20 +2,23 @@
 -- Assumes nothing.
 use mathlib.Core.Path.{_≡_, sym, ap, _∙_}
 use mathlib.Core.List.{List}
-use Prim.Native.Nat.{ℕ, _+_, _-_, _*_, _≤_}
+use Prim.Native.Nat.{ℕ, _+_, _-_, _*_, _≤_, _<_}
 use native.Mathlib.Omega.{arith}
 use borrow.Rule.Slice.PartMut.{mid-len}
-use lib.ListN.{length, take, drop}
-use lib.Seq.{drop-drop}
+use lib.ListN.{length, take, drop, length-drop}
+use lib.Seq.{drop-drop, length-take-le}
 use Rattle.bits.specs.Bits.{oct}
+use Rattle.bits.specs.Bytes.{rowOf}
+use Rattle.bits.proofs.Rows.{row-length}
 use Rattle.circuit.specs.declared.Sizes.{Sizes}
 use Rattle.masks.specs.Steps as masks
-use Rattle.planes.specs.Steps.{tapeWords, correctionsAt, rowsAt, seedsAt, leavesAt, heldEnd, Room}
+use Rattle.planes.specs.Steps.{tapeWords, correctionsAt, rowsAt, seedsAt, seedsEnd, heldEnd, Room}
 use Rattle.planes.specs.declared.Layout.{Layout}
+use Rattle.planes.proofs.Fits.{seeds-before}
 use Rattle.walk.specs.Steps.{layoutOf}
 use Rattle.packed.specs.Steps.{Held, broadcastBytes}
 use Rattle.packed.proofs.Runs.{room-end, room-rows, room-planes, room-held, room-masks}
-use Rattle.instance.specs.Steps.{Lent}
+use Rattle.instance.specs.Steps.{Lent, Seeded, seedsHeld}
 use Rattle.instance.proofs.Trees.{tree-parties}
 
 -- a memory with the planes is one whose places are low
@@ -24,7 +27,7 @@ room-low z m room l e = rw e (room .few-wires, room .few-words)
 
 -- the memory of an instance
 module _ (s : List ℕ) (z : Sizes) (n h : ℕ) (m : List ℕ) (lent : Lent s z n h m) where
-  pub few-parties : n ≤ 16
+  pub few-parties : n ≤ 64
   few-parties = tree-parties n h (lent .tree) .few
 
   -- another of the same length
@@ -33,6 +36,14 @@ module _ (s : List ℕ) (z : Sizes) (n h : ℕ) (m : List ℕ) (lent : Lent s z 
 
   pub lent-end : heldEnd (layoutOf z) n ≤ length m
   lent-end = room-end s z (lent .known .legal) (lent .known .ands) n m (tree-parties n h (lent .tree) .some) few-parties (lent .room)
+
+  -- the seeds stand before the corrections
+  pub lent-seeded : Seeded z n m
+  lent-seeded = record {
+    some = tree-parties n h (lent .tree) .some;
+    few = few-parties;
+    room = omega (arith, seeds-before (layoutOf z), few-parties, lent-end);
+  }
 
   pub lent-rows : rowsAt (layoutOf z) + 8 * broadcastBytes z ≤ length m
   lent-rows = room-rows s z (lent .known .legal) (lent .known .ands) n m (tree-parties n h (lent .tree) .some) few-parties (lent .room)
@@ -70,17 +81,26 @@ part-kept r k c m w h e =
     let f : (t : List ℕ) → drop k t ≡ drop (k - r) (drop r t) = λ t. ap (λ (x : ℕ). drop x t) (sym d) ∙ sym (drop-drop (k - r) r t) in
     ap (take c) (f w ∙ ap (drop (k - r)) e ∙ sym (f m))
 
--- the places of the seeds and of the corrections, by the layout that the code has, in a memory that holds all of n parties
-module _ (z : Sizes) (n : ℕ) (l : Layout) (e : l ≡ layoutOf z) (m : List ℕ) (room : heldEnd (layoutOf z) n ≤ length m) where
-  pub seeds-inside : (a b : ℕ) → a ≡ seedsAt l n → b ≡ leavesAt l n → (a ≤ b) × (b ≤ length m)
-  seeds-inside a b ea eb = (omega (arith, ea, eb), omega (arith, eb ∙ ap (λ (k : Layout). leavesAt k n) e, room))
-
-  pub corrections-inside : (a b : ℕ) → a ≡ correctionsAt l → b ≡ rowsAt l → (a ≤ b) × (b ≤ length m)
-  corrections-inside a b ea eb = (omega (arith, ea, eb), omega (arith, eb ∙ ap rowsAt e, room))
+-- the places of the seeds, by the layout that the code has
+module _ (z : Sizes) (n : ℕ) (l : Layout) (e : l ≡ layoutOf z) (m : List ℕ) (seeded : Seeded z n m) where
+  pub seeds-inside : (a b : ℕ) → a ≡ seedsAt l → b ≡ seedsEnd l n → (a ≤ b) × (b ≤ length m)
+  seeds-inside a b ea eb = (omega (arith, ea, eb), omega (arith, eb ∙ ap (λ (k : Layout). seedsEnd k n) e, seeded .room))
 
   -- the bytes of the seeds
-  pub seeds-size : (a b : ℕ) → a ≡ seedsAt l n → b ≡ leavesAt l n → length (take (b - a) (drop a m)) ≡ 32 * n
+  pub seeds-size : (a b : ℕ) → a ≡ seedsAt l → b ≡ seedsEnd l n → length (take (b - a) (drop a m)) ≡ 32 * n
   seeds-size a b ea eb = mid-len a b m (seeds-inside a b ea eb .1) ∙ omega (arith, ea, eb)
+
+-- party i's seed and r are 32 bytes
+pub seed-length : (z : Sizes) (n i : ℕ) (m r : List ℕ) → Seeded z n m → i < n → r ≡ rowOf (seedsHeld z n m) 32 i → length r ≡ 32
+seed-length z n i m r seeded h e =
+    let k : ℕ = seedsAt (layoutOf z) in
+    let size : length (seedsHeld z n m) ≡ 32 * n = length-take-le (32 * n) (drop k m) (omega (arith, length-drop k m, seeded .room)) in
+    ap length e ∙ row-length (seedsHeld z n m) 32 i (omega (arith, size, h))
+
+-- the places of the corrections, in a memory that holds all of n parties
+module _ (z : Sizes) (n : ℕ) (l : Layout) (e : l ≡ layoutOf z) (m : List ℕ) (room : heldEnd (layoutOf z) n ≤ length m) where
+  pub corrections-inside : (a b : ℕ) → a ≡ correctionsAt l → b ≡ rowsAt l → (a ≤ b) × (b ≤ length m)
+  corrections-inside a b ea eb = (omega (arith, ea, eb), omega (arith, eb ∙ ap rowsAt e, room))
 
   -- the bytes of the corrections
   pub corrections-size : (a b : ℕ) → a ≡ correctionsAt l → b ≡ rowsAt l → length (take (b - a) (drop a m)) ≡ oct (z .ands)

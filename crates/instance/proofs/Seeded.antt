@@ -20,6 +20,7 @@ use Rattle.circuit.specs.declared.Sizes.{Sizes}
 use Rattle.plain.specs.Tapes.{rowBytes, usedBits}
 use Rattle.planes.specs.Steps.{tapeWords, rowsAt, seedsAt, leavesAt}
 use Rattle.planes.specs.declared.Layout.{Layout}
+use Rattle.planes.proofs.Fits.{seeds-before}
 use Rattle.walk.specs.Steps.{layoutOf}
 use Rattle.packed.specs.Steps.{tapesHeld}
 use Rattle.packed.proofs.Runs.{room-planes, room-end}
@@ -32,11 +33,11 @@ use Rattle.party.proofs.Clearing.{length-tape}
 use Rattle.instance.specs.Instance.{leavesOf, seedsOf, seedsBut, masterSeeds, masterTapes, seedOf, tapesOf}
 use Rattle.instance.specs.Steps.{Tree, Lent, seedsHeld, tapesBut}
 use Rattle.instance.proofs.Trees.{tree-sizes}
-use Rattle.instance.proofs.Written.{sets-after, sets-here, row-read, rows-length, row-kept, either-length}
+use Rattle.instance.proofs.Written.{sets-here, part-ahead, row-read, row-ahead, rows-length, row-kept, either-length}
 
 -- the sizes of a tree of height h
 module _ (n h : ℕ) (tree : Tree n h) where
-  pub tree-few : n ≤ 16
+  pub tree-few : n ≤ 64
   tree-few = tree-sizes n h tree .few
 
   pub tree-leaves : 2 ^ h ≡ n
@@ -111,17 +112,17 @@ module _ (c : Circuit) (n p : ℕ) (j : Context) (seeds : List ℕ) where
   unfolding tapesBut
   tapes-end i to m w e h = h ∙ ap (λ (k : ℕ). sets m to (flatten (tabulate k tapeBut))) e
 
--- seed i, which stands in the memory after the tapes
-pub seed-read : (c : Circuit) (n p : ℕ) (j : Context) (i a to len : ℕ) (m w seed : List ℕ) → len ≡ rowBytes c → i < n → a + 32 * n ≤ length m → to + i * len ≤ a
+-- seed i, which stands in the memory before the tapes
+pub seed-read : (c : Circuit) (n p : ℕ) (j : Context) (i a to : ℕ) (m w seed : List ℕ) → i < n → a + 32 * n ≤ length m → a + 32 * n ≤ to
     → w ≡ sets m to (flatten (tabulate i (tapeBut c n p j (take (32 * n) (drop a m))))) → seed ≡ take 16 (drop (a + 32 * i) w)
     → seed ≡ seedOf (take (32 * n) (drop a m)) i
-seed-read c n p j i a to len m w seed v h l q e d =
+seed-read c n p j i a to m w seed h l q e d =
     let seeds : List ℕ = take (32 * n) (drop a m) in
     let x : a + 32 * i ≡ a + i * 32 = omega arith in
     let y : n * 32 ≡ 32 * n = omega arith in
     d ∙ ap (λ (k : ℕ). take 16 (drop k w)) x ∙ sym (take-take 16 32 (drop (a + i * 32) w) (omega arith))
     ∙ ap (take 16)
-    (row-read 32 n i a to m (flatten (tabulate i (tapeBut c n p j seeds))) w h (omega arith) (omega (arith, rows-length len (tapeBut c n p j seeds) (tape-size c n p j seeds len v) i)) e
+    (row-ahead 32 n i a to m (flatten (tabulate i (tapeBut c n p j seeds))) w h (omega arith) (omega arith) e
     ∙ ap (λ (k : ℕ). rowOf (take k (drop a m)) 32 i) y)
 
 -- the bits that party k uses, by I and A
@@ -131,9 +132,9 @@ unfolding usedBits
 used-is s i o g a known n k used e =
     e ∙ sym (ap₂ (λ (x y : ℕ). cond (eqb (suc k) n) (x + y) (x + 2 * y)) (circuit-inputs s i o g a known) (circuit-ands s i o g a known))
 
--- leaves, seeds and tapes are written one after the other, each before what it is made of
+-- leaves, seeds and tapes are written one after the other: the seeds stand first, the leaves last
 module _ (c : Circuit) (n p : ℕ) (j : Context) (leaves seeds rows : ℕ) (m m₁ m₂ m₃ L : List ℕ) (size : length L ≡ 16 * n) (fits : leaves + 16 * n ≤ length m)
-    (low : seeds + 32 * n ≤ leaves) (below : rows + n * rowBytes c ≤ seeds) (e₁ : m₁ ≡ sets m leaves L)
+    (low : seeds + 32 * n ≤ rows) (below : rows + n * rowBytes c ≤ leaves) (e₁ : m₁ ≡ sets m leaves L)
     (e₂ : m₂ ≡ sets m₁ seeds (seedsBut n p j (take (16 * n) (drop leaves m₁))))
     (e₃ : m₃ ≡ sets m₂ rows (tapesBut c n p j (take (32 * n) (drop seeds m₂)))) where
   abbrev S : List ℕ
@@ -158,7 +159,7 @@ module _ (c : Circuit) (n p : ℕ) (j : Context) (leaves seeds rows : ℕ) (m m�
 
   pub seeds-held : take (32 * n) (drop seeds m₃) ≡ S
   seeds-held =
-      ap (take (32 * n)) (ap (drop seeds) e₄ ∙ sets-after m₂ rows T seeds (omega (arith, tapes-size c n p j S))) ∙ seeds-written
+      ap (λ (t : List ℕ). take (32 * n) (drop seeds t)) e₄ ∙ part-ahead (32 * n) seeds rows m₂ T low ∙ seeds-written
 
   pub tapes-held : take (n * rowBytes c) (drop rows m₃) ≡ T
   tapes-held =
@@ -186,7 +187,7 @@ module _ (n : ℕ) (j : Context) (h : ℕ) (master L : List ℕ) (e : h ≡ heig
 
 -- the places in a memory that is lent, by the layout l
 module _ (s : List ℕ) (z : Sizes) (n h : ℕ) (m : List ℕ) (lent : Lent s z n h m) (l : Layout) (e : l ≡ layoutOf z) where
-  few : n ≤ 16
+  few : n ≤ 64
   few = tree-few n h (lent .tree)
 
   some : 1 ≤ n
@@ -203,12 +204,12 @@ module _ (s : List ℕ) (z : Sizes) (n h : ℕ) (m : List ℕ) (lent : Lent s z 
   leaves-fit leaves el =
       omega (arith, el ∙ ap (λ (x : Layout). leavesAt x n) e, room-end s z (lent .known .legal) (lent .known .ands) n m some few (lent .room))
 
-  module _ (leaves seeds rows : ℕ) (el : leaves ≡ leavesAt l n) (es : seeds ≡ seedsAt l n) (er : rows ≡ rowsAt l) where
-    pub seeds-fit : seeds + 32 * n ≤ leaves
-    seeds-fit = omega (arith, el, es)
+  module _ (leaves seeds rows : ℕ) (el : leaves ≡ leavesAt l n) (es : seeds ≡ seedsAt l) (er : rows ≡ rowsAt l) where
+    pub seeds-fit : seeds + 32 * n ≤ rows
+    seeds-fit = omega (arith, es, er, seeds-before l, few)
 
-    pub tapes-fit : rows + n * oct (z .inputs + 2 * z .ands) ≤ seeds
-    tapes-fit = omega (arith, er ∙ ap (λ (x : Layout). rowsAt x) e, es ∙ ap (λ (x : Layout). seedsAt x n) e)
+    pub tapes-fit : rows + n * oct (z .inputs + 2 * z .ands) ≤ leaves
+    tapes-fit = omega (arith, er ∙ ap (λ (x : Layout). rowsAt x) e, el ∙ ap (λ (x : Layout). leavesAt x n) e)
 
     -- what is held when they are written
     module _ (p : ℕ) (j : Context) (m₁ m₂ m₃ L : List ℕ) (size : length L ≡ 16 * n) (e₁ : m₁ ≡ sets m leaves L)
@@ -217,12 +218,12 @@ module _ (s : List ℕ) (z : Sizes) (n h : ℕ) (m : List ℕ) (lent : Lent s z 
       row : rowBytes (circuitOf s) ≡ oct (z .inputs + 2 * z .ands)
       row = circuit-row s (z .inputs) (z .outputs) (z .gates) (z .ands) (lent .known)
 
-      below : rows + n * rowBytes (circuitOf s) ≤ seeds
+      below : rows + n * rowBytes (circuitOf s) ≤ leaves
       below = omega (arith, tapes-fit, ap (λ (x : ℕ). n * x) row)
 
       pub seeds-are : seedsHeld z n m₃ ≡ seedsBut n p j L
       seeds-are =
-          ap (λ (x : ℕ). take (32 * n) (drop x m₃)) (sym (es ∙ ap (λ (x : Layout). seedsAt x n) e))
+          ap (λ (x : ℕ). take (32 * n) (drop x m₃)) (sym (es ∙ ap seedsAt e))
           ∙ seeds-held (circuitOf s) n p j leaves seeds rows m m₁ m₂ m₃ L size (leaves-fit leaves el) seeds-fit below e₁ e₂ e₃
 
       pub tapes-are : tapesHeld z n m₃ ≡ tapesBut (circuitOf s) n p j (seedsBut n p j L)

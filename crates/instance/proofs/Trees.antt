@@ -20,5 +20,5 @@ pub tree-parties : (n h : ℕ) → Tree n h → Parties n
 tree-parties n h t = let z = tree-sizes n h t in record { some = omega (arith, z .some); few = z .few }
 
 -- it is low
-pub tree-low : (n h : ℕ) → Tree n h → h ≤ 4
+pub tree-low : (n h : ℕ) → Tree n h → h ≤ 6
 tree-low n h t = omega (arith, height-small n, t .height)

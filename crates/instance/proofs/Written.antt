@@ -10,7 +10,7 @@ use borrow.Author.Tests.{eq-eqb, ne-eqb}
 use borrow.Rule.Slice.PartMut.{midOf, postOf, putMid, post-is, mid-len}
 use lib.Dec.{eqb}
 use lib.ListN.{length, take, drop, set, length-append, length-drop}
-use lib.Seq.{sets, sets-eq, length-sets, take-take, drop-drop, take-at, drop-at, drop-set-lt, length-take-le}
+use lib.Seq.{sets, sets-eq, length-sets, take-take, drop-drop, take-at, drop-at, take-set-le, drop-set-lt, length-take-le}
 use Rattle.bits.specs.Bits.{tabulate}
 use Rattle.bits.specs.Bytes.{rowOf}
 use Rattle.bits.proofs.Rows.{row-inside, row-fits, flatten-more, length-flatten}
@@ -27,6 +27,11 @@ sets-more m i (x ∷ u) v =
 pub sets-after : (m : List ℕ) (i : ℕ) (v : List ℕ) (k : ℕ) → i + length v ≤ k → drop k (sets m i v) ≡ drop k m
 sets-after m i [] k h = refl
 sets-after m i (x ∷ v) k h = sets-after (set m i x) (suc i) v k (omega arith) ∙ drop-set-lt k m i x (omega arith)
+
+-- and what stands before them
+sets-ahead : (m : List ℕ) (i : ℕ) (v : List ℕ) (k : ℕ) → k ≤ i → take k (sets m i v) ≡ take k m
+sets-ahead m i [] k h = refl
+sets-ahead m i (x ∷ v) k h = sets-ahead (set m i x) (suc i) v k (omega arith) ∙ take-set-le k m i x h
 
 -- they stand there
 pub sets-here : (m : List ℕ) (i k : ℕ) (v : List ℕ) → length v ≡ k → i + k ≤ length m → take k (drop i (sets m i v)) ≡ v
@@ -59,11 +64,16 @@ unfolding flatten
 none-written m to = refl
 
 -- a part of the first n bytes
-part-first : (c k n : ℕ) (m : List ℕ) → k + c ≤ n → take c (drop k (take n m)) ≡ take c (drop k m)
+pub part-first : (c k n : ℕ) (m : List ℕ) → k + c ≤ n → take c (drop k (take n m)) ≡ take c (drop k m)
 part-first c zero n m h = take-take c n m (omega arith)
 part-first c (suc k) zero m h = absurd (omega arith)
 part-first c (suc k) (suc n) [] h = refl
 part-first c (suc k) (suc n) (x ∷ m) h = part-first c k n m (omega arith)
+
+-- a part that stands before what is written
+pub part-ahead : (c k i : ℕ) (m v : List ℕ) → k + c ≤ i → take c (drop k (sets m i v)) ≡ take c (drop k m)
+part-ahead c k i m v h =
+    sym (part-first c k i (sets m i v) h) ∙ ap (λ (t : List ℕ). take c (drop k t)) (sets-ahead m i v i (omega arith)) ∙ part-first c k i m h
 
 -- row i of n rows that stand in a memory
 row-part : (len n i a : ℕ) (m : List ℕ) → i < n → a + n * len ≤ length m → rowOf (take (n * len) (drop a m)) len i ≡ take len (drop (a + i * len) m)
@@ -77,6 +87,13 @@ pub row-read : (len n i a to : ℕ) (m rows w : List ℕ) → i < n → a + n * 
     → take len (drop (a + i * len) w) ≡ rowOf (take (n * len) (drop a m)) len i
 row-read len n i a to m rows w h l q e =
     ap (λ (t : List ℕ). take len (drop (a + i * len) t)) e ∙ ap (take len) (sets-after m to rows (a + i * len) (omega arith))
+    ∙ sym (row-part len n i a m h l)
+
+-- and while rows are written after them
+pub row-ahead : (len n i a to : ℕ) (m rows w : List ℕ) → i < n → a + n * len ≤ length m → a + n * len ≤ to → w ≡ sets m to rows
+    → take len (drop (a + i * len) w) ≡ rowOf (take (n * len) (drop a m)) len i
+row-ahead len n i a to m rows w h l q e =
+    ap (λ (t : List ℕ). take len (drop (a + i * len) t)) e ∙ part-ahead len (a + i * len) to m rows (omega (arith, row-fits n len i h))
     ∙ sym (row-part len n i a m h l)
 
 -- rows one after the other, in two parts

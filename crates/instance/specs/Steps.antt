@@ -2,8 +2,8 @@
 -- Assumes nothing.
 use mathlib.Core.Path.{_≡_}
 use mathlib.Core.Bool.{true, cond, _&&_}
-use mathlib.Core.List.{List, flatten}
-use Prim.Native.Nat.{ℕ, suc, _+_, _*_, _≤_, _<_}
+use mathlib.Core.List.{List, [], flatten}
+use Prim.Native.Nat.{ℕ, suc, _+_, _-_, _*_, _≤_, _<_}
 use lib.Dec.{eqb, ltb}
 use lib.ListN.{length, take, drop, replicate}
 use Rattle.hashing.specs.declared.Context.{Context}
@@ -18,8 +18,12 @@ use Rattle.planes.specs.Steps.{seedsAt}
 use Rattle.walk.specs.Steps.{layoutOf}
 use Rattle.packed.specs.Steps.{broadcastBytes, correctionsHeld, sentBit, rowsSent}
 use Rattle.mpc.specs.Steps.{Known}
+use Rattle.keccak.specs.declared.sponge.Sponge.{Sponge}
+use Rattle.hashing.specs.Inputs.{commitmentsInput}
+use Rattle.hashing.specs.Steps.{taken}
+use Rattle.party.specs.Derive.{commitmentOf}
 use Rattle.party.specs.Derive as derive
-use Rattle.instance.specs.Instance.{seedOf, masterSeeds, masterCorrections, masterRun}
+use Rattle.instance.specs.Instance.{seedOf, masterCorrections, masterRun}
 
 -- n parties, with a tree of height h
 pub record Tree (n h : ℕ) : Type 0 where
@@ -34,7 +38,17 @@ pub record Lent (s : List ℕ) (z : Sizes) (n h : ℕ) (memory : List ℕ) : Typ
 
 -- the seeds of n parties that stand in the memory
 abbrev pub seedsHeld : Sizes → ℕ → List ℕ → List ℕ
-seedsHeld z n m = take (32 * n) (drop (seedsAt (layoutOf z) n) m)
+seedsHeld z n m = take (32 * n) (drop (seedsAt (layoutOf z)) m)
+
+-- a memory with the seeds of n parties
+pub record Seeded (z : Sizes) (n : ℕ) (m : List ℕ) : Type 0 where
+  pub some : 1 ≤ n
+  pub few : n ≤ 64
+  pub room : seedsAt (layoutOf z) + 32 * n ≤ length m
+
+-- the sponge of h_j has taken in the commitments of all parties before n − 1, from these seeds: they need no corrections
+pub record FirstTaken (n : ℕ) (j : Context) (seeds : List ℕ) (s : Sponge) : Type 0 where
+  pub first : s ≡ taken (commitmentsInput (j .number) (flatten (tabulate (n - 1) (λ i. commitmentOf j n i seeds []))))
 
 -- the tape rows of all parties but p, whose row is zero, from their seeds
 unfoldable pub tapesBut : Circuit → ℕ → ℕ → Context → List ℕ → List ℕ
@@ -49,9 +63,8 @@ heldBytes z n h p = 16 * h + cond (eqb (suc p) n) 0 (oct (z .ands)) + 32
 unfoldable pub rowSent : Sizes → ℕ → List ℕ → List ℕ
 rowSent z p m = pack (tabulate (8 * broadcastBytes z) (λ t. ltb t (z .ands + z .outputs) && sentBit (layoutOf z) m p t))
 
--- the memory holds an instance's run on a witness, with what its master gives: seeds, corrections, and broadcasts
+-- the memory holds an instance's run on a witness, with what its master gives: corrections, and broadcasts
 pub record Ran (c : Circuit) (z : Sizes) (n : ℕ) (j : Context) (witness master m : List ℕ) : Type 0 where
-  pub seeds : seedsHeld z n m ≡ masterSeeds n j master
   pub corrections : correctionsHeld z m ≡ masterCorrections c n j master
   pub rows : rowsSent (layoutOf z) n (broadcastBytes z) m ≡ rowsOf n (masterRun c n j witness master)
   pub row : (p : ℕ) → p < n → rowSent z p m ≡ pack (rowBits (masterRun c n j witness master) p)

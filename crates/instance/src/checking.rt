@@ -15,19 +15,22 @@ ghost use Rattle.instance.specs.Steps.{Tree, Lent, seedsHeld};
 use crate::Instance;
 use crate::Replayed;
 use crate::committing::commit;
+use crate::committing::commit_first;
+use crate::committing::commit_last;
 use crate::committing::online;
 use crate::seeding::hold_opened;
-use crate::sending::commit_held;
-use crate::sending::from_master;
+use crate::seeding::hold_parties;
+use crate::seeding::seed_of;
 use bits::clear;
 use bits::copy;
 use circuit::Sizes;
+use masks::chain::make_corrections;
 use mpc::tests::both;
 use packed::running::replay_held;
 use planes::places::corrections_at;
-use planes::places::leaves_at;
 use planes::places::rows_at;
 use planes::places::seeds_at;
+use planes::places::seeds_end;
 use walk::layout;
 
 // h_j of an instance that is not chosen, from its master. What then stands in the memory is not told.
@@ -35,8 +38,15 @@ pub fn reopen(s: &[u8], z: Sizes, inst: Instance, master: &[u8], memory: &mut [u
     requires { ⌜ Lent (now s) z (inst .parties) (inst .height) (now memory) × (length (now master) ≡ 16) ⌝ }
     ensures { λ r. ⌜ r ≡ masterCommitments (circuitOf (now (s .entry))) (inst .parties) (inst .context) (now (master .entry)) ⌝ }
 {
-    from_master(s, z, inst, master, memory);
-    commit_held(z, inst, memory)
+    let n = inst.parties;
+    let l = layout(z);
+    let at = corrections_at(l);
+    let rows = rows_at(l);
+    hold_parties(s, z, inst, master, memory);
+    let first = commit_first(z, inst, memory);
+    let last = seed_of(z, n, n - 1, memory);
+    make_corrections(s, z, n as usize, rows, at, memory);
+    commit_last(z, inst, first, &last, memory)
 }
 
 // The bytes of corrections in the stretch of a chosen instance that hides party p.
@@ -109,8 +119,8 @@ pub fn replay(
     let k = n as usize;
     let l = layout(z);
     let at = corrections_at(l);
-    let seeds = seeds_at(l, k);
-    let leaves = leaves_at(l, k);
+    let seeds = seeds_at(l);
+    let last = seeds_end(l, k);
     let sent = sent_bytes(z.ands, n, p);
     let second = 16 * (inst.height as usize) + sent;
     let third = second + 32;
@@ -123,7 +133,7 @@ pub fn replay(
         inst,
         p,
         &part[second..third],
-        &memory[seeds..leaves],
+        &memory[seeds..last],
         &memory[at..end],
     );
     replay_held(

@@ -4,12 +4,15 @@ ghost use Prim.Native.Nat.{_+_, _*_, _≤_, _<_};
 ghost use lib.ListN.{length, take, drop};
 ghost use lib.Seq.{sets};
 ghost use Rattle.bits.specs.Bits.{oct};
+ghost use Rattle.bits.specs.Bytes.{rowOf};
 ghost use Rattle.circuit.specs.File.{circuitOf};
 ghost use Rattle.mpc.specs.Steps.{Known};
 ghost use Rattle.tree.specs.Tree.{openedBelow};
+ghost use Rattle.planes.specs.Steps.{Room};
+ghost use Rattle.walk.specs.Steps.{layoutOf};
 ghost use Rattle.packed.specs.Steps.{tapesHeld};
 ghost use Rattle.instance.specs.Instance.{seedsBut, masterSeeds, masterTapes};
-ghost use Rattle.instance.specs.Steps.{Lent, seedsHeld, tapesBut};
+ghost use Rattle.instance.specs.Steps.{Lent, Seeded, seedsHeld, tapesBut};
 use crate::Instance;
 use bits::clear;
 use bits::copy;
@@ -20,6 +23,7 @@ use party::tape;
 use planes::places::leaves_at;
 use planes::places::rows_at;
 use planes::places::seeds_at;
+use planes::places::seeds_end;
 use tree::leaves_below;
 use tree::opened_below;
 use walk::layout;
@@ -35,9 +39,22 @@ fn key(memory: &[u8], at: usize) -> [u8; 16]
     k
 }
 
+// Party i's seed and r, from the memory.
+pub(crate) fn seed_of(z: Sizes, n: u32, i: u32, memory: &[u8]) -> [u8; 32]
+    requires { ⌜ Room (layoutOf z) (now memory) × (Seeded z n (now memory) × (i < n)) ⌝ }
+    ensures { λ r. ⌜ r ≡ rowOf (seedsHeld z n (now (memory .entry))) 32 i ⌝ }
+{
+    let l = layout(z);
+    let seeds = seeds_at(l);
+    let end = seeds_end(l, n as usize);
+    let mut out = [0u8; 32];
+    copy(bits::row(&memory[seeds..end], 32, i as usize), &mut out);
+    out
+}
+
 // The seed and r of each party but p (n for none), from the leaves, as rows from byte `to` of the memory on.
 fn seed_rows(inst: Instance, p: u32, leaves: usize, to: usize, memory: &mut [u8])
-    requires { ⌜ (inst .parties ≤ 16) × ((to + 32 * inst .parties ≤ leaves) × (leaves + 16 * inst .parties ≤ length (now memory))) ⌝ }
+    requires { ⌜ (inst .parties ≤ 64) × ((to + 32 * inst .parties ≤ leaves) × (leaves + 16 * inst .parties ≤ length (now memory))) ⌝ }
     ensures { λ _. ⌜ now (memory .exit) ≡ sets (now (memory .entry)) to (seedsBut (inst .parties) p (inst .context) (take (16 * inst .parties) (drop leaves (now (memory .entry))))) ⌝ }
 {
     let j = inst.context;
@@ -59,7 +76,7 @@ fn seed_rows(inst: Instance, p: u32, leaves: usize, to: usize, memory: &mut [u8]
 
 // The tape row of each party but p (n for none), from its seed, as rows from byte `to` of the memory on.
 fn tape_rows(s: &[u8], z: Sizes, inst: Instance, p: u32, seeds: usize, to: usize, memory: &mut [u8])
-    requires { ⌜ Known (now s) z × ((inst .parties ≤ 16) × ((to + inst .parties * oct (z .inputs + 2 * z .ands) ≤ seeds) × (seeds + 32 * inst .parties ≤ length (now memory)))) ⌝ }
+    requires { ⌜ Known (now s) z × ((inst .parties ≤ 64) × ((seeds + 32 * inst .parties ≤ to) × (to + inst .parties * oct (z .inputs + 2 * z .ands) ≤ length (now memory)))) ⌝ }
     ensures { λ _. ⌜ now (memory .exit) ≡ sets (now (memory .entry)) to (tapesBut (circuitOf (now (s .entry))) (inst .parties) p (inst .context) (take (32 * inst .parties) (drop seeds (now (memory .entry))))) ⌝ }
 {
     let j = inst.context;
@@ -96,7 +113,7 @@ pub(crate) fn hold_parties(s: &[u8], z: Sizes, inst: Instance, master: &[u8], me
     let k = n as usize;
     let leaves = leaves_at(l, k);
     let end = leaves + 16 * k;
-    let seeds = seeds_at(l, k);
+    let seeds = seeds_at(l);
     let rows = rows_at(l);
     leaves_below(j, 1, h, master, &mut memory[leaves..end]);
     seed_rows(inst, n, leaves, seeds, memory);
@@ -123,7 +140,7 @@ pub(crate) fn hold_opened(
     let k = n as usize;
     let leaves = leaves_at(l, k);
     let end = leaves + 16 * k;
-    let seeds = seeds_at(l, k);
+    let seeds = seeds_at(l);
     let rows = rows_at(l);
     opened_below(j, 1, h, p, siblings, &mut memory[leaves..end]);
     seed_rows(inst, p, leaves, seeds, memory);

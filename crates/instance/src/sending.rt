@@ -1,98 +1,64 @@
 // What a prover makes of an instance: its digests, and its stretch of the proof.
 ghost use mathlib.Core.Path.{_≡_};
+ghost use mathlib.Core.Bool.{true};
 ghost use mathlib.Core.List.{_++_};
 ghost use Prim.Native.Nat.{_+_, _≤_, _<_};
 ghost use lib.ListN.{length, take, drop};
-ghost use Rattle.bits.specs.Bits.{oct};
+ghost use Rattle.bits.specs.Bits.{oct, pack};
 ghost use Rattle.circuit.specs.File.{maxGates, circuitOf};
+ghost use Rattle.plain.specs.Tapes.{unusedRows};
+ghost use Rattle.plain.specs.Showing.{maskedInputs, correctionBits};
+ghost use Rattle.correcting.specs.Steps.{ranMemory};
 ghost use Rattle.mpc.specs.Steps.{WitnessFits};
 ghost use Rattle.planes.specs.Steps.{Room, heldEnd};
 ghost use Rattle.walk.specs.Steps.{layoutOf};
 ghost use Rattle.packed.specs.Steps.{broadcastBytes, tapesHeld, correctionsHeld};
 ghost use Rattle.tree.specs.Tree.{siblingsBelow};
-ghost use Rattle.party.specs.Derive.{commitmentOf};
-ghost use Rattle.instance.specs.Instance.{commitmentsDigest, commitmentsOf, masterSeeds, masterTapes, masterCorrections, masterCommitments, masterMasked, masterOnline, hiding, sentCorrections, stretchOf};
+ghost use Rattle.party.specs.Derive.{commitmentTo};
+ghost use Rattle.instance.specs.Instance.{masterCommitments, masterOnline, hiding, sentCorrections, stretchOf};
 ghost use Rattle.instance.specs.Stretch.{stretchBytes};
-ghost use Rattle.instance.specs.Steps.{Tree, Lent, seedsHeld, heldBytes, rowSent, Ran};
+ghost use Rattle.instance.specs.Steps.{Tree, Lent, heldBytes, rowSent};
 use crate::Digests;
 use crate::Instance;
 use crate::checking::sent_bytes;
-use crate::committing::commit;
+use crate::committing::commit_first;
+use crate::committing::commit_last;
 use crate::committing::online;
 use crate::seeding::hold_parties;
+use crate::seeding::seed_of;
 use bits::copy;
 use circuit::Sizes;
 use correcting::running::run_honest;
-use masks::chain::make_corrections;
 use packed::running::pack_row;
-use party::commitment;
+use party::commit_row;
 use planes::places::corrections_at;
-use planes::places::leaves_at;
 use planes::places::rows_at;
-use planes::places::seeds_at;
 use tree::siblings_below;
 use walk::layout;
 
-// Brings the seeds, the tapes and the corrections of instance j into the memory, from its master.
-pub(crate) fn from_master(s: &[u8], z: Sizes, inst: Instance, master: &[u8], memory: &mut [u8])
-    requires { ⌜ Lent (now s) z (inst .parties) (inst .height) (now memory) × (length (now master) ≡ 16) ⌝ }
-    ensures { λ _. ⌜ seedsHeld z (inst .parties) (now (memory .exit)) ≡ masterSeeds (inst .parties) (inst .context) (now (master .entry)) ⌝ }
-    ensures { λ _. ⌜ tapesHeld z (inst .parties) (now (memory .exit)) ≡ masterTapes (circuitOf (now (s .entry))) (inst .parties) (inst .context) (now (master .entry)) ⌝ }
-    ensures { λ _. ⌜ correctionsHeld z (now (memory .exit)) ≡ masterCorrections (circuitOf (now (s .entry))) (inst .parties) (inst .context) (now (master .entry)) ⌝ }
-{
-    let n = inst.parties;
-    let l = layout(z);
-    let at = corrections_at(l);
-    let rows = rows_at(l);
-    hold_parties(s, z, inst, master, memory);
-    make_corrections(s, z, n as usize, rows, at, memory);
-}
-
-// h_j from the seeds and the corrections in the memory: of all parties.
-pub(crate) fn commit_held(z: Sizes, inst: Instance, memory: &[u8]) -> [u8; 32]
-    requires { ⌜ Room (layoutOf z) (now memory) × ((inst .parties ≤ 16) × (heldEnd (layoutOf z) (inst .parties) ≤ length (now memory))) ⌝ }
-    ensures { λ r. ⌜ r ≡ commitmentsDigest (inst .context .number) (commitmentsOf (inst .parties) (inst .context) (seedsHeld z (inst .parties) (now (memory .entry))) (correctionsHeld z (now (memory .entry)))) ⌝ }
-{
-    let n = inst.parties;
-    let l = layout(z);
-    let k = n as usize;
-    let at = corrections_at(l);
-    let rows = rows_at(l);
-    let seeds = seeds_at(l, k);
-    let leaves = leaves_at(l, k);
-    // no party's commitment is given: what stands for it is not read
-    commit(
-        inst,
-        n,
-        &memory[..0],
-        &memory[seeds..leaves],
-        &memory[at..rows],
-    )
-}
-
-// Runs instance j on the witness, with what its master gives: leaves the seeds, the corrections and the broadcasts in the memory, and
-// fills the masked inputs.
-pub(crate) fn run_master(
+// Runs an instance on the witness, with the tapes in the memory: leaves the corrections and the broadcasts there, and fills the masked
+// inputs.
+pub(crate) fn run_tapes(
     s: &[u8],
     z: Sizes,
     inst: Instance,
     witness: &[u8],
-    master: &[u8],
     masked: &mut [u8],
     memory: &mut [u8],
 )
-    requires { ⌜ Lent (now s) z (inst .parties) (inst .height) (now memory) × (WitnessFits z (now witness) × ((length (now master) ≡ 16) × (length (now masked) ≡ oct (z .inputs)))) ⌝ }
-    ensures { λ _. ⌜ now (masked .exit) ≡ masterMasked (circuitOf (now (s .entry))) (inst .parties) (inst .context) (now (witness .entry)) (now (master .entry)) ⌝ }
-    ensures { λ _. ⌜ Ran (circuitOf (now (s .entry))) z (inst .parties) (inst .context) (now (witness .entry)) (now (master .entry)) (now (memory .exit)) ⌝ }
+    requires { ⌜ Lent (now s) z (inst .parties) (inst .height) (now memory) × (WitnessFits z (now witness) × ((unusedRows (circuitOf (now s)) (inst .parties) (tapesHeld z (inst .parties) (now memory)) (inst .parties) ≡ true) × (length (now masked) ≡ oct (z .inputs)))) ⌝ }
+    ensures { λ _. ⌜ now (masked .exit) ≡ maskedInputs (circuitOf (now (s .entry))) (inst .parties) (now (witness .entry)) (tapesHeld z (inst .parties) (now (memory .entry))) ⌝ }
+    ensures { λ _. ⌜ now (memory .exit) ≡ ranMemory (now (s .entry)) z (inst .parties) (now (witness .entry)) (now (memory .entry)) ⌝ }
+    ensures { λ _. ⌜ correctionsHeld z (now (memory .exit)) ≡ pack (correctionBits (circuitOf (now (s .entry))) (inst .parties) (tapesHeld z (inst .parties) (now (memory .entry)))) ⌝ }
 {
     let k = inst.parties as usize;
     let o = bits::oct(z.outputs);
     let mut y = [0u8; 32];
-    hold_parties(s, z, inst, master, memory);
     run_honest(s, z, k, witness, masked, &mut y[..o], memory);
 }
 
-// The digests of instance j, from its master and the witness. What then stands in the memory is not told.
+// The digests of instance j, from its master and the witness. The seeds give way to the run: what commits to them alone comes before it,
+// party n − 1's commitment after it. What then stands in the memory is not told.
 pub fn digests(
     s: &[u8],
     z: Sizes,
@@ -105,12 +71,15 @@ pub fn digests(
     ensures { λ r. ⌜ (r .commitments ≡ masterCommitments (circuitOf (now (s .entry))) (inst .parties) (inst .context) (now (master .entry))) × (r .online ≡ masterOnline (circuitOf (now (s .entry))) (inst .parties) (inst .context) (now (witness .entry)) (now (master .entry))) ⌝ }
 {
     let j = inst.context.number;
-    let k = inst.parties as usize;
+    let n = inst.parties;
     let m = bits::oct(z.inputs);
     let mut masked = [0u8; 64];
-    run_master(s, z, inst, witness, master, &mut masked[..m], memory);
-    let commitments = commit_held(z, inst, memory);
-    let online = online(j, &masked[..m], z, k, memory);
+    hold_parties(s, z, inst, master, memory);
+    let first = commit_first(z, inst, memory);
+    let last = seed_of(z, n, n - 1, memory);
+    run_tapes(s, z, inst, witness, &mut masked[..m], memory);
+    let commitments = commit_last(z, inst, first, &last, memory);
+    let online = online(j, &masked[..m], z, n as usize, memory);
     Digests {
         commitments,
         online,
@@ -128,31 +97,29 @@ pub(crate) fn put(from: &[u8], at: usize, part: &mut [u8]) -> usize
     to
 }
 
-// Writes the parts of a stretch that need no run, from the seeds and the corrections in the memory: siblings, corrections unless
-// p = n − 1, com_p. Gives the place after them.
+// Writes the parts of a stretch that need no run, from party p's seed and r, which are `own`, and the corrections in the memory:
+// siblings, corrections unless p = n − 1, com_p. Gives the place after them.
 pub(crate) fn send_held(
     z: Sizes,
     inst: Instance,
     p: u32,
     master: &[u8],
+    own: &[u8],
     memory: &[u8],
     part: &mut [u8],
 ) -> usize
-    requires { ⌜ Room (layoutOf z) (now memory) × ((heldEnd (layoutOf z) (inst .parties) ≤ length (now memory)) × ((z .ands ≤ maxGates) × (Tree (inst .parties) (inst .height) × ((p < inst .parties) × ((length (now master) ≡ 16) × (heldBytes z (inst .parties) (inst .height) p ≤ length (now part))))))) ⌝ }
+    requires { ⌜ Room (layoutOf z) (now memory) × ((heldEnd (layoutOf z) (inst .parties) ≤ length (now memory)) × ((z .ands ≤ maxGates) × (Tree (inst .parties) (inst .height) × ((p < inst .parties) × ((length (now master) ≡ 16) × ((length (now own) ≡ 32) × (heldBytes z (inst .parties) (inst .height) p ≤ length (now part)))))))) ⌝ }
     ensures { λ r. ⌜ r ≡ heldBytes z (inst .parties) (inst .height) p ⌝ }
-    ensures { λ _. ⌜ now (part .exit) ≡ siblingsBelow (inst .context) (inst .height) 1 p (now (master .entry)) ++ sentCorrections (inst .parties) p (correctionsHeld z (now (memory .entry))) ++ commitmentOf (inst .context) (inst .parties) p (seedsHeld z (inst .parties) (now (memory .entry))) (correctionsHeld z (now (memory .entry))) ++ drop (heldBytes z (inst .parties) (inst .height) p) (now (part .entry)) ⌝ }
+    ensures { λ _. ⌜ now (part .exit) ≡ siblingsBelow (inst .context) (inst .height) 1 p (now (master .entry)) ++ sentCorrections (inst .parties) p (correctionsHeld z (now (memory .entry))) ++ commitmentTo (inst .context) (inst .parties) p (now (own .entry)) (correctionsHeld z (now (memory .entry))) ++ drop (heldBytes z (inst .parties) (inst .height) p) (now (part .entry)) ⌝ }
 {
     let j = inst.context;
     let n = inst.parties;
     let h = inst.height;
-    let k = n as usize;
     let l = layout(z);
     let at = corrections_at(l);
     let rows = rows_at(l);
-    let seeds = seeds_at(l, k);
-    let leaves = leaves_at(l, k);
     let end = at + sent_bytes(z.ands, n, p);
-    let com = commitment(j, n, p, &memory[seeds..leaves], &memory[at..rows]);
+    let com = commit_row(j, n, p, own, &memory[at..rows]);
     let first = 16 * (h as usize);
     siblings_below(j, 1, h, p, master, &mut part[..first]);
     let second = put(&memory[at..end], first, part);
@@ -165,15 +132,16 @@ pub(crate) fn send_ran(
     inst: Instance,
     p: u32,
     master: &[u8],
+    own: &[u8],
     masked: &[u8],
     memory: &[u8],
     part: &mut [u8],
 )
-    requires { ⌜ Room (layoutOf z) (now memory) × ((heldEnd (layoutOf z) (inst .parties) ≤ length (now memory)) × ((z .ands ≤ maxGates) × (Tree (inst .parties) (inst .height) × ((p < inst .parties) × ((length (now master) ≡ 16) × ((length (now masked) ≡ oct (z .inputs)) × (length (now part) ≡ heldBytes z (inst .parties) (inst .height) p + oct (z .inputs) + broadcastBytes z))))))) ⌝ }
-    ensures { λ _. ⌜ now (part .exit) ≡ siblingsBelow (inst .context) (inst .height) 1 p (now (master .entry)) ++ sentCorrections (inst .parties) p (correctionsHeld z (now (memory .entry))) ++ commitmentOf (inst .context) (inst .parties) p (seedsHeld z (inst .parties) (now (memory .entry))) (correctionsHeld z (now (memory .entry))) ++ now (masked .entry) ++ rowSent z p (now (memory .entry)) ⌝ }
+    requires { ⌜ Room (layoutOf z) (now memory) × ((heldEnd (layoutOf z) (inst .parties) ≤ length (now memory)) × ((z .ands ≤ maxGates) × (Tree (inst .parties) (inst .height) × ((p < inst .parties) × ((length (now master) ≡ 16) × ((length (now own) ≡ 32) × ((length (now masked) ≡ oct (z .inputs)) × (length (now part) ≡ heldBytes z (inst .parties) (inst .height) p + oct (z .inputs) + broadcastBytes z)))))))) ⌝ }
+    ensures { λ _. ⌜ now (part .exit) ≡ siblingsBelow (inst .context) (inst .height) 1 p (now (master .entry)) ++ sentCorrections (inst .parties) p (correctionsHeld z (now (memory .entry))) ++ commitmentTo (inst .context) (inst .parties) p (now (own .entry)) (correctionsHeld z (now (memory .entry))) ++ now (masked .entry) ++ rowSent z p (now (memory .entry)) ⌝ }
 {
     let l = layout(z);
-    let third = send_held(z, inst, p, master, memory, part);
+    let third = send_held(z, inst, p, master, own, memory, part);
     let fourth = put(masked, third, part);
     pack_row(
         memory,
@@ -198,8 +166,11 @@ pub fn send(
     requires { ⌜ Lent (now s) z (inst .parties) (inst .height) (now memory) × (WitnessFits z (now witness) × ((length (now master) ≡ 16) × ((p < inst .parties) × (length (now part) ≡ stretchBytes (circuitOf (now s)) (inst .parties) (hiding p))))) ⌝ }
     ensures { λ _. ⌜ now (part .exit) ≡ stretchOf (circuitOf (now (s .entry))) (inst .parties) (inst .context) (now (witness .entry)) (now (master .entry)) (hiding p) ⌝ }
 {
+    let n = inst.parties;
     let m = bits::oct(z.inputs);
     let mut masked = [0u8; 64];
-    run_master(s, z, inst, witness, master, &mut masked[..m], memory);
-    send_ran(z, inst, p, master, &masked[..m], memory, part);
+    hold_parties(s, z, inst, master, memory);
+    let own = seed_of(z, n, p, memory);
+    run_tapes(s, z, inst, witness, &mut masked[..m], memory);
+    send_ran(z, inst, p, master, &own, &masked[..m], memory, part);
 }

@@ -16,7 +16,7 @@ use Rattle.plain.specs.Tapes.{unusedRows}
 use Rattle.plain.specs.Showing.{correctionBits}
 use Rattle.masks.specs.Steps.{Lent, rowsFrom, worked, correctionsOf}
 use Rattle.masks.proofs.Kept.{left-length, left-after, left-corrections}
-use Rattle.planes.specs.Steps.{Room, tapeWords, correctionsAt, rowsAt, seedsAt}
+use Rattle.planes.specs.Steps.{Room, tapeWords, correctionsAt, rowsAt, leavesAt}
 use Rattle.planes.specs.declared.Layout.{Layout}
 use Rattle.walk.specs.Steps.{layoutOf}
 use Rattle.packing.proofs.Prepared.{corrections-prepared}
@@ -68,8 +68,8 @@ module _ (z : Sizes) (l : Layout) (e : l ≡ layoutOf z) where
   pub rows-are : (a : ℕ) → a ≡ rowsAt l → a ≡ rowsAt (layoutOf z)
   rows-are a q = q ∙ ap (λ (x : Layout). rowsAt x) e
 
-  pub seeds-are : (n a : ℕ) → a ≡ seedsAt l n → a ≡ seedsAt (layoutOf z) n
-  seeds-are n a q = q ∙ ap (λ (x : Layout). seedsAt x n) e
+  pub leaves-are : (n a : ℕ) → a ≡ leavesAt l n → a ≡ leavesAt (layoutOf z) n
+  leaves-are n a q = q ∙ ap (λ (x : Layout). leavesAt x n) e
 
 -- a memory that is as long is a work memory too
 pub working-kept : (z : Sizes) (n : ℕ) (m k : List ℕ) → length k ≡ length m → Working z n m → Working z n k
@@ -119,12 +119,12 @@ module _ (z : Sizes) (n : ℕ) (tapes m : List ℕ) (p : Placed z n m) (fit : Ta
   tapes-there = part-there (rowsAt (layoutOf z)) (n * oct (z .inputs + 2 * z .ands)) m tapes fit (p .rows)
 
   -- as the code does it: l the layout, the part from a to e
-  module _ (l : Layout) (el : l ≡ layoutOf z) (a e : ℕ) (ea : a ≡ rowsAt l) (ee : e ≡ seedsAt l n) where
+  module _ (l : Layout) (el : l ≡ layoutOf z) (a e : ℕ) (ea : a ≡ rowsAt l) (ee : e ≡ leavesAt l n) where
     first : a ≡ rowsAt (layoutOf z)
     first = rows-are z l el a ea
 
     last : e ≡ rowsAt (layoutOf z) + length tapes
-    last = seeds-are z l el n e ee ∙ ap (λ (j : ℕ). rowsAt (layoutOf z) + j) (sym fit)
+    last = leaves-are z l el n e ee ∙ ap (λ (j : ℕ). rowsAt (layoutOf z) + j) (sym fit)
 
     room : rowsAt (layoutOf z) + length tapes ≤ length m
     room = rw fit (p .rows)

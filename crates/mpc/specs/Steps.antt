@@ -13,7 +13,7 @@ use Rattle.circuit.specs.Steps.{Legal}
 use Rattle.circuit.specs.declared.Sizes.{Sizes}
 use Rattle.plain.specs.Tapes.{unusedRows}
 use Rattle.masks.specs.Steps.{wireCount, rowsFrom, worked, correctionsOf}
-use Rattle.planes.specs.Steps.{Room, correctionsAt, rowsAt, seedsAt}
+use Rattle.planes.specs.Steps.{Room, correctionsAt, rowsAt, leavesAt}
 use Rattle.walk.specs.Steps.{layoutOf}
 use Rattle.mpc.specs.declared.Answer.{Answer}
 use Rattle.mpc.specs.declared.Answer.the-variants.{Done, Refused}
@@ -31,7 +31,7 @@ pub record Known (s : List ℕ) (z : Sizes) : Type 0 where
 -- a number of parties
 pub record Parties (n : ℕ) : Type 0 where
   pub some : 1 ≤ n
-  pub few : n ≤ 16
+  pub few : n ≤ 64
 
 -- the bytes of a circuit's work memory
 abbrev pub memoryBytes : Sizes → ℕ
@@ -46,7 +46,7 @@ pub record Working (z : Sizes) (n : ℕ) (m : List ℕ) : Type 0 where
 pub record Placed (z : Sizes) (n : ℕ) (m : List ℕ) : Type 0 where
   pub few : n ≤ 64
   pub room : Room (layoutOf z) m
-  pub rows : seedsAt (layoutOf z) n ≤ length m
+  pub rows : leavesAt (layoutOf z) n ≤ length m
 
 -- the tapes of n parties
 abbrev pub TapesFit : Sizes → ℕ → List ℕ → Type 0

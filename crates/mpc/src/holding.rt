@@ -8,8 +8,8 @@ ghost use Rattle.mpc.specs.Steps.{Placed, TapesFit, withTapes, withBoth}
 use bits::copy;
 use circuit::Sizes;
 use planes::places::corrections_at;
+use planes::places::leaves_at;
 use planes::places::rows_at;
-use planes::places::seeds_at;
 use walk::layout;
 
 // Brings the tapes of n parties into the memory.
@@ -19,7 +19,7 @@ pub(crate) fn hold_tapes(z: Sizes, n: usize, tapes: &[u8], memory: &mut [u8])
 {
     let l = layout(z);
     let rows = rows_at(l);
-    let end = seeds_at(l, n);
+    let end = leaves_at(l, n);
     copy(tapes, &mut memory[rows..end]);
 }
 

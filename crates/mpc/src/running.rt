@@ -57,7 +57,7 @@ fn run_lengths(
     rows: &[u8],
     y: &[u8],
 ) -> bool
-    requires { ⌜ (n ≤ 16) × ((z .inputs ≤ maxInputs) × ((z .outputs ≤ maxOutputs) × (z .ands ≤ maxGates))) ⌝ }
+    requires { ⌜ (n ≤ 64) × ((z .inputs ≤ maxInputs) × ((z .outputs ≤ maxOutputs) × (z .ands ≤ maxGates))) ⌝ }
     ensures { λ r. ⌜ r ≡ eqb (length (now (witness .entry))) (oct (z .inputs)) && eqb (length (now (tapes .entry))) (n * oct (z .inputs + 2 * z .ands)) && eqb (length (now (corrections .entry))) (oct (z .ands)) && eqb (length (now (masked .entry))) (oct (z .inputs)) && eqb (length (now (rows .entry))) (n * oct (z .ands + z .outputs)) && eqb (length (now (y .entry))) (oct (z .outputs)) ⌝ }
 {
     let lent = both(

@@ -33,7 +33,7 @@ pub fn holds(s: &[u8], k: usize) -> bool
 
 // Whether s has n rows for k bits each.
 pub fn holds_rows(s: &[u8], n: usize, k: usize) -> bool
-    requires { ⌜ (n ≤ 16) × (k ≤ 4194304) ⌝ }
+    requires { ⌜ (n ≤ 64) × (k ≤ 4194304) ⌝ }
     ensures { λ r. ⌜ r ≡ eqb (length (now (s .entry))) (n * oct k) ⌝ }
 {
     s.len() == n * bits::oct(k)
@@ -53,7 +53,7 @@ pub fn used_bits(inputs: usize, ands: usize, n: usize, i: usize) -> usize
 
 // Whether the unused bits of all n rows of the tapes are zero.
 pub fn unused_rows(s: &[u8], z: Sizes, n: usize, tapes: &[u8]) -> bool
-    requires { ⌜ Known (now s) z × (n ≤ 16) ⌝ }
+    requires { ⌜ Known (now s) z × (n ≤ 64) ⌝ }
     ensures { λ r. ⌜ r ≡ unusedRows (circuitOf (now (s .entry))) n (now (tapes .entry)) n ⌝ }
 {
     let inputs = z.inputs;

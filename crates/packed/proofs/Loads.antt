@@ -13,7 +13,7 @@ use lib.Bits.{bitXor}
 use lib.Dec.{eqb}
 use lib.ListN.{length, take, drop}
 use lib.Pow.{pow-mono, pow-pos}
-use lib.Seq.{sets}
+use lib.Seq.{sets, drop-drop}
 use Rattle.bits.specs.Bits.{oct, testBit, fromBits, bitVal, bitAt, odd}
 use Rattle.bits.specs.Bytes.{leAt, leBytes, rowOf}
 use Rattle.bits.proofs.Numbers.{eq-or-ne, lt-or-le, fromBits-lt, odd-bitVal}
@@ -21,7 +21,7 @@ use Rattle.bits.specs.Xor.{_⊕_}
 use Rattle.bits.proofs.Bitwise.{odd-xor}
 use Rattle.words.specs.Words.{parity, every, place, chosen}
 use Rattle.words.proofs.Columns.{chosen-lt, every-lt, word-put}
-use Rattle.planes.specs.Steps.{tapeWords, tapeAt, broadcastWord, planesEnd, correctionsAt, rowsAt, share, tape, masked, putShare, putTape, putMasked, loadedTapes, loadedRows, putBits, putParty}
+use Rattle.planes.specs.Steps.{tapeWords, tapeAt, broadcastWord, planesEnd, spare, correctionsAt, rowsAt, share, tape, masked, putShare, putTape, putMasked, loadedTapes, loadedRows, putBits, putParty}
 use Rattle.planes.specs.declared.Layout.{Layout}
 use Rattle.planes.proofs.Held.{loaded-length, loaded-held, party-length, share-length, tape-length, tape-held, masked-length, rows-loaded, party-part}
 use Rattle.planes.proofs.Views.{share-share, tape-share, masked-share, share-tape, tape-tape, masked-tape, share-masked, tape-masked, masked-masked, tape-word}
@@ -267,14 +267,18 @@ module _ (l : Layout) (n len : ℕ) (tapes cs m : List ℕ) (room : planesEnd l 
 
 -- the rows and the corrections that stand in the memory
 module _ (l : Layout) (n len : ℕ) (m : List ℕ) (room : planesEnd l ≤ length m) (wide : n ≤ 64) (low : 8 * len ≤ l .inputs + 2 * l .ands + 7) where
-  -- the corrections are not touched before they are put
+  -- what comes after the planes is not touched before the corrections are put
   abbrev before : List ℕ → List ℕ
   before tapes = wordsCleared l (broadcastWord l (l .ands)) (l .outputs + 7) (loadedTapes l n tapes len m)
 
-  pub before-held : (tapes : List ℕ) → drop (correctionsAt l) (before tapes) ≡ drop (correctionsAt l) m
+  pub before-held : (tapes : List ℕ) → drop (planesEnd l) (before tapes) ≡ drop (planesEnd l) m
   before-held tapes =
       cleared-held l (broadcastWord l (l .ands)) (loadedTapes l n tapes len m) (omega (arith, loaded-length l m n tapes len)) (l .outputs + 7) (omega arith)
       ∙ loaded-held l m n tapes len wide (omega arith)
+
+  before-after : (tapes : List ℕ) → drop (correctionsAt l) (before tapes) ≡ drop (correctionsAt l) m
+  before-after tapes =
+      sym (drop-drop (spare l) (planesEnd l) (before tapes)) ∙ ap (drop (spare l)) (before-held tapes) ∙ drop-drop (spare l) (planesEnd l) m
 
   -- the whole step
   pub words-done : (k v r : List ℕ) (e : ℕ) → e ≡ broadcastWord l (l .ands) → k ≡ loadedRows l n len m → v ≡ wordsCleared l e (l .outputs + 7) k
@@ -284,7 +288,7 @@ module _ (l : Layout) (n len : ℕ) (m : List ℕ) (room : planesEnd l ≤ lengt
   words-done k v r e ee ek ev er =
       let same : v ≡ before (drop (rowsAt l) m) = ev ∙ ap₂ (λ (q : ℕ) (w : List ℕ). wordsCleared l q (l .outputs + 7) w) ee ek in
       er ∙ ap (λ (w : List ℕ). putParty l (broadcastWord l 0) (n - 1) (drop (correctionsAt l) w) (l .ands) w) same
-      ∙ ap (λ (cs : List ℕ). putParty l (broadcastWord l 0) (n - 1) cs (l .ands) (before (drop (rowsAt l) m))) (before-held (drop (rowsAt l) m))
+      ∙ ap (λ (cs : List ℕ). putParty l (broadcastWord l 0) (n - 1) cs (l .ands) (before (drop (rowsAt l) m))) (before-after (drop (rowsAt l) m))
 
   -- and only their own bytes are read
   pub words-held : wordsLoaded l n (drop (rowsAt l) m) len (drop (correctionsAt l) m) m
@@ -296,6 +300,6 @@ module _ (l : Layout) (n len : ℕ) (m : List ℕ) (room : planesEnd l ≤ lengt
       let with-cs : List ℕ → List ℕ = λ cs. putParty l (broadcastWord l 0) (n - 1) cs (l .ands) w in
       ap (λ (k : List ℕ). putParty l (broadcastWord l 0) (n - 1) (drop (correctionsAt l) m) (l .ands) (wordsCleared l (broadcastWord l (l .ands)) (l .outputs + 7) k))
       (rows-loaded l m n len)
-      ∙ ap with-cs (sym (before-held tapes))
+      ∙ ap with-cs (sym (before-after tapes))
       ∙ party-part l w (broadcastWord l 0) (n - 1) (correctionsAt l) (l .ands)
-      ∙ ap (λ (k : List ℕ). with-cs (take (oct (l .ands)) k)) (before-held tapes)
+      ∙ ap (λ (k : List ℕ). with-cs (take (oct (l .ands)) k)) (before-after tapes)

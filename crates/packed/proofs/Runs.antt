@@ -6,7 +6,6 @@ use mathlib.Core.Bool.{Bool, false, cond, _&&_}
 use mathlib.Core.List.{List, [], _∷_, flatten}
 use mathlib.Core.Logic.{⊎-elim, inl, inr}
 use Prim.Native.Nat.{ℕ, zero, suc, _+_, _-_, _*_, _≤_, _<_}
-use native.Mathlib.Nat.{mul-le-mul-right}
 use native.Mathlib.Omega.{arith}
 use borrow.Author.Tests.{eq-eqb, ne-eqb, lt-ltb}
 use lib.Dec.{eqb, ltb}
@@ -32,6 +31,7 @@ use Rattle.words.specs.Words.{parity, place}
 use Rattle.words.proofs.Folds.{word-mask}
 use Rattle.planes.specs.Steps.{tapeWords, maskWord, broadcastWord, planesEnd, correctionsAt, rowsAt, heldEnd, Room, share, tape, masked, putParty}
 use Rattle.planes.specs.declared.Layout.{Layout}
+use Rattle.planes.proofs.Fits.{spare-small, layout-fits, rows-fit}
 use Rattle.planes.proofs.Held.{party-length}
 use Rattle.gates.proofs.Holding.{put-other}
 use Rattle.gates.proofs.Steps.{room-kept}
@@ -311,14 +311,14 @@ module _ (s : List ℕ) (z : Sizes) (legal : Legal s (z .inputs) (z .outputs) (z
   ands-few = omega (arith, ands-le (gatesInOrder s), gates-count s, legal .laid .gates, count)
 
   -- what fits a work memory of 64 (I + G) + 4,096 bytes
-  module _ (n : ℕ) (m : List ℕ) (some : 1 ≤ n) (few : n ≤ 16) (room : 64 * (z .inputs + z .gates) + 4096 ≤ length m) where
+  module _ (n : ℕ) (m : List ℕ) (some : 1 ≤ n) (few : n ≤ 64) (room : 64 * (z .inputs + z .gates) + 4096 ≤ length m) where
     -- all that an instance of n parties takes
     pub room-end : heldEnd (layoutOf z) n ≤ length m
-    room-end = omega (arith, ands-few, legal .laid .few-outputs, mul-le-mul-right (tapeBytes z) few)
+    room-end = omega (arith, layout-fits (layoutOf z) (omega (arith, ands-few)) (legal .laid .few-outputs) n few, room)
 
     -- the planes with the corrections, and 8 rows of broadcasts after them
     pub room-rows : rowsAt (layoutOf z) + 8 * broadcastBytes z ≤ length m
-    room-rows = omega (arith, ands-few, legal .laid .few-outputs)
+    room-rows = omega (arith, rows-fit (layoutOf z) (omega (arith, ands-few)) (legal .laid .few-outputs), room)
 
     pub room-planes : Room (layoutOf z) m
     room-planes = record {
@@ -336,7 +336,7 @@ module _ (s : List ℕ) (z : Sizes) (legal : Legal s (z .inputs) (z .outputs) (z
       legal = legal;
       ands = count;
       row = omega arith;
-      low = omega (arith, ands-few, legal .laid .few-inputs, legal .laid .few-outputs, legal .laid .few-gates);
+      low = omega (arith, spare-small (layoutOf z), ands-few, legal .laid .few-inputs, legal .laid .few-outputs, legal .laid .few-gates);
       corrections = omega arith;
       tapes = omega (arith, room-end);
     }

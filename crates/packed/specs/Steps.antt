@@ -14,7 +14,7 @@ use Rattle.circuit.specs.Steps.{Legal}
 use Rattle.circuit.specs.declared.Sizes.{Sizes}
 use Rattle.plain.specs.Showing.{maskedInputs, Showing}
 use Rattle.words.specs.Words.{parity, place}
-use Rattle.planes.specs.Steps.{Room, correctionsAt, rowsAt, seedsAt, broadcastWord, tape, putShare, putTape, putMasked, loadedTapes, putParty}
+use Rattle.planes.specs.Steps.{Room, correctionsAt, rowsAt, leavesAt, broadcastWord, tape, putShare, putTape, putMasked, loadedTapes, putParty}
 use Rattle.planes.specs.declared.Layout.{Layout}
 use Rattle.walk.specs.Steps.{layoutOf, outputsRun}
 
@@ -69,7 +69,7 @@ pub record Held (s : List ℕ) (z : Sizes) (n : ℕ) (m : List ℕ) : Type 0 whe
   pub some : 1 ≤ n
   pub few : n ≤ 64
   pub room : Room (layoutOf z) m
-  pub rows : seedsAt (layoutOf z) n ≤ length m
+  pub rows : leavesAt (layoutOf z) n ≤ length m
 
 -- a showing of its parts
 abbrev pub showingOf : List ℕ → List ℕ → List ℕ → List ℕ → Showing

@@ -1,4 +1,4 @@
-// The numbers of parties that document 01 takes.
+// The numbers of parties: document 01, and document 02, order 13.
 ghost use mathlib.Core.Path.{_≡_};
 ghost use Rattle.parties.specs.Parties.{heightOf};
 
@@ -14,6 +14,10 @@ pub fn height(n: u32) -> u32
         3
     } else if n == 16 {
         4
+    } else if n == 32 {
+        5
+    } else if n == 64 {
+        6
     } else {
         0
     }

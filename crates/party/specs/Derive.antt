@@ -22,7 +22,10 @@ clearFrom k (x ∷ s) = x % 2 ^ min k 8 ∷ clearFrom (k - 8) s
 unfoldable pub tapeRow : Context → ℕ → List ℕ → ℕ → ℕ → List ℕ
 tapeRow j i seed k len = clearFrom k (shake128 (tapeInput j i seed) len)
 
--- "com = SHA3-256(1, j, i, seed, corrections if i = n − 1, r)", the seed and r being row i of the flat buffer of rows
+-- "com = SHA3-256(1, j, i, seed, corrections if i = n − 1, r)", the row being the seed and r
+abbrev pub commitmentTo : Context → ℕ → ℕ → List ℕ → List ℕ → List ℕ
+commitmentTo j n i row corrections = sha3-256 (commitmentInput j n i (take 16 row) corrections (drop 16 row))
+
+-- the same with row i of the flat buffer of rows
 unfoldable pub commitmentOf : Context → ℕ → ℕ → List ℕ → List ℕ → List ℕ
-commitmentOf j n i rows corrections =
-    sha3-256 (commitmentInput j n i (take 16 (rowOf rows 32 i)) corrections (drop 16 (rowOf rows 32 i)))
+commitmentOf j n i rows corrections = commitmentTo j n i (rowOf rows 32 i) corrections

@@ -2,7 +2,7 @@
 ghost use mathlib.Core.Path.{_≡_};
 ghost use Prim.Native.Nat.{_+_, _*_, _≤_, _<_};
 ghost use lib.ListN.{length};
-ghost use Rattle.party.specs.Derive.{seedRow, clearFrom, tapeRow, commitmentOf};
+ghost use Rattle.party.specs.Derive.{seedRow, clearFrom, tapeRow, commitmentTo, commitmentOf};
 use bits::clear;
 use hashing::Context;
 use hashing::commit;
@@ -42,15 +42,23 @@ pub fn tape(j: Context, i: u32, seed: &[u8], k: usize, row: &mut [u8])
     clear_from(row, k);
 }
 
-// The commitment of party i of n; row i of the rows is its seed and its r.
-pub fn commitment(j: Context, n: u32, i: u32, rows: &[u8], corrections: &[u8]) -> [u8; 32]
-    requires { ⌜ (i < 256) × (i * 32 + 32 ≤ length (now rows)) ⌝ }
-    ensures { λ r. ⌜ r ≡ commitmentOf j n i (now (rows .entry)) (now (corrections .entry)) ⌝ }
+// The commitment of party i of n; the row is its seed and its r.
+pub fn commit_row(j: Context, n: u32, i: u32, row: &[u8], corrections: &[u8]) -> [u8; 32]
+    requires { ⌜ (i < 256) × (length (now row) ≡ 32) ⌝ }
+    ensures { λ r. ⌜ r ≡ commitmentTo j n i (now (row .entry)) (now (corrections .entry)) ⌝ }
 {
     let salt = j.salt;
     let at = j.number;
     let head = [(at % 256) as u8, (at / 256 % 256) as u8, (i % 256) as u8];
-    let row = bits::row(rows, 32, i as usize);
     let own = if i + 1 == n { corrections.len() } else { 0 };
     commit(&salt, &head, &row[..16], &corrections[..own], &row[16..])
+}
+
+// The same; row i of the rows is its seed and its r.
+pub fn commitment(j: Context, n: u32, i: u32, rows: &[u8], corrections: &[u8]) -> [u8; 32]
+    requires { ⌜ (i < 256) × (i * 32 + 32 ≤ length (now rows)) ⌝ }
+    ensures { λ r. ⌜ r ≡ commitmentOf j n i (now (rows .entry)) (now (corrections .entry)) ⌝ }
+{
+    let row = bits::row(rows, 32, i as usize);
+    commit_row(j, n, i, row, corrections)
 }

@@ -1,3 +1,4 @@
+pub mod Fits
 pub mod Turning
 pub mod Views
 pub mod Stored

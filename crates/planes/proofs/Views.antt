@@ -137,8 +137,3 @@ module _ (l : Layout) (m : List ℕ) (room : planesEnd l ≤ length m) where
         groups-other n s len (tapeAt l 0) (clearedTapes l m) ((n + 7) / 8) (tapeAt l q + i) (omega arith) (omega arith)
         ∙ ap (λ (x : ℕ). getD (clearedTapes l m) x 0) e ∙ clear-all (8 * q + i) (omega arith) in
         leAt-none 8 _ (tapeAt l q) zero-byte
-
--- the planes, and 8 rows of a tape or of broadcasts after them, fit the work memory: where I + A is at most W and O at most 256
-pub planes-fit : (l : Layout) (len : ℕ) → l .inputs + l .ands ≤ l .wires → l .outputs ≤ 256 → 8 * len ≤ tapeWords l
-    → planesEnd l + 8 * len ≤ 64 * l .wires + 4096
-planes-fit l len h o low = omega arith

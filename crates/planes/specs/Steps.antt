@@ -2,8 +2,9 @@
 -- The work memory for W wires, I inputs, A AND gates and O output wires, in planes one after the other: a word of shares for each wire; a
 -- word for each bit q of the tape rows, bit i of it for party i; a byte for each wire, its masked value. Of the tape words the first I are
 -- input masks, then A output masks, then A product shares in whose place the broadcasts come, then the O output broadcasts. After the
--- planes stand the corrections, a bit for each AND gate, and rows, first of the tapes, later of the broadcasts; then, for n parties, seeds
--- and leaves.
+-- planes stand the corrections, a bit for each AND gate, and rows, first of the tapes, later of the broadcasts; then, for n parties, their
+-- leaves. Their seeds stand in the place of the tape words, until these are loaded: the planes end, with some bytes to spare, after the
+-- seeds of 64 parties.
 -- Assumes nothing.
 use mathlib.Core.Bool.{cond}
 use mathlib.Core.List.{List}
@@ -34,18 +35,25 @@ maskedAt l w = 8 * l .wires + 8 * tapeWords l + w
 abbrev pub planesEnd : Layout → ℕ
 planesEnd l = maskedAt l (l .wires)
 
--- the place of the corrections; of the rows; and, after n tape rows, of n seeds with r and of n leaves; and the end of them all
+-- the place of the seeds with r, and the bytes between the planes and the corrections: 64 rows of 32 bytes fit before the corrections
+abbrev pub seedsAt : Layout → ℕ
+seedsAt l = 8 * l .wires
+
+abbrev pub seedsEnd : Layout → ℕ → ℕ
+seedsEnd l n = seedsAt l + 32 * n
+
+unfoldable pub spare : Layout → ℕ
+spare l = 2048 - (8 * tapeWords l + l .wires)
+
+-- the place of the corrections; of the rows; and, after n tape rows, of n leaves; and the end of them all
 abbrev pub correctionsAt : Layout → ℕ
-correctionsAt l = planesEnd l
+correctionsAt l = planesEnd l + spare l
 
 abbrev pub rowsAt : Layout → ℕ
 rowsAt l = correctionsAt l + oct (l .ands)
 
-abbrev pub seedsAt : Layout → ℕ → ℕ
-seedsAt l n = rowsAt l + n * oct (l .inputs + 2 * l .ands)
-
 abbrev pub leavesAt : Layout → ℕ → ℕ
-leavesAt l n = seedsAt l n + 32 * n
+leavesAt l n = rowsAt l + n * oct (l .inputs + 2 * l .ands)
 
 abbrev pub heldEnd : Layout → ℕ → ℕ
 heldEnd l n = leavesAt l n + 16 * n

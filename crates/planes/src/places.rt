@@ -1,7 +1,7 @@
 // The places of the work memory, which no other crate knows.
 ghost use mathlib.Core.Path.{_≡_};
 ghost use Prim.Native.Nat.{_≤_, _<_};
-ghost use Rattle.planes.specs.Steps.{tapeWords, tapeAt, maskedAt, planesEnd, correctionsAt, rowsAt, seedsAt, leavesAt, maskWord, broadcastWord, Room, share, tape, masked, putShare, putTape, putMasked};
+ghost use Rattle.planes.specs.Steps.{tapeWords, tapeAt, maskedAt, planesEnd, seedsAt, seedsEnd, spare, correctionsAt, rowsAt, leavesAt, maskWord, broadcastWord, Room, share, tape, masked, putShare, putTape, putMasked};
 use crate::Layout;
 
 // The number of tape words.
@@ -53,12 +53,37 @@ pub fn planes_end(l: Layout) -> usize
     masked_at(l, w)
 }
 
+// The place of the seeds of up to 64 parties: that of the tape words, before these are loaded.
+pub fn seeds_at(l: Layout) -> usize
+    requires { ⌜ l .wires ≤ 1048576 ⌝ }
+    ensures { λ r. ⌜ r ≡ seedsAt l ⌝ }
+{
+    8 * l.wires
+}
+
+// The end of the seeds of n parties.
+pub fn seeds_end(l: Layout, n: usize) -> usize
+    requires { ⌜ (l .wires ≤ 1048576) × (n ≤ 64) ⌝ }
+    ensures { λ r. ⌜ r ≡ seedsEnd l n ⌝ }
+{
+    seeds_at(l) + 32 * n
+}
+
+// The bytes between the planes and the corrections, which come after the seeds of 64 parties.
+fn spare(l: Layout) -> usize
+    requires { ⌜ (l .wires ≤ 1048576) × (tapeWords l ≤ 4194304) ⌝ }
+    ensures { λ r. ⌜ r ≡ spare l ⌝ }
+{
+    let used = 8 * tape_words(l) + l.wires;
+    if used < 2048 { 2048 - used } else { 0 }
+}
+
 // The place of the corrections: after the planes.
 pub fn corrections_at(l: Layout) -> usize
     requires { ⌜ (l .wires ≤ 1048576) × (tapeWords l ≤ 4194304) ⌝ }
     ensures { λ r. ⌜ r ≡ correctionsAt l ⌝ }
 {
-    planes_end(l)
+    planes_end(l) + spare(l)
 }
 
 // The place of the rows: after the corrections.
@@ -69,20 +94,12 @@ pub fn rows_at(l: Layout) -> usize
     corrections_at(l) + bits::oct(l.ands)
 }
 
-// The place of the seeds of n parties: after their tape rows.
-pub fn seeds_at(l: Layout, n: usize) -> usize
-    requires { ⌜ (l .wires ≤ 1048576) × ((tapeWords l ≤ 4194304) × (n ≤ 64)) ⌝ }
-    ensures { λ r. ⌜ r ≡ seedsAt l n ⌝ }
-{
-    rows_at(l) + n * bits::oct(l.inputs + 2 * l.ands)
-}
-
-// The place of the leaves of n parties: after their seeds.
+// The place of the leaves of n parties: after their tape rows.
 pub fn leaves_at(l: Layout, n: usize) -> usize
     requires { ⌜ (l .wires ≤ 1048576) × ((tapeWords l ≤ 4194304) × (n ≤ 64)) ⌝ }
     ensures { λ r. ⌜ r ≡ leavesAt l n ⌝ }
 {
-    seeds_at(l, n) + 32 * n
+    rows_at(l) + n * bits::oct(l.inputs + 2 * l.ands)
 }
 
 // The shares of wire w.

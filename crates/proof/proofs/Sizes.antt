@@ -39,9 +39,9 @@ pub size-opened : (c : Circuit) (n p : ℕ) → p ≡ n → 32 ≡ stretchBytes 
 unfolding stretchBytes
 size-opened c n p e = sym (ap (stretchBytes c n) (ask-opened n p e))
 
--- the bytes of a stretch at most: siblings of four heights, corrections, com_p, masked inputs and a row
+-- the bytes of a stretch at most: siblings of six levels, corrections, com_p, masked inputs and a row
 abbrev pub maxStretch : ℕ
-maxStretch = 16 * 4 + oct maxGates + 32 + oct maxInputs + oct (maxGates + maxOutputs)
+maxStretch = 16 * 6 + oct maxGates + 32 + oct maxInputs + oct (maxGates + maxOutputs)
 
 -- a legal circuit
 module _ (s : List ℕ) (i o g a : ℕ) (k : Known s (sized i o g a)) where

@@ -78,7 +78,7 @@ fn replay_lengths(
     y: &[u8],
     rows: &[u8],
 ) -> bool
-    requires { ⌜ (n ≤ 16) × ((z .inputs ≤ maxInputs) × ((z .outputs ≤ maxOutputs) × (z .ands ≤ maxGates))) ⌝ }
+    requires { ⌜ (n ≤ 64) × ((z .inputs ≤ maxInputs) × ((z .outputs ≤ maxOutputs) × (z .ands ≤ maxGates))) ⌝ }
     ensures { λ r. ⌜ r ≡ (eqb (length (now (tapes .entry))) (n * oct (z .inputs + 2 * z .ands)) && eqb (length (now (corrections .entry))) (oct (z .ands)) && eqb (length (now (masked .entry))) (oct (z .inputs)) && eqb (length (now (row .entry))) (oct (z .ands + z .outputs))) && eqb (length (now (y .entry))) (oct (z .outputs)) && eqb (length (now (rows .entry))) (n * oct (z .ands + z .outputs)) ⌝ }
 {
     let first = both(
@@ -106,7 +106,7 @@ fn unused_showing(
     masked: &[u8],
     row: &[u8],
 ) -> bool
-    requires { ⌜ Known (now s) z × ((n ≤ 16) × (p < n)) ⌝ }
+    requires { ⌜ Known (now s) z × ((n ≤ 64) × (p < n)) ⌝ }
     ensures { λ r. ⌜ r ≡ unusedShowing (circuitOf (now (s .entry))) n p (record { tapes = now (tapes .entry); corrections = now (corrections .entry); maskedInputs = now (masked .entry); row = now (row .entry) }) ⌝ }
 {
     let len = bits::oct(z.inputs + 2 * z.ands);

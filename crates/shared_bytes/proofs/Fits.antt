@@ -20,7 +20,7 @@ use Rattle.keccak.proofs.Bytes.{Bytes, bytes-tail, bytes-take, bytes-drop, byte
 use Rattle.keccak.proofs.Steps.{turned-cases}
 use Rattle.keccak.proofs.Absorbing as absorbing
 use Rattle.hashing.specs.Inputs.{allCommitmentsInput, allOnlineInput}
-use Rattle.hashing.specs.Steps.{taken}
+use Rattle.hashing.specs.Digest.{taken}
 use Rattle.hashing.proofs.Hashes.{bytes-one}
 use Rattle.circuit.specs.Circuit.{Circuit}
 use Rattle.circuit.specs.File.{circuitOf}

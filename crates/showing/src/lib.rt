@@ -121,7 +121,7 @@ fn show_lengths(
     masked: &[u8],
     row: &[u8],
 ) -> bool
-    requires { ⌜ (n ≤ 16) × ((z .inputs ≤ maxInputs) × ((z .outputs ≤ maxOutputs) × (z .ands ≤ maxGates))) ⌝ }
+    requires { ⌜ (n ≤ 64) × ((z .inputs ≤ maxInputs) × ((z .outputs ≤ maxOutputs) × (z .ands ≤ maxGates))) ⌝ }
     ensures { λ r. ⌜ r ≡ eqb (length (now (witness .entry))) (oct (z .inputs)) && eqb (length (now (tapes .entry))) (n * oct (z .inputs + 2 * z .ands)) && (eqb (length (now (blanked .entry))) (n * oct (z .inputs + 2 * z .ands)) && eqb (length (now (corrections .entry))) (oct (z .ands)) && eqb (length (now (masked .entry))) (oct (z .inputs)) && eqb (length (now (row .entry))) (oct (z .ands + z .outputs))) ⌝ }
 {
     let lent = both(

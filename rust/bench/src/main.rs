@@ -7,6 +7,7 @@ mod mpc;
 mod openssl;
 mod price;
 mod proofs;
+mod published;
 mod rows;
 mod shared;
 mod texts;

@@ -4,6 +4,7 @@
 use crate::hash_calls::{call_of, of_check, of_prove};
 use crate::openssl::OpenSsl;
 use crate::price;
+use crate::published;
 use crate::rows::{best_times, call, cell, nanoseconds_each, print_line, Row};
 use reference::circuit::Sizes;
 use reference::proof::{longest, Counts, Statement};
@@ -19,7 +20,7 @@ const INSTANCES: [u32; 3] = [64, 256, 512];
 /// The numbers of parties in the table of the examples, and in that of the worst
 /// circuit.
 const SOME_PARTIES: &[u32] = &[4, 16];
-const ALL_PARTIES: &[u32] = &[2, 4, 8, 16];
+const UP_TO_16: &[u32] = &[2, 4, 8, 16];
 
 /// Error 2^-128; the tau for it follows from M and n.
 const SOUNDNESS: f64 = 128.0;
@@ -172,6 +173,21 @@ fn all_counts(parties: &[u32]) -> Vec<Counts> {
         .collect()
 }
 
+/// The same without the second implementation, for which the work would be long.
+fn rows_without_second<'a>(
+    example: &'a Example,
+    counts: Counts,
+    openssl: Option<&'a OpenSsl>,
+) -> [Row<'a>; 2] {
+    rows(example, counts, openssl).map(|row| {
+        let [ours, _, hashing] = row.calls;
+        Row {
+            calls: [ours, None, hashing],
+            ..row
+        }
+    })
+}
+
 /// The rows of prove and of check for one circuit and these counts.
 fn rows<'a>(example: &'a Example, counts: Counts, openssl: Option<&'a OpenSsl>) -> [Row<'a>; 2] {
     let (statement, proof) = (example.statement(), example.proof(counts));
@@ -268,8 +284,35 @@ pub fn print(openssl: Option<&OpenSsl>) {
     let [covers32, fresh] = [example!("covers32"), example!("fresh")].map(Example::of);
     let small = [Example::covers16(), covers32, fresh];
     print_table(&small, SOME_PARTIES, 15, openssl);
-    print_table(&[Example::worst()], ALL_PARTIES, 6, openssl);
+    print_table(&[Example::worst()], UP_TO_16, 6, openssl);
+    print_many_parties(openssl);
     print_prices(openssl);
+    published::print();
+}
+
+/// Error 2^-128 with 32 parties as table 1 of Katz, Kolesnikov and Wang has it, and with 64:
+/// the table's M, 631, is above 512, so tau is the least one for which an M is not.
+const MANY_PARTIES: [Counts; 2] = [
+    Counts {
+        m: 462,
+        tau: 27,
+        n: 32,
+    },
+    Counts {
+        m: 439,
+        tau: 25,
+        n: 64,
+    },
+];
+
+/// The worst circuit by 32 and by 64 parties.
+fn print_many_parties(openssl: Option<&OpenSsl>) {
+    let worst = Example::worst();
+    let rows = MANY_PARTIES
+        .into_iter()
+        .flat_map(|counts| rows_without_second(&worst, counts, openssl));
+    print_rows(&mut rows.collect::<Vec<Row>>(), 3, openssl);
+    println!();
 }
 
 /// Error 2^-128 with 16 parties, as table 1 of Katz, Kolesnikov and Wang has it.
@@ -332,10 +375,14 @@ mod tests {
     /// The taus were found with exact fractions, apart from this program.
     #[test]
     fn sound_enough() {
-        let taus = all_counts(ALL_PARTIES).into_iter().map(|counts| counts.tau);
+        let taus = all_counts(UP_TO_16).into_iter().map(|counts| counts.tau);
         let taus: Vec<u32> = taus.collect();
         assert_eq!(taus, [42, 36, 34, 33, 128, 64, 44, 36, 128, 64, 43, 32]);
         assert!((soundness(256, 36, 16) - 128.909).abs() < 0.001);
+        for Counts { m, tau, n } in MANY_PARTIES {
+            assert!((128.0..128.1).contains(&soundness(m, tau, n)), "{n}");
+            assert!(soundness(512, tau - 2, n) < 128.0, "{n}");
+        }
     }
 
     #[test]

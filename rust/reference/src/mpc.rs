@@ -538,7 +538,7 @@ mod tests {
 
     #[test]
     fn a_run_gives_the_output() {
-        for n in [2, 4, 8, 16] {
+        for n in [2, 4, 8, 16, 32, 64] {
             let tapes = some_tapes(n);
             let n = n as u32;
             let corrections = prepared(&FOUR, n, &tapes).unwrap();
@@ -553,7 +553,7 @@ mod tests {
 
     #[test]
     fn a_replay_gives_the_rows() {
-        for n in [2, 4, 8, 16] {
+        for n in [2, 4, 8, 16, 32, 64] {
             let tapes = some_tapes(n);
             let n = n as u32;
             let corrections = prepared(&FOUR, n, &tapes).unwrap();

@@ -172,10 +172,10 @@ fn instance(j: u32) -> Result<u16, Refusal> {
     u16::try_from(j).map_err(|_| 8)
 }
 
-/// 8 for a number of parties other than 2, 4, 8 and 16.
+/// 8 for a number of parties other than 2, 4, 8, 16, 32 and 64.
 pub(crate) fn parties(n: u32) -> Result<usize, Refusal> {
     match n {
-        2 | 4 | 8 | 16 => Ok(n as usize),
+        2 | 4 | 8 | 16 | 32 | 64 => Ok(n as usize),
         _ => Err(8),
     }
 }
@@ -402,7 +402,7 @@ mod tests {
 
     #[test]
     fn an_opening_gives_all_leaves_but_one() {
-        for n in [2, 4, 8, 16] {
+        for n in [2, 4, 8, 16, 32, 64] {
             let leaves = tree_leaves(CONTEXT, n, [3; 16]);
             for p in 0..n {
                 let opening = tree_opening(CONTEXT, n, p, [3; 16]);
@@ -418,7 +418,9 @@ mod tests {
     fn refusals_in_order() {
         let mut none = [];
         assert_eq!(expand(65_536, 2, &SALT, &[0; 16], &mut [0; 32]), Err(8));
-        assert_eq!(expand(0, 3, &[], &[], &mut none), Err(8));
+        for n in [0, 1, 3, 24, 48, 63, 65, 96, 128, 256 + 64] {
+            assert_eq!(expand(0, n, &[], &[], &mut none), Err(8));
+        }
         assert_eq!(expand(0, 2, &SALT, &[], &mut [0; 32]), Err(6));
         assert_eq!(expand(0, 2, &SALT, &[0; 16], &mut [0; 31]), Err(6));
         assert_eq!(open(0, 1, 9, &[], &[], &mut none), Err(8));

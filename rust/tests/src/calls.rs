@@ -9,10 +9,27 @@ use reference::bits::clear_rest;
 use reference::circuit::Sizes;
 use wivulameno::Work;
 
-pub const COUNTS: [u32; 4] = [2, 4, 8, 16];
+pub const COUNTS: [u32; 6] = [2, 4, 8, 16, 32, 64];
 
 /// What is no number of parties.
-pub const NOT_A_COUNT: [u32; 10] = [0, 1, 3, 5, 15, 17, 256 + 2, 65_536 + 4, 1 << 31, u32::MAX];
+pub const NOT_A_COUNT: [u32; 16] = [
+    0,
+    1,
+    3,
+    5,
+    15,
+    17,
+    48,
+    63,
+    65,
+    96,
+    128,
+    256 + 2,
+    256 + 64,
+    65_536 + 4,
+    1 << 31,
+    u32::MAX,
+];
 
 #[derive(Clone, Copy, Debug, PartialEq, Eq)]
 pub enum Operation {

@@ -81,8 +81,8 @@ fn masters_of_one_tree() {
 #[test]
 fn trees_of_parties() {
     let mut random = Random::new(153);
-    for n in [2, 4, 8, 16] {
-        for _ in 0..20 {
+    for n in [2, 4, 8, 16, 32, 64] {
+        for _ in 0..10 {
             let root = random.bytes(16);
             let masters = masters_of(&mut random, n, &root);
             let mut leaves = vec![0; 16 * n];

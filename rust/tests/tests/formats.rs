@@ -490,6 +490,8 @@ fn proofs() {
         ("covers16", 17, 5, 4),
         ("covers16", 12, 11, 16),
         ("both", 9, 4, 2),
+        ("grade", 5, 2, 32),
+        ("covers16", 4, 3, 64),
     ] {
         follow(name, m, tau, n);
     }

@@ -8,7 +8,7 @@ use std::os::unix::process::ExitStatusExt;
 use std::process::Command;
 use std::slice::from_ref;
 use tests::bristol::{adder, comparator, damaged as damaged_text, room, shown};
-use tests::calls::{damage, Setting, NOT_A_COUNT};
+use tests::calls::{damage, Setting, COUNTS, NOT_A_COUNT};
 use tests::challenges::Challenge;
 use tests::circuits::{any_sizes, any_slots, damaged, legal, K};
 use tests::covers::{Cover, Masters};
@@ -397,7 +397,7 @@ fn trees_and_challenges() {
 fn parties(random: &mut Random) -> u32 {
     match random.below(5) {
         0 => random.pick(&NOT_A_COUNT),
-        _ => random.pick(&[2, 4, 8, 16]),
+        _ => random.pick(&COUNTS),
     }
 }
 
@@ -415,7 +415,7 @@ fn expand(random: &mut Random) -> Result<(), u32> {
     let (j, n) = (any_instance(random), parties(random));
     let lens = [near(random, 32), near(random, 16)];
     let [salt, master] = lens.map(|len| random.bytes(len));
-    let leaves_len = near(random, 16 * n.min(32) as usize);
+    let leaves_len = near(random, 16 * n.min(128) as usize);
     let leaves = random.bytes(leaves_len);
     let given = [&salt[..], &master];
     let (answer, filled) = lend(random, &given, from_ref(&leaves), |inputs, mut out| {

@@ -140,7 +140,7 @@ fn damage_bytes(random: &mut Random, bytes: &mut Vec<u8>) {
 
 #[test]
 fn proofs() {
-    let mut random = Random::new(0x6b3);
+    let mut random = Random::new(0x6b4);
     let mut outcomes = Outcomes::default();
     for _ in 0..BUDGET {
         let mut asked = Asked::any(&mut random);

@@ -204,7 +204,7 @@ fn refusals_of_n() {
             check("n, p, cut and lengths", &call, Err(8));
         }
     }
-    for n in [2, 8, 16] {
+    for n in [2, 8, 16, 32, 64] {
         for mut call in good_calls(1) {
             call.n = n;
             check("another count", &call, Err(6));

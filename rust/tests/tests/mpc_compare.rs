@@ -165,14 +165,14 @@ fn special_shapes() {
     }
 }
 
-/// The limits but for the gates: 4,096 AND gates, 512 inputs, 256 outputs, 16 parties.
+/// The limits but for the gates: 4,096 AND gates, 512 inputs, 256 outputs, 64 parties.
 #[test]
 fn many_ands() {
     let mut random = Random::new(64);
     let slots = random.order(4096);
     let mut file = legal(&mut random, [512, 256, 4096], &slots);
     all_and(&mut file);
-    let setting = Setting::of(&mut random, file, slots, 16);
+    let setting = Setting::of(&mut random, file, slots, 64);
     assert_eq!(setting.sizes.ands, 4096);
     compare_all(&mut random, &setting, &[4095]);
 }

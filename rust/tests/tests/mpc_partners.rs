@@ -31,7 +31,7 @@ fn check_pairs(seed: u64, show: Show, count: usize, gates: usize, most: usize) {
     let mut random = Random::new(seed);
     let [mut same, mut different, mut with_and] = [0; 3];
     while same < count {
-        let n = COUNTS[same % 4];
+        let n = COUNTS[same % COUNTS.len()];
         let (setting, other) = any_pair(&mut random, n, gates, most);
         let p = random.below(n as usize) as u32;
         if y_of(&setting, &other) != setting.y() {

@@ -337,7 +337,7 @@ fn showings() {
     let mut random = Random::new(10);
     let mut with_and = 0;
     for turn in 0..40 {
-        let n = COUNTS[turn % 4];
+        let n = COUNTS[turn % COUNTS.len()];
         let sizes = [random.from_to(2, 4), 2, random.below(3)];
         let (circuit, [row, other]) = two_rows(&mut random, sizes);
         let [first, second] = [&row, &other].map(|row| output(&circuit, row));

@@ -103,13 +103,25 @@ fn every_n_with_small_m() {
 fn every_n_with_large_m() {
     let mut random = Random::new(72);
     for n in COUNTS {
-        for m in [33, 63, 64, 65, 255, 256, 257, 343, 511, 512] {
+        let instances: &[u32] = match n {
+            2..=16 => &[33, 63, 64, 65, 255, 256, 257, 343, 511, 512],
+            _ => &[65, 343],
+        };
+        for &m in instances {
             for tau in some_taus(&mut random, m) {
                 let setting = a_small_setting(&mut random, n);
                 compare(&mut random, &setting, [m, tau], 20);
             }
         }
     }
+}
+
+/// The most instances by the most parties.
+#[test]
+fn instances_512_by_64_parties() {
+    let mut random = Random::new(70);
+    let setting = a_small_setting(&mut random, 64);
+    compare(&mut random, &setting, [512, 23], 20);
 }
 
 #[test]
@@ -249,7 +261,7 @@ fn special_shapes() {
 }
 
 /// The limits but for the gates, which `wide` has: 512 inputs, 256 outputs, 4,096 AND gates, 512
-/// instances, 16 parties, a message of 4,096 bytes.
+/// instances by 16 parties, fewer by 2 and by 64, a message of 4,096 bytes.
 #[test]
 fn the_largest() {
     let mut random = Random::new(78);
@@ -259,8 +271,10 @@ fn the_largest() {
         let proof = compare(&mut random, &setting, [m, tau], 4096);
         assert!(proof.len() <= longest(setting.sizes, [m, tau, 16]));
     }
-    let few = shaped(&mut random, [512, 256, 4096], all_and, 2);
-    compare(&mut random, &few, [12, 11], 4096);
+    for n in [2, 64] {
+        let other = shaped(&mut random, [512, 256, 4096], all_and, n);
+        compare(&mut random, &other, [12, 11], 4096);
+    }
 }
 
 /// A circuit of the example folder, proved and checked as a depot would.

@@ -145,7 +145,10 @@ fn a_proof_gives_the_masters_that_are_not_chosen() {
 #[test]
 fn exchanged_nodes() {
     let mut random = Random::new(162);
-    for (n, counts) in COUNTS.into_iter().zip([[5, 2], [8, 3], [33, 12], [100, 9]]) {
+    for (n, counts) in COUNTS
+        .into_iter()
+        .zip([[5, 2], [8, 3], [33, 12], [100, 9], [9, 4], [6, 2]])
+    {
         let proved = Proved::with_nodes(&mut random, counts, n, 2);
         let nodes = proved.nodes();
         for b in 0..nodes.len() {

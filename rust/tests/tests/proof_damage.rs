@@ -64,6 +64,16 @@ fn small_proofs(random: &mut Random) -> Vec<Proved> {
         .collect()
 }
 
+/// The same by 32 and by 64 parties.
+fn wide_proofs(random: &mut Random) -> [Proved; 3] {
+    let of = [
+        ([2, 1, 1], [2, 1, 32]),
+        ([9, 3, 12], [3, 2, 64]),
+        ([8, 7, 9], [2, 1, 64]),
+    ];
+    of.map(|(sizes, counts)| Proved::of(random, sizes, counts))
+}
+
 /// The parts of an instance's stretch: each with its bytes, its bits in use, and
 /// what a changed bit in use can lead to.
 fn parts(sizes: Sizes, n: u32, hidden: Option<u8>) -> Vec<(usize, usize, &'static [u32])> {
@@ -108,30 +118,51 @@ fn allowed(proved: &Proved, bit: usize) -> &'static [u32] {
     panic!("bit {bit} beyond the stretch");
 }
 
+/// Turns a bit of a proof; gives the refusal, which is one that this can lead to.
+fn turned(random: &mut Random, proved: &Proved, bit: usize) -> u32 {
+    let mut call = proved.call.clone();
+    call.proof[bit / 8] ^= 1 << (bit % 8);
+    let answer = compare_check(random, &call);
+    let refusal = answer.expect_err("a changed bit");
+    let shown = call.shown();
+    let allowed = allowed(proved, bit);
+    assert!(allowed.contains(&refusal), "{refusal}, bit {bit}, {shown}");
+    refusal
+}
+
 #[test]
 fn every_bit() {
     let mut random = Random::new(81);
     let mut outcomes = Outcomes::default();
     for proved in small_proofs(&mut random) {
         for bit in 0..8 * proved.call.proof.len() {
-            let mut call = proved.call.clone();
-            call.proof[bit / 8] ^= 1 << (bit % 8);
-            let answer = compare_check(&mut random, &call);
-            let refusal = answer.expect_err("a changed bit");
-            let allowed = allowed(&proved, bit);
-            let shown = call.shown();
-            assert!(allowed.contains(&refusal), "{refusal}, bit {bit}, {shown}");
-            outcomes.add(refusal);
+            outcomes.add(turned(&mut random, &proved, bit));
         }
     }
     outcomes.expect(&[7, 10, 11, 12, 13], 100);
+}
+
+/// Every eleventh bit, which is one or none of each byte, and every bit of the last byte.
+#[test]
+fn some_bits_of_many_parties() {
+    let mut random = Random::new(96);
+    let mut outcomes = Outcomes::default();
+    for proved in wide_proofs(&mut random) {
+        let bits = 8 * proved.call.proof.len();
+        for bit in (0..bits).step_by(11).chain(bits - 8..bits) {
+            outcomes.add(turned(&mut random, &proved, bit));
+        }
+    }
+    outcomes.expect(&[7, 10, 11, 12, 13], 2);
 }
 
 /// The hidden party's share of an output decides that output.
 #[test]
 fn every_output_bit() {
     let mut random = Random::new(82);
-    for proved in small_proofs(&mut random) {
+    let mut proofs = small_proofs(&mut random);
+    proofs.extend(wide_proofs(&mut random));
+    for proved in proofs {
         let Sizes { ands, outputs, .. } = proved.setting.sizes;
         let row_len = oct(ands + outputs);
         let chosen = proved
@@ -153,7 +184,9 @@ fn every_output_bit() {
 #[test]
 fn every_cut() {
     let mut random = Random::new(83);
-    for proved in small_proofs(&mut random) {
+    let mut proofs = small_proofs(&mut random);
+    proofs.extend(wide_proofs(&mut random));
+    for proved in proofs {
         for len in 0..proved.call.proof.len() {
             let call = proved.with(proved.call.proof[..len].to_vec());
             let expected = if len < HEADER { 11 } else { 12 };
@@ -192,7 +225,9 @@ fn put_together(call: &Check, places: &[(Option<u8>, usize, usize)]) -> Vec<u8> 
 fn exchanged_stretches() {
     let mut random = Random::new(85);
     let mut outcomes = Outcomes::default();
-    for proved in small_proofs(&mut random) {
+    let mut proofs = small_proofs(&mut random);
+    proofs.extend(wide_proofs(&mut random));
+    for proved in proofs {
         let places = proved.places();
         for b in 0..places.len() {
             for a in 0..b {
@@ -284,7 +319,13 @@ fn exchanged_in_the_header() {
 
 /// Proofs whose challenge another message cannot be expected to give.
 fn large_proofs(random: &mut Random) -> Vec<Proved> {
-    let counts = [[60, 20, 4], [40, 13, 8], [30, 14, 16], [200, 70, 2]];
+    let counts = [
+        [60, 20, 4],
+        [40, 13, 8],
+        [30, 14, 16],
+        [200, 70, 2],
+        [25, 11, 64],
+    ];
     counts
         .map(|counts| Proved::of(random, [9, 11, 14], counts))
         .into()
@@ -405,7 +446,9 @@ fn another_header() {
     let numbers = [
         0, 1, 2, 3, 4, 5, 6, 255, 256, 257, 511, 512, 513, 0x8002, 65_535,
     ];
-    let parties = [0, 1, 2, 3, 4, 5, 6, 8, 9, 15, 16, 17, 32, 64, 128, 130, 255];
+    let parties = [
+        0, 1, 2, 3, 4, 5, 6, 8, 9, 15, 16, 17, 32, 48, 63, 64, 65, 128, 130, 255,
+    ];
     for proved in small_proofs(&mut random).iter().step_by(7) {
         for (m, tau) in numbers.iter().flat_map(|&m| numbers.map(|tau| (m, tau))) {
             for n in parties {
@@ -414,7 +457,7 @@ fn another_header() {
                 call.proof[2..4].copy_from_slice(&(tau as u16).to_le_bytes());
                 call.proof[4] = n;
                 let in_limits =
-                    (2..=512).contains(&m) && (1..m).contains(&tau) && [2, 4, 8, 16].contains(&n);
+                    (2..=512).contains(&m) && (1..m).contains(&tau) && COUNTS.contains(&n.into());
                 let answer = compare_check(&mut random, &call);
                 let shown = call.shown();
                 assert_eq!(answer == Err(11), !in_limits, "{shown}");
@@ -515,6 +558,6 @@ fn damaged_calls() {
         outcomes[1].add_answer(&compare_check(&mut random, &check));
     }
     let [prove, check] = outcomes;
-    prove.expect(&[0, 1, 2, 3, 5, 6, 7, 8, 10, 19, 20, 21], 20);
-    check.expect(&[0, 1, 2, 3, 5, 6, 7, 10, 11, 12, 13, 19, 20, 21], 20);
+    prove.expect(&[0, 1, 2, 3, 5, 6, 7, 8, 10, 19, 20, 21], 12);
+    check.expect(&[0, 1, 2, 3, 5, 6, 7, 10, 11, 12, 13, 19, 20, 21], 12);
 }

@@ -6,7 +6,7 @@ use tests::challenges::{compare_challenge, Challenge};
 use tests::guarded::Guarded;
 use tests::random::Random;
 
-const NOT_A_COUNT: [u32; 16] = [
+const NOT_A_COUNT: [u32; 20] = [
     0,
     1,
     3,
@@ -17,8 +17,12 @@ const NOT_A_COUNT: [u32; 16] = [
     12,
     15,
     17,
-    32,
+    48,
+    63,
+    65,
+    128,
     256 + 2,
+    256 + 64,
     65_536 + 4,
     1 << 31,
     u32::MAX - 1,
@@ -86,9 +90,13 @@ fn refusals_of_expand() {
     for len in [0, 1, 15, 17, 32, 256 + 16] {
         check_expand(0, 2, [32, len, 32], 6);
         check_expand(65_535, 16, [32, len, 256], 6);
+        check_expand(0, 64, [32, len, 1024], 6);
     }
     for len in [0, 1, 63, 65, 32, 128, 256] {
         check_expand(0, 4, [32, 16, len], 6);
+    }
+    for len in [0, 256, 512, 1023, 1025, 2048] {
+        check_expand(0, 64, [32, 16, len], 6);
     }
     for len in NO_SALT {
         check_expand(0, 2, [len, 16, 32], 6);
@@ -112,7 +120,7 @@ fn refusals_of_open() {
         check_open(j, 2, 0, [32, 16, 16], 8);
         check_open(j, 2, 2, [0, 0, 0], 8);
     }
-    for (n, len) in [(2, 16), (4, 32), (8, 48), (16, 64)] {
+    for (n, len) in [(2, 16), (4, 32), (8, 48), (16, 64), (32, 80), (64, 96)] {
         for p in [n, n + 1, 256, 65_536, 1 << 31, u32::MAX] {
             check_open(0, n, p, [32, 16, len], 9);
             check_open(0, n, p, [0, 0, 0], 9);

@@ -1,12 +1,12 @@
 //! The library and the reference give the same leaves, openings and challenges.
 
 use reference::seeds::{self, Context, Value};
+use tests::calls::COUNTS;
 use tests::challenges::{compare_challenge, Challenge};
 use tests::guarded::Guarded;
 use tests::random::Random;
 
-const COUNTS: [u32; 4] = [2, 4, 8, 16];
-const TREES: usize = 60;
+const TREES: usize = 40;
 const MESSAGES: [usize; 6] = [0, 1, 135, 136, 137, 4096];
 
 /// Instance numbers at the ends and between them.

@@ -82,6 +82,16 @@ fn runs_of_16_parties() {
     runs_of(16);
 }
 
+#[test]
+fn runs_of_32_parties() {
+    runs_of(32);
+}
+
+#[test]
+fn runs_of_64_parties() {
+    runs_of(64);
+}
+
 /// A proof of each circuit with each witness is that of the reference, and is accepted;
 /// the other output is not proved, and its check is refused.
 fn proofs_of(n: u32) {
@@ -119,6 +129,16 @@ fn proofs_of_8_parties() {
 #[test]
 fn proofs_of_16_parties() {
     proofs_of(16);
+}
+
+#[test]
+fn proofs_of_32_parties() {
+    proofs_of(32);
+}
+
+#[test]
+fn proofs_of_64_parties() {
+    proofs_of(64);
 }
 
 /// The four parts of a showing.
@@ -160,13 +180,18 @@ fn count_partners(setting: &Setting, p: u32) -> usize {
     pairs
 }
 
-/// Every circuit, with each party hidden in turn.
+/// Every circuit, with each party hidden in turn; of more than 16, the first, the last and
+/// one between.
 fn partners_of(n: u32) {
     let mut random = Random::new(u64::from(n) + 200);
     let mut pairs = 0;
     for circuit in circuits() {
         let setting = Setting::of_circuit(&mut random, &circuit, n);
-        for p in 0..n {
+        let hidden = match n {
+            2..=16 => (0..n).collect(),
+            _ => vec![0, random.from_to(1, n as usize - 2) as u32, n - 1],
+        };
+        for p in hidden {
             pairs += count_partners(&setting, p);
         }
     }
@@ -191,4 +216,14 @@ fn partners_of_8_parties() {
 #[test]
 fn partners_of_16_parties() {
     partners_of(16);
+}
+
+#[test]
+fn partners_of_32_parties() {
+    partners_of(32);
+}
+
+#[test]
+fn partners_of_64_parties() {
+    partners_of(64);
 }

@@ -152,10 +152,10 @@ fn takes(name: &str, call: impl FnOnce() + Send) {
     assert!(used <= MOST, "{name} takes {used} bytes of the stack");
 }
 
-/// 512 inputs, 256 outputs and 100,000 gates of any kind, in any order, for 16 parties.
+/// 512 inputs, 256 outputs and 100,000 gates of any kind, in any order, for 64 parties.
 fn largest() -> Setting {
     let mut random = Random::new(0x57a);
-    Setting::of_sizes(&mut random, [512, 256, 100_000], 16)
+    Setting::of_sizes(&mut random, [512, 256, 100_000], 64)
 }
 
 /// Reading, and the slot of a ring through all slots.
@@ -274,7 +274,7 @@ fn runs() {
             c::wv_prepare(
                 c as c::In,
                 c_len,
-                16,
+                setting.n,
                 inputs[0].as_ptr(),
                 inputs[0].len(),
                 out[0].as_mut_ptr(),
@@ -293,7 +293,7 @@ fn runs() {
             c::wv_run(
                 c as c::In,
                 c_len,
-                16,
+                setting.n,
                 inputs[0].as_ptr(),
                 inputs[0].len(),
                 inputs[1].as_ptr(),
@@ -320,7 +320,7 @@ fn runs() {
             c::wv_show(
                 c as c::In,
                 c_len,
-                16,
+                setting.n,
                 3,
                 100_000,
                 inputs[0].as_ptr(),
@@ -347,7 +347,7 @@ fn runs() {
 
 #[test]
 fn trees_challenges_and_shelves() {
-    let (mut leaves, mut out, mut siblings) = ([0; 256], [0; 3 * 511], [0; 64]);
+    let (mut leaves, mut out, mut siblings) = ([0; 1024], [0; 3 * 511], [0; 96]);
     let (root, mut masters, mut nodes) = ([1; 16], [0; 16 * 512], [0; 16 * 256]);
     let salt = [2; 32];
     let every_second = std::array::from_fn::<u8, 512, _>(|k| match k % 2 {
@@ -357,12 +357,12 @@ fn trees_challenges_and_shelves() {
     // SAFETY, of all four: the buffers are valid for their lengths.
     takes("expand", || {
         let (salt, root, out) = (salt.as_ptr(), root.as_ptr(), leaves.as_mut_ptr());
-        let answer = unsafe { c::wv_expand(0, 16, salt, 32, root, 16, out, 256) };
+        let answer = unsafe { c::wv_expand(0, 64, salt, 32, root, 16, out, 1024) };
         assert_eq!(answer, 0);
     });
     takes("open", || {
         let (salt, root, out) = (salt.as_ptr(), root.as_ptr(), siblings.as_mut_ptr());
-        let answer = unsafe { c::wv_open(0, 16, 5, salt, 32, root, 16, out, 64) };
+        let answer = unsafe { c::wv_open(0, 64, 37, salt, 32, root, 16, out, 96) };
         assert_eq!(answer, 0);
     });
     takes("masters", || {
@@ -384,7 +384,7 @@ fn trees_challenges_and_shelves() {
             y: &[3; 32],
             message: &[0; 4096],
         };
-        let drawn = seeds::challenge(512, 511, 16, input, &mut out);
+        let drawn = seeds::challenge(512, 511, 64, input, &mut out);
         assert_eq!(drawn, Ok(()));
     });
     let slots: Vec<usize> = (1..=255).collect();
@@ -463,7 +463,7 @@ fn proofs() {
         );
     });
     // The most instances, of a small circuit.
-    let small = Setting::of_sizes(&mut random, [9, 3, 12], 16);
+    let small = Setting::of_sizes(&mut random, [9, 3, 12], 64);
     call = Prove::of(&mut random, &small, [512, 300], 4096);
     let mut proof = vec![0; call.proof_len];
     takes("prove, M 512", || {
@@ -570,7 +570,7 @@ fn proved(n: u32) -> (Prove, Vec<Vec<u8>>) {
 /// buffer, which is longer than the proof.
 #[test]
 fn no_secret_is_left() {
-    for n in [2, 4, 8, 16] {
+    for n in [2, 4, 8, 16, 32, 64] {
         let (call, secrets) = proved(n);
         let [m, tau, n] = call.counts;
         let statement = Statement {
@@ -597,7 +597,7 @@ fn no_secret_is_left() {
 /// The same with the C function and a burning after it, as the header tells a C host.
 #[test]
 fn no_secret_is_left_by_a_host_that_burns() {
-    for n in [2, 16] {
+    for n in [2, 16, 64] {
         let (call, secrets) = proved(n);
         let mut work = vec![0x5a; call.work_len];
         let mut proof = vec![0; call.proof_len];

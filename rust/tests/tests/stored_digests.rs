@@ -15,10 +15,14 @@ use wivulameno::{seeds, Work};
 
 const LENGTHS: [usize; 8] = [0, 1, 135, 136, 168, 1000, 65_536, 100_003];
 const COUNTS: [u32; 4] = [2, 4, 8, 16];
+const WIDE_COUNTS: [u32; 2] = [32, 64];
 const INSTANCES: [u32; 4] = [0, 1, 511, 65_535];
 
 const LEAVES: &str = "e72875a040c9c35dcd3f92ba66d50fe86d12f31a1c32ea078aeeebb00dc7265c";
 const SHOWINGS: &str = "831026084b6def0e65b5bfad63de3e481d3628dadb66190b7876ae36e6a77fab";
+const WIDE_LEAVES: &str = "a24df9744090e2277f4083e07a75cdc2f59404c0b5919723cf2524b67b0cae75";
+const WIDE_SIBLINGS: &str = "cdd5043b0615f615ab1fded71c0148df1a7f3f8ef6edd48bb62cf95f37fb5963";
+const WIDE_SHOWINGS: &str = "0a04235b737dbc6ecf09489caf2f028ce4d4000e56fd7fb2b6e41c32329655ec";
 const SHA3_256: &str = "2167af0717789b81d8816abdc091d3190c685f3d35914de943589863de34fac4";
 const SHAKE128: &str = "b7b0c6b34eb9f0145c77d98b6b5645cd87d25f2f9a96283e6740a00d1a1210b5";
 const SHAKE256: &str = "03ae66383f71c1be05ca3ef69e266943b271fc0dbe24f995e918ae4586dadf7e";
@@ -75,23 +79,35 @@ fn shake256() {
 /// The leaves of expanded trees.
 #[test]
 fn expanded_trees() {
+    for (counts, stored) in [(&COUNTS[..], LEAVES), (&WIDE_COUNTS, WIDE_LEAVES)] {
+        assert_eq!(digest(&leaves_of(counts)), stored);
+    }
+}
+
+fn leaves_of(counts: &[u32]) -> Vec<u8> {
     let mut all = vec![];
     for j in INSTANCES {
-        for n in COUNTS {
+        for &n in counts {
             let mut leaves = vec![0; 16 * n as usize];
             seeds::expand(j, n, &SALT, &bytes(16), &mut leaves).expect("leaves");
             all.extend(leaves);
         }
     }
-    assert_eq!(digest(&all), LEAVES);
+    all
 }
 
 /// The siblings of each hidden leaf.
 #[test]
 fn opened_trees() {
+    for (counts, stored) in [(&COUNTS[..], SIBLINGS), (&WIDE_COUNTS, WIDE_SIBLINGS)] {
+        assert_eq!(digest(&siblings_of(counts)), stored);
+    }
+}
+
+fn siblings_of(counts: &[u32]) -> Vec<u8> {
     let mut all = vec![];
     for j in INSTANCES {
-        for n in COUNTS {
+        for &n in counts {
             for p in 0..n {
                 let mut siblings = vec![0; 16 * n.ilog2() as usize];
                 seeds::open(j, n, p, &SALT, &bytes(16), &mut siblings).expect("siblings");
@@ -99,7 +115,7 @@ fn opened_trees() {
             }
         }
     }
-    assert_eq!(digest(&all), SIBLINGS);
+    all
 }
 
 /// SHAKE128 of the inputs of tape rows, 4, salt, j, i, seed, to 1,088 bytes.
@@ -121,9 +137,9 @@ fn tapes() {
 /// The circuit with its witness and output, M, tau, n, the proof's h*, and the digest of
 /// the whole proof, in the layout of orders 5 and 10 and with the circuit files of order 7.
 /// The proofs were made in Python over its hashlib, by a prover that gave the digests of
-/// proofs without a salt too. A request that moves the bytes of proofs replaces them; order
-/// 13, "16 parties give the same bytes", leans on them.
-const PROOFS: [(Circuit, [u32; 3], &str, &str); 8] = [
+/// proofs without a salt too. A request that moves the bytes of proofs replaces them. Order
+/// 13, "16 parties give the same bytes", leans on those of up to 16 parties.
+const PROOFS: [(Circuit, [u32; 3], &str, &str); 12] = [
     (
         adder,
         [2, 1, 2],
@@ -171,6 +187,30 @@ const PROOFS: [(Circuit, [u32; 3], &str, &str); 8] = [
         [47, 17, 16],
         "f8a3eaaad590649380e551d1f667479b47c316428d68626c1fcd252a0b094a7f",
         "fc565da9403828cf5283882e3d6776db65fe153263c0a31bfc5c61fb0ba2d3a6",
+    ),
+    (
+        adder,
+        [145, 66, 32],
+        "bcaabaeb93b5b94be48386b691d73b2e25a8bbe6557adeba63b249a3100bbab2",
+        "59b2090b8696b177254cebee80d338b48392113799bdb4988f5c53e5e8f0a179",
+    ),
+    (
+        adder,
+        [5, 2, 64],
+        "7dd6aea9e70d497beff8cdeedcf56c618e05c23cddcba58d8a1e14320edbfad9",
+        "acd0082dc0f30e0c80906b62634558f0c370518367454a14d46b90cc800527ca",
+    ),
+    (
+        ladder,
+        [17, 5, 32],
+        "eae4570fe94db0c1ef40933d2011b43c1d8a835cf2a07a280ccb7326ce431406",
+        "6fd7ee90ff8ef61e800a83ccf475ca1a9d10221f1f2a372d73142d220c72a2ef",
+    ),
+    (
+        ladder,
+        [12, 4, 64],
+        "95257fce7ceee74bd4540f33bf498d974282e3ff86a958216779c15d836f0c0d",
+        "2885262f27f90039f126206e79dcc0a349593063cbaa5cbc89e836fed832705c",
     ),
 ];
 
@@ -283,11 +323,17 @@ fn a_proof_byte_by_byte() {
 /// after half of the gates and after all. The digest is from Python too.
 #[test]
 fn showings() {
+    for (counts, stored) in [(&COUNTS[..], SHOWINGS), (&WIDE_COUNTS, WIDE_SHOWINGS)] {
+        assert_eq!(digest(&showings_of(counts)), stored);
+    }
+}
+
+fn showings_of(counts: &[u32]) -> Vec<u8> {
     let mut all = vec![];
     for circuit in [adder, ladder] {
         let (circuit, witness, _) = circuit();
         let sizes = reference::circuit::read(&circuit).expect("a circuit");
-        for n in COUNTS {
+        for &n in counts {
             let tapes = tapes_of(sizes, n);
             for p in 0..n {
                 for cut in [0, sizes.gates / 2, sizes.gates] {
@@ -296,7 +342,7 @@ fn showings() {
             }
         }
     }
-    assert_eq!(digest(&all), SHOWINGS);
+    all
 }
 
 /// Fixed tapes, their unused bits zero.

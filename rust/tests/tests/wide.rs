@@ -49,27 +49,33 @@ fn gates_90_000() {
     compare_proofs(&mut random, &setting, [3, 1]);
 }
 
-/// All limits at once: 100,000 gates, 512 inputs, 256 outputs, 16 parties.
+/// All limits at once: 100,000 gates, 512 inputs, 256 outputs, 64 parties. The work buffer
+/// has its least length.
 #[test]
 fn the_largest() {
     let mut random = Random::new(0x100);
-    let setting = setting(&mut random, [512, 256, 100_000], 16);
+    let setting = setting(&mut random, [512, 256, 100_000], 64);
     assert_eq!(works::least(&setting.circuit), 6_436_864);
+    assert_eq!(setting.prepare().work_len, 6_436_864);
     compare_runs(&mut random, &setting);
     compare_proofs(&mut random, &setting, [2, 1]);
 }
 
-/// 100,000 AND gates: the longest rows and corrections.
+/// 100,000 AND gates: the longest rows and corrections, for the fewest parties and, with
+/// the most words in the least work buffer, for the most.
 #[test]
 fn ands_100_000() {
     let mut random = Random::new(0x101);
     let slots: Vec<usize> = (1..=100_000).collect();
     let mut file = legal(&mut random, [512, 256, 100_000], &slots);
     file.gates.iter_mut().for_each(|gate| gate.kind = AND);
-    let setting = Setting::of(&mut random, file, slots, 2);
-    assert_eq!(setting.sizes.ands, 100_000);
-    compare_runs(&mut random, &setting);
-    compare_proofs(&mut random, &setting, [2, 1]);
+    for n in [2, 64] {
+        let setting = Setting::of(&mut random, file.clone(), slots.clone(), n);
+        assert_eq!(setting.sizes.ands, 100_000);
+        assert_eq!(setting.prepare().work_len, 6_436_864);
+        compare_runs(&mut random, &setting);
+        compare_proofs(&mut random, &setting, [2, 1]);
+    }
 }
 
 /// One gate more is refused by every operation, and the work buffer stays.

@@ -4,7 +4,7 @@
 //! all zero.
 
 use tests::calls::{compare, Call, Setting, COUNTS};
-use tests::circuits::{faults_of_five, legal, with, FIVE};
+use tests::circuits::{faults_of_five, legal, with, AND, FIVE};
 use tests::outcomes::Outcomes;
 use tests::proofs::{compare_check, compare_prove, Check, Prove, HEADER};
 use tests::random::Random;
@@ -105,6 +105,22 @@ fn exact_longer_and_one_byte_short() {
             }
         }
     }
+}
+
+/// The most gates, all of them AND, for 64 parties: the tapes, the words and the rows of all
+/// of them fit the least buffer.
+#[test]
+fn exact_for_the_most_parties_and_gates() {
+    let mut random = Random::new(7);
+    let least = 64 * 100_001 + 4096;
+    let slots: Vec<usize> = (1..=100_000).collect();
+    let mut file = legal(&mut random, [1, 1, 100_000], &slots);
+    file.gates.iter_mut().for_each(|gate| gate.kind = AND);
+    let setting = Setting::of(&mut random, file, slots, 64);
+    assert_eq!(setting.sizes.ands, 100_000);
+    let all = All::of(&mut random, &setting);
+    assert_eq!(all.answers(&mut random, least), [None; 6]);
+    assert_eq!(all.answers(&mut random, least - 1), [Some(6); 6]);
 }
 
 /// Outputs and AND gates do not count.

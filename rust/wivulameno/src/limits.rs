@@ -39,8 +39,8 @@ pub const MAX_WORK: usize = Sizes {
 /// No call of the library takes more of the stack, in bytes.
 pub const MAX_STACK: usize = 96 * 1024;
 
-/// A run has 2, 4, 8 or so many parties.
-pub const MAX_PARTIES: u32 = 16;
+/// A run has 2, 4, 8, 16, 32 or so many parties.
+pub const MAX_PARTIES: u32 = 64;
 
 /// A proof has 2 to so many instances.
 pub const MAX_INSTANCES: u32 = 512;

@@ -122,7 +122,26 @@ fn of_trees() {
 fn of_counts() {
     let ms = [0, 1, 2, 3, 511, MAX_INSTANCES, MAX_INSTANCES + 1, u32::MAX];
     let taus = [0, 1, 2, 510, 511, 512, 513, u32::MAX];
-    let ns = [0, 1, 2, 3, 4, 6, 8, 15, 16, 17, 32, 1 << 31, u32::MAX];
+    let ns = [
+        0,
+        1,
+        2,
+        3,
+        4,
+        6,
+        8,
+        15,
+        16,
+        17,
+        32,
+        48,
+        63,
+        64,
+        65,
+        128,
+        1 << 31,
+        u32::MAX,
+    ];
     for m in ms {
         for tau in taus {
             for n in ns {
@@ -311,7 +330,14 @@ fn opened(m: u32, chosen: &[u8]) -> u32 {
 fn lengths_of_proofs() {
     let sizes = sizes(&K).expect("a circuit");
     let mut work = work();
-    for (m, tau, n) in [(4, 1, 2), (9, 8, 4), (20, 7, 8), (12, 11, 16)] {
+    for (m, tau, n) in [
+        (4, 1, 2),
+        (9, 8, 4),
+        (20, 7, 8),
+        (12, 11, 16),
+        (7, 3, 32),
+        (5, 4, 64),
+    ] {
         let counts = Counts { m, tau, n };
         let longest = longest_proof(sizes, counts).expect("legal counts");
         for seed in 0..8 {
@@ -343,7 +369,7 @@ fn lengths_of_proofs() {
 #[test]
 fn headers_of_proofs() {
     let mut work = work();
-    let fields = [0, 1, 2, 3, 4, 8, 16, 32, 255];
+    let fields = [0, 1, 2, 3, 4, 8, 16, 32, 48, 63, 64, 65, 128, 255];
     for m in [[0, 0], [2, 0], [0, 2], [1, 2], [255, 255]] {
         for (tau, n) in fields.iter().flat_map(|&tau| fields.map(|n| (tau, n))) {
             for (zero, len) in [(0, 70), (1, 70), (0, 69), (0, 38), (0, 6), (0, 5), (0, 0)] {

@@ -27,6 +27,8 @@ pub const FAMILIES: [Family; 3] = [
             counts(51, 26, 4),
             counts(47, 20, 8),
             counts(47, 17, 16),
+            counts(49, 15, 32),
+            counts(51, 14, 64),
         ],
     },
     Family {
@@ -37,12 +39,19 @@ pub const FAMILIES: [Family; 3] = [
             counts(163, 80, 4),
             counts(145, 66, 8),
             counts(142, 56, 16),
+            counts(150, 47, 32),
+            counts(151, 45, 64),
         ],
     },
     Family {
         name: "128 bits, the paper's table 1",
         goal: 128.0,
-        members: &[counts(218, 65, 4), counts(252, 44, 8), counts(352, 33, 16)],
+        members: &[
+            counts(218, 65, 4),
+            counts(252, 44, 8),
+            counts(352, 33, 16),
+            counts(462, 27, 32),
+        ],
     },
 ];
 
@@ -232,7 +241,7 @@ mod tests {
             check: 1.0,
         };
         let table = table(&[("covers16", COVERS)], &[row]);
-        assert_eq!(table.lines().count(), 2 + 11);
+        assert_eq!(table.lines().count(), 2 + 16);
         assert!(
             table.contains("| 145 | 66 | 8 | 9772 | 1.3 | 1.0 |"),
             "{table}"

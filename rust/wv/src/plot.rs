@@ -263,7 +263,7 @@ mod tests {
     #[test]
     fn each_row_is_a_point_inside_the_frame() {
         let image = svg(&some_data(), "a test & more");
-        assert_eq!(image.matches("<circle").count(), 22);
+        assert_eq!(image.matches("<circle").count(), 32);
         let [left, top, right, bottom] = FRAME;
         for circle in image.lines().filter(|line| line.starts_with("<circle")) {
             let value = |name: &str| -> f64 {

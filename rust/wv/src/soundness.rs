@@ -62,10 +62,13 @@ mod tests {
     /// Rows of table 1 of the paper: each M is the least one for its τ and n.
     #[test]
     fn least_ms_of_the_papers_table() {
-        for (n, m, tau) in [(4, 218, 65), (8, 252, 44), (16, 352, 33)] {
+        for (n, m, tau) in [(4, 218, 65), (8, 252, 44), (16, 352, 33), (32, 462, 27)] {
             assert_eq!(least_m(128.0, tau, n, 512), Some(m), "{n}");
         }
         assert_eq!(least_m(128.0, 60, 4, 512), None);
+        // The table has M 631 and tau 23 for n 64; a proof has at most 512 instances.
+        assert_eq!(least_m(128.0, 23, 64, 512), None);
+        assert_eq!(least_m(128.0, 25, 64, 512), Some(439));
     }
 
     /// The first M that is enough, found by trying each.

@@ -59,6 +59,20 @@ fn the_usual_numbers_have_128_bits() {
         .unwanted("have 128.0 bits of soundness, and 129 are asked for");
 }
 
+/// By formula (1): M 150, tau 47 with 32 parties and M 151, tau 45 with 64.
+#[test]
+fn many_parties() {
+    let folder = Folder::with_shelf("many_parties");
+    for (m, tau, n) in [(150, 47, 32), (151, 45, 64)] {
+        let counts = format!("--instances {m} --chosen {tau} --parties {n}");
+        let made = folder.wv(&format!("{PROVE} {ORDER} {counts}"));
+        let len = folder.read("proof").len();
+        made.says(&format!("proved {Y} in {len} bytes\n"));
+        let accepted = format!("accepted, M {m}, tau {tau}, n {n}, soundness 128.1 bits\n");
+        folder.wv(&format!("{CHECK} {ORDER}")).says(&accepted);
+    }
+}
+
 #[test]
 fn proofs_through_pipes() {
     let folder = Folder::with_shelf("pipes");
@@ -203,7 +217,10 @@ fn a_refusal_draws_no_root() {
     covers("row --instances 513").refused(8, "--instances 513: 2 to 512");
     covers("row --chosen 145").refused(8, "--chosen 145: 1 to 144");
     covers("row --chosen 0").refused(8, "--chosen 0: 1 to 144");
-    covers("row --parties 3").refused(8, "--parties 3: 2, 4, 8 or 16");
+    for n in ["3", "48", "63", "65", "128"] {
+        let told = format!("--parties {n}: 2, 4, 8, 16, 32 or 64");
+        covers(&format!("row --parties {n}")).refused(8, &told);
+    }
     covers("hex:00").refused(6, "the witness has 1 byte, the circuit asks for 4");
     covers("row --y hex:").refused(6, "--y has 0 bytes, the circuit asks for 3");
     covers("row --y row").refused(6, "--y row has 4 bytes, the circuit asks for 3");

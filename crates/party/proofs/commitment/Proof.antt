@@ -1,80 +1,28 @@
--- `party::commitment` meets its contract: the parts that are hashed are the commitment's input.
+-- `party::commitment` meets its contract.
 -- Assumes nothing.
-use mathlib.Core.Logic.{⊎-elim}
-use lib.Seq.{length-take-le}
-use Rattle.bits.specs.Bytes.{leBytes}
-use Rattle.bits.proofs.Rows.{row-length}
-use Rattle.party.proofs.Commitments.{own-all, own-none, commitment-is}
-use native.Mathlib.Omega.{arith}
-use mathlib.Core.Path.{sym, ap, _∙_}
-use lib.ListN.{length}
 use borrow.Author.Needs.{needs}
+use mathlib.Core.Path.{_≡_, ap, _∙_}
+use mathlib.Core.List.{List}
+use lib.ListN.{length}
+use Prim.Native.Nat.{ℕ}
+use Rattle.bits.proofs.Rows.{row-length}
+use Rattle.party.specs.Derive.{commitmentTo, commitmentOf}
 use Rattle.party.proofs.commitment.Statement.{statement}
 use Rattle.party.proofs.commitment.Tie as tie
-
-cast-t12 : tie.Need-cast-t12
-cast-t12 c = search needs
-
-cast-t15 : tie.Need-cast-t15
-cast-t15 c = search needs
-
-cast-t17 : tie.Need-cast-t17
-cast-t17 c = search needs
 
 row-requires : tie.Need-row-requires
 row-requires c κs = search needs
 
-add-if1 : tie.Need-add-if1
-add-if1 c = search needs
-
-slice-aggregate-commit : tie.Need-slice-aggregate-commit
-slice-aggregate-commit c = search needs
-
-slice-aggregate-commit-2 : tie.Need-slice-aggregate-commit-2
-slice-aggregate-commit-2 c = search needs
-
-slice-aggregate-commit-3 : tie.Need-slice-aggregate-commit-3
-slice-aggregate-commit-3 c = sym (length-take-le 16 (c .before .before .before .before .row .result .now) (omega (arith, (ap length (c .before .before .before .before .row .ensures) ∙ row-length (c .before .before .before .before .before .before .before .before .args .rows .now) 32 (c .before .before .before .before .before .before .before .before .args .i) (c .before .before .before .before .before .before .before .before .pre .1)))))
-
-slice-aggregate-commit-4 : tie.Need-slice-aggregate-commit-4
-slice-aggregate-commit-4 c = sym (length-take-le (c .before .before .before .before .if1 .own) (c .before .before .before .before .before .before .before .before .before .args .corrections .now) (⊎-elim (λ a. omega (arith, a .1)) (λ a. omega (arith, a .1)) (c .before .before .before .before .if1 .came)))
-
-sub-commit : tie.Need-sub-commit
-sub-commit c = omega (arith, (ap length (c .before .before .before .before .before .row .ensures) ∙ row-length (c .before .before .before .before .before .before .before .before .before .args .rows .now) 32 (c .before .before .before .before .before .before .before .before .before .args .i) (c .before .before .before .before .before .before .before .before .before .pre .1)))
-
-part-commit-start : tie.Need-part-commit-start
-part-commit-start c = omega (arith, (ap length (c .before .before .before .before .before .row .ensures) ∙ row-length (c .before .before .before .before .before .before .before .before .before .args .rows .now) 32 (c .before .before .before .before .before .before .before .before .before .args .i) (c .before .before .before .before .before .before .before .before .before .pre .1)))
-
-part-commit-end : tie.Need-part-commit-end
-part-commit-end c = search needs
-
-commit-requires : tie.Need-commit-requires
-commit-requires c κs = search needs
+commit-row-requires : tie.Need-commit-row-requires
+commit-row-requires c κs =
+    let s = c .before .before .before in
+    (s .pre .0, ap length (c .row .ensures) ∙ row-length (s .args .rows .now) 32 (s .args .i) (s .pre .1))
 
 returns : tie.Need-returns
-unfolding leBytes
+unfolding commitmentOf
 returns c =
-    let x = c .before .before .before .before .before .before .before .before .before .before .before .args in
-    let own = c .before .before .before .before .before .before .if1 .own in
-    commitment-is (x .j) (x .n) (x .i) (x .rows .now) (x .corrections .now) (c .before .before .before .before .before .before .before .row .result .now) (c .commit .result) own (c .before .before .before .before .before .before .before .row .ensures)
-    (⊎-elim (λ a. own-all (x .n) (x .i) (x .corrections .now) own (a .0 .taken) (a .1)) (λ a. own-none (x .n) (x .i) (x .corrections .now) own (a .0 .left) (a .1)) (c .before .before .before .before .before .before .if1 .came))
-    (c .commit .ensures)
+    let x = c .before .before .before .before .args in
+    c .commit-row .ensures ∙ ap (λ (r : List ℕ). commitmentTo (x .j) (x .n) (x .i) r (x .corrections .now)) (c .before .row .ensures)
 
 pub commitment-spec : {M : Type 1} → statement M
-commitment-spec =
-    tie.close
-    (tie.spec
-    cast-t12
-    cast-t15
-    cast-t17
-    row-requires
-    add-if1
-    slice-aggregate-commit
-    slice-aggregate-commit-2
-    slice-aggregate-commit-3
-    slice-aggregate-commit-4
-    sub-commit
-    part-commit-start
-    part-commit-end
-    commit-requires
-    returns)
+commitment-spec = tie.close (tie.spec row-requires commit-row-requires returns)

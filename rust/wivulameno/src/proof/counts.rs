@@ -10,7 +10,7 @@ pub struct Counts {
     pub m: u32,
     /// The chosen instances, 1 to m - 1.
     pub tau: u32,
-    /// The parties, 2, 4, 8 or 16.
+    /// The parties, 2, 4, 8, 16, 32 or 64.
     pub n: u32,
 }
 
@@ -77,7 +77,14 @@ mod tests {
 
     #[test]
     fn the_ends_of_the_limits() {
-        for legal in [(2, 1, 2), (512, 1, 4), (512, 511, 8), (3, 2, 16)] {
+        for legal in [
+            (2, 1, 2),
+            (512, 1, 4),
+            (512, 511, 8),
+            (3, 2, 16),
+            (4, 1, 32),
+            (512, 2, 64),
+        ] {
             let (m, tau, n) = legal;
             assert!(counts(m, tau, n).are_legal(), "{legal:?}");
             assert!(counts(m, tau, n).soundness_bits().is_some(), "{legal:?}");
@@ -94,7 +101,10 @@ mod tests {
             (4, 1, 0),
             (4, 1, 1),
             (4, 1, 3),
-            (4, 1, 32),
+            (4, 1, 48),
+            (4, 1, 63),
+            (4, 1, 65),
+            (4, 1, 128),
             (4, 1, 1 << 31),
         ];
         for (m, tau, n) in illegal {

@@ -137,10 +137,10 @@ mod tests {
         }
     }
 
-    /// By hand: 70 + 48 + 511 (64 + 12,500 + 32 + 64 + 12,532).
+    /// By hand: 70 + 48 + 511 (96 + 12,500 + 32 + 64 + 12,532).
     #[test]
     fn the_longest_of_all() {
-        assert_eq!(MAX_PROOF, 12_873_230);
+        assert_eq!(MAX_PROOF, 12_889_582);
     }
 
     #[test]

@@ -53,7 +53,8 @@ pub fn counts(counts: Counts) -> Option<String> {
     if !(1..m).contains(&tau) {
         return Some(format!("--chosen {tau}: 1 to {}", m - 1));
     }
-    (![2, 4, 8, 16].contains(&n)).then(|| format!("--parties {n}: 2, 4, 8 or 16"))
+    let legal = Counts { m: 2, tau: 1, n }.are_legal();
+    (!legal).then(|| format!("--parties {n}: 2, 4, 8, 16, 32 or 64"))
 }
 
 #[cfg(test)]
@@ -94,6 +95,10 @@ mod tests {
         assert_eq!(cause(513, 1, 8).unwrap(), "--instances 513: 2 to 512");
         assert_eq!(cause(145, 145, 8).unwrap(), "--chosen 145: 1 to 144");
         assert_eq!(cause(145, 0, 8).unwrap(), "--chosen 0: 1 to 144");
-        assert_eq!(cause(2, 1, 3).unwrap(), "--parties 3: 2, 4, 8 or 16");
+        assert_eq!(cause(145, 66, 64), None);
+        for n in [3, 48, 63, 65, 128] {
+            let expected = format!("--parties {n}: 2, 4, 8, 16, 32 or 64");
+            assert_eq!(cause(2, 1, n).unwrap(), expected);
+        }
     }
 }

@@ -38,7 +38,7 @@ checks it needs the same bytes of all three. The salt stands in the proof.
                      /dev/urandom, as it should be
   --instances M      2 to 512, usually 145
   --chosen TAU       1 to M - 1, usually 66
-  --parties N        2, 4, 8 or 16, usually 8
+  --parties N        2, 4, 8, 16, 32 or 64, usually 8
   --wait SECONDS     how long to wait for a shelf that another process has open
 
 The usual numbers have 128 bits of soundness, which `wv check` asks for.

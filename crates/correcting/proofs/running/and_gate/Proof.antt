@@ -3,6 +3,7 @@
 use borrow.Author.Needs.{needs}
 use native.Mathlib.Omega.{arith}
 use mathlib.Core.Path.{_∙_}
+use Rattle.planes.proofs.Fits.{spare-small}
 use Rattle.gates.proofs.Steps.{room-kept}
 use Rattle.correcting.proofs.Turns.{and-done}
 use Rattle.correcting.proofs.running.and_gate.Statement.{statement}
@@ -39,10 +40,10 @@ corrections-at-requires : tie.Need-corrections-at-requires
 corrections-at-requires c κs = let p = c .before .before .before .before .before .before .before .before .before .before .before .before .before .before .before .before .pre .0 .memory in (p .few-wires, p .few-words)
 
 mul-at : tie.Need-mul-at
-mul-at c = let p = c .before .before .before .before .before .before .before .before .before .before .before .before .before .before .before .before .before .pre .0 .memory in omega (arith, c .corrections-at .ensures, p .few-wires, p .few-words)
+mul-at c = let p = c .before .before .before .before .before .before .before .before .before .before .before .before .before .before .before .before .before .pre .0 .memory in omega (arith, spare-small (c .before .before .before .before .before .before .before .before .before .before .before .before .before .before .before .before .before .args .l), c .corrections-at .ensures, p .few-wires, p .few-words)
 
 add-at : tie.Need-add-at
-add-at c = let p = c .before .before .before .before .before .before .before .before .before .before .before .before .before .before .before .before .before .pre .0 in omega (arith, c .corrections-at .ensures, p .memory .few-wires, p .memory .few-words, p .order)
+add-at c = let p = c .before .before .before .before .before .before .before .before .before .before .before .before .before .before .before .before .before .pre .0 in omega (arith, spare-small (c .before .before .before .before .before .before .before .before .before .before .before .before .before .before .before .before .before .args .l), c .corrections-at .ensures, p .memory .few-wires, p .memory .few-words, p .order)
 
 put-bit-requires : tie.Need-put-bit-requires
 put-bit-requires c κs = omega (arith, c .before .corrections-at .ensures, c .before .before .before .before .before .before .before .before .before .before .before .before .before .before .before .before .before .before .pre .1 .0, c .before .before .before .before .before .before .before .before .before .before .before .before .before .before .before .before .before .before .pre .1 .1)

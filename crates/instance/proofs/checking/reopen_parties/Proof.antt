@@ -107,7 +107,7 @@ returns c =
     let y = c .before .before .clear .last .0 in
     let e = c .before .before .before .before .before .before .before .hold-opened .ensures in
     let t = corrections-size _ (x .inst .parties) _ l (c .before .before .before .before .before .before .before .hold-opened .last .1 .1 .1 .1 .1 .0) k _ _ a r in (
-      filled-seeds _ _ _ l (c .before .before .before .before .before .before .before .hold-opened .last .1 .1 .1 .1 .1 .0) k _ _ a r y f _ (seeds-opened _ _ _ _ (p .0 .tree) (x .part .now) _ (e .0)),
+      filled-seeds _ _ _ l (c .before .before .before .before .before .before .before .hold-opened .last .1 .1 .1 .1 .1 .0) k _ _ a r y f (few-parties _ _ _ _ _ (p .0)) _ (seeds-opened _ _ _ _ (p .0 .tree) (x .part .now) _ (e .0)),
       (
         filled-tapes _ _ _ l (c .before .before .before .before .before .before .before .hold-opened .last .1 .1 .1 .1 .1 .0) k _ _ a r y f _ (tapes-shown _ _ _ _ _ (p .0 .tree) (p .1 .0) (x .part .now) _ (e .1)),
         filled-corrections _ (x .inst .parties) _ l (c .before .before .before .before .before .before .before .hold-opened .last .1 .1 .1 .1 .1 .0) k _ _ a r y f
@@ -129,7 +129,7 @@ returns-2 c =
     let f = c .before .before .copy .kept .1 .0 in
     let y = c .before .before .copy .last .1 .0 in
     let e = c .before .before .before .before .before .before .before .before .before .hold-opened .ensures in (
-      filled-seeds _ _ _ l (c .before .before .before .before .before .before .before .before .before .hold-opened .last .1 .1 .1 .1 .1 .0) k _ _ a r y f _ (seeds-opened _ _ _ _ (p .0 .tree) (x .part .now) _ (e .0)),
+      filled-seeds _ _ _ l (c .before .before .before .before .before .before .before .before .before .hold-opened .last .1 .1 .1 .1 .1 .0) k _ _ a r y f (few-parties _ _ _ _ _ (p .0)) _ (seeds-opened _ _ _ _ (p .0 .tree) (x .part .now) _ (e .0)),
       (
         filled-tapes _ _ _ l (c .before .before .before .before .before .before .before .before .before .hold-opened .last .1 .1 .1 .1 .1 .0) k _ _ a r y f _ (tapes-shown _ _ _ _ _ (p .0 .tree) (p .1 .0) (x .part .now) _ (e .1)),
         filled-corrections _ (x .inst .parties) _ l (c .before .before .before .before .before .before .before .before .before .hold-opened .last .1 .1 .1 .1 .1 .0) k _ _ a r y f

@@ -6,10 +6,11 @@ use native.Mathlib.Omega.{arith}
 use lib.ListN.{length-replicate}
 use Rattle.bits.proofs.Copies.{prefix-length}
 use Rattle.planes.specs.Steps.{correctionsAt}
+use Rattle.planes.proofs.Fits.{spare-small}
 use Rattle.packed.specs.Steps.{broadcastBytes}
 use Rattle.mpc.proofs.Opened.{ands-low}
 use Rattle.instance.proofs.Trees.{tree-low}
-use Rattle.instance.proofs.Rooms.{few-parties, lent-kept, lent-end, lent-rows, lent-planes, lent-held, lent-wires, places-low, places-few, place-is, seeds-inside, seeds-size}
+use Rattle.instance.proofs.Rooms.{few-parties, lent-kept, lent-end, lent-seeded, lent-rows, lent-planes, lent-held, lent-wires, places-low, places-few, place-is, seeds-inside, seeds-size}
 use Rattle.instance.proofs.Sent.{few-output, front-inside, front-back, front-taken}
 use Rattle.instance.proofs.Checks.{stretch-size, sent-small, part-length, rest-length}
 use Rattle.instance.proofs.Replays.{commitments-opened, output-made, rows-made}
@@ -26,10 +27,10 @@ corrections-at-requires : tie.Need-corrections-at-requires
 corrections-at-requires c κs = places-low _ _ _ _ _ (c .before .before .before .before .before .pre .0) _ (c .layout .ensures)
 
 seeds-at-requires : tie.Need-seeds-at-requires
-seeds-at-requires c κs = places-few _ _ _ _ _ (c .before .before .before .before .before .before .pre .0) _ (c .before .layout .ensures)
+seeds-at-requires c κs = places-low _ _ _ _ _ (c .before .before .before .before .before .before .pre .0) _ (c .before .layout .ensures) .0
 
-leaves-at-requires : tie.Need-leaves-at-requires
-leaves-at-requires c κs = places-few _ _ _ _ _ (c .before .before .before .before .before .before .before .pre .0) _ (c .before .before .layout .ensures)
+seeds-end-requires : tie.Need-seeds-end-requires
+seeds-end-requires c κs = let q = places-few _ _ _ _ _ (c .before .before .before .before .before .before .before .pre .0) _ (c .before .before .layout .ensures) in (q .0, q .1 .1)
 
 sent-bytes-requires : tie.Need-sent-bytes-requires
 sent-bytes-requires c κs =
@@ -72,7 +73,7 @@ add-end : tie.Need-add-end
 add-end c =
     let p = c .before .before .before .before .before .before .before .before .before .before .before .before .before .before .before .before .pre in
     let l = places-low _ _ _ _ _ (p .0) _ (c .before .before .before .before .before .before .before .before .before .before .before .layout .ensures) in
-    omega (arith, l, c .before .before .before .before .before .before .before .before .before .before .corrections-at .ensures, tree-low _ _ (p .0 .tree), sent-small _ _ _ _ _ (p .0 .known) _ _ _ (p .0 .tree) (c .before .before .before .before .before .before .before .before .before .before .before .before .before .before .before .before .args .part .now) (p .1 .1 .0) _ (c .before .before .before .before .before .before .before .sent-bytes .ensures), ands-low _ _ _ _ _ (p .0 .known), p .0 .known .legal .laid .few-gates)
+    omega (arith, l, spare-small (c .before .before .before .before .before .before .before .before .before .before .before .layout .result), c .before .before .before .before .before .before .before .before .before .before .corrections-at .ensures, tree-low _ _ (p .0 .tree), sent-small _ _ _ _ _ (p .0 .known) _ _ _ (p .0 .tree) (c .before .before .before .before .before .before .before .before .before .before .before .before .before .before .before .before .args .part .now) (p .1 .1 .0) _ (c .before .before .before .before .before .before .before .sent-bytes .ensures), ands-low _ _ _ _ _ (p .0 .known), p .0 .known .legal .laid .few-gates)
 
 sub-commit : tie.Need-sub-commit
 sub-commit c = omega arith
@@ -86,13 +87,13 @@ part-commit-end c =
     omega (arith, stretch-size _ _ _ _ _ (p .0 .known) _ _ _ (p .0 .tree) (c .before .before .before .before .before .before .before .before .before .before .before .before .before .before .before .before .args .part .now) (p .1 .1 .0) _ (c .before .before .before .before .before .before .before .sent-bytes .ensures))
 
 sub-commit-2 : tie.Need-sub-commit-2
-sub-commit-2 c = seeds-inside _ _ _ (c .before .before .before .before .before .before .before .before .before .before .before .before .layout .ensures) (c .before .before .before .reopen-parties .last .1 .1 .1 .1 .1 .0) (lent-end _ _ _ _ _ (lent-kept _ _ _ _ _ (c .before .before .before .before .before .before .before .before .before .before .before .before .before .before .before .before .before .pre .0) (c .before .before .before .reopen-parties .last .1 .1 .1 .1 .1 .0) (c .before .before .before .reopen-parties .kept .1 .1 .1 .1 .1 .0))) _ _ (c .before .before .before .before .before .before .before .before .before .before .seeds-at .ensures) (c .before .before .before .before .before .before .before .before .before .leaves-at .ensures) .0
+sub-commit-2 c = seeds-inside _ _ _ (c .before .before .before .before .before .before .before .before .before .before .before .before .layout .ensures) (c .before .before .before .reopen-parties .last .1 .1 .1 .1 .1 .0) (lent-seeded _ _ _ _ _ (lent-kept _ _ _ _ _ (c .before .before .before .before .before .before .before .before .before .before .before .before .before .before .before .before .before .pre .0) (c .before .before .before .reopen-parties .last .1 .1 .1 .1 .1 .0) (c .before .before .before .reopen-parties .kept .1 .1 .1 .1 .1 .0))) _ _ (c .before .before .before .before .before .before .before .before .before .before .seeds-at .ensures) (c .before .before .before .before .before .before .before .before .before .seeds-end .ensures) .0
 
 part-commit-start-2 : tie.Need-part-commit-start-2
-part-commit-start-2 c = seeds-inside _ _ _ (c .before .before .before .before .before .before .before .before .before .before .before .before .before .layout .ensures) (c .before .before .before .before .reopen-parties .last .1 .1 .1 .1 .1 .0) (lent-end _ _ _ _ _ (lent-kept _ _ _ _ _ (c .before .before .before .before .before .before .before .before .before .before .before .before .before .before .before .before .before .before .pre .0) (c .before .before .before .before .reopen-parties .last .1 .1 .1 .1 .1 .0) (c .before .before .before .before .reopen-parties .kept .1 .1 .1 .1 .1 .0))) _ _ (c .before .before .before .before .before .before .before .before .before .before .before .seeds-at .ensures) (c .before .before .before .before .before .before .before .before .before .before .leaves-at .ensures) .0
+part-commit-start-2 c = seeds-inside _ _ _ (c .before .before .before .before .before .before .before .before .before .before .before .before .before .layout .ensures) (c .before .before .before .before .reopen-parties .last .1 .1 .1 .1 .1 .0) (lent-seeded _ _ _ _ _ (lent-kept _ _ _ _ _ (c .before .before .before .before .before .before .before .before .before .before .before .before .before .before .before .before .before .before .pre .0) (c .before .before .before .before .reopen-parties .last .1 .1 .1 .1 .1 .0) (c .before .before .before .before .reopen-parties .kept .1 .1 .1 .1 .1 .0))) _ _ (c .before .before .before .before .before .before .before .before .before .before .before .seeds-at .ensures) (c .before .before .before .before .before .before .before .before .before .before .seeds-end .ensures) .0
 
 part-commit-end-2 : tie.Need-part-commit-end-2
-part-commit-end-2 c = seeds-inside _ _ _ (c .before .before .before .before .before .before .before .before .before .before .before .before .before .layout .ensures) (c .before .before .before .before .reopen-parties .last .1 .1 .1 .1 .1 .0) (lent-end _ _ _ _ _ (lent-kept _ _ _ _ _ (c .before .before .before .before .before .before .before .before .before .before .before .before .before .before .before .before .before .before .pre .0) (c .before .before .before .before .reopen-parties .last .1 .1 .1 .1 .1 .0) (c .before .before .before .before .reopen-parties .kept .1 .1 .1 .1 .1 .0))) _ _ (c .before .before .before .before .before .before .before .before .before .before .before .seeds-at .ensures) (c .before .before .before .before .before .before .before .before .before .before .leaves-at .ensures) .1
+part-commit-end-2 c = seeds-inside _ _ _ (c .before .before .before .before .before .before .before .before .before .before .before .before .before .layout .ensures) (c .before .before .before .before .reopen-parties .last .1 .1 .1 .1 .1 .0) (lent-seeded _ _ _ _ _ (lent-kept _ _ _ _ _ (c .before .before .before .before .before .before .before .before .before .before .before .before .before .before .before .before .before .before .pre .0) (c .before .before .before .before .reopen-parties .last .1 .1 .1 .1 .1 .0) (c .before .before .before .before .reopen-parties .kept .1 .1 .1 .1 .1 .0))) _ _ (c .before .before .before .before .before .before .before .before .before .before .before .seeds-at .ensures) (c .before .before .before .before .before .before .before .before .before .before .seeds-end .ensures) .1
 
 sub-commit-3 : tie.Need-sub-commit-3
 sub-commit-3 c = omega arith
@@ -109,7 +110,7 @@ part-commit-end-3 c =
 commit-requires : tie.Need-commit-requires
 commit-requires c κs =
     let p = c .before .before .before .before .before .before .before .before .before .before .before .before .before .before .before .before .before .before .before .before .pre in
-    (few-parties _ _ _ _ _ (p .0), seeds-size _ _ _ (c .before .before .before .before .before .before .before .before .before .before .before .before .before .before .before .layout .ensures) (c .before .before .before .before .before .before .reopen-parties .last .1 .1 .1 .1 .1 .0) (lent-end _ _ _ _ _ (lent-kept _ _ _ _ _ (p .0) (c .before .before .before .before .before .before .reopen-parties .last .1 .1 .1 .1 .1 .0) (c .before .before .before .before .before .before .reopen-parties .kept .1 .1 .1 .1 .1 .0))) _ _ (c .before .before .before .before .before .before .before .before .before .before .before .before .before .seeds-at .ensures) (c .before .before .before .before .before .before .before .before .before .before .before .before .leaves-at .ensures))
+    (few-parties _ _ _ _ _ (p .0), seeds-size _ _ _ (c .before .before .before .before .before .before .before .before .before .before .before .before .before .before .before .layout .ensures) (c .before .before .before .before .before .before .reopen-parties .last .1 .1 .1 .1 .1 .0) (lent-seeded _ _ _ _ _ (lent-kept _ _ _ _ _ (p .0) (c .before .before .before .before .before .before .reopen-parties .last .1 .1 .1 .1 .1 .0) (c .before .before .before .before .before .before .reopen-parties .kept .1 .1 .1 .1 .1 .0))) _ _ (c .before .before .before .before .before .before .before .before .before .before .before .before .before .seeds-at .ensures) (c .before .before .before .before .before .before .before .before .before .before .before .before .seeds-end .ensures))
 
 sub-replay-held : tie.Need-sub-replay-held
 sub-replay-held c = omega arith
@@ -187,7 +188,7 @@ returns c =
     let t = c .before .before .before .before .before .before .before .before .before .before .before .before .before .before .before .before .before .before .before .before .before .before .before .before .before .before .before .sent-bytes .ensures in (
       output-made _ _ _ _ _ _ _ k (p .1 .0) (x .part .now) (p .1 .1 .0) _ t (e .0) (e .1 .0) (e .1 .1) _ (c .before .before .before .before .before .before .before .before .before .before .before .before .before .before .before .before .before .before .before .before .before .before .before .before .before .oct .ensures) _ _ _ _ (front-back 32 (c .before .before .before .before .before .before .before .before .before .before .before .before .before .before .before .before .before .before .before .before .before .before .before .before .oct2 .result) (c .before .before .before .before .before .before .before .before .before .before .replay-held .last .1 .1 .1 .1 .1 .1 .0) (few-output _ _ _ (p .0 .known) (c .before .before .before .before .before .before .before .before .before .before .before .before .before .before .before .before .before .before .before .before .before .before .before .before .oct2 .ensures)) (c .before .before .before .before .before .before .before .before .before .before .replay-held .kept .1 .1 .1 .1 .1 .1 .0)) (c .before .before .before .before .before .before .before .before .before .before .replay-held .ensures .0) (c .same .ensures),
       (
-        commitments-opened _ _ _ _ _ _ _ k (p .1 .0) (x .part .now) (p .1 .1 .0) _ t (e .0) (e .1 .0) (e .1 .1) _ _ _ _ _ (c .before .before .before .before .before .before .before .before .before .before .before .before .before .before .before .before .before .before .before .before .before .before .before .before .before .before .before .before .before .before .before .layout .ensures) (c .before .before .before .before .before .before .before .before .before .before .before .before .before .before .before .before .before .before .before .before .before .before .before .before .before .before .before .before .before .seeds-at .ensures) (c .before .before .before .before .before .before .before .before .before .before .before .before .before .before .before .before .before .before .before .before .before .before .before .before .before .before .before .before .leaves-at .ensures) (c .before .before .before .before .before .before .before .before .before .before .before .before .before .before .before .before .before .before .before .before .before .before .before .before .before .before .before .before .before .before .corrections-at .ensures) (c .before .before .before .before .before .before .before .before .before .before .before .before .before .before .before .commit .ensures),
+        commitments-opened _ _ _ _ _ _ _ k (p .1 .0) (x .part .now) (p .1 .1 .0) _ t (e .0) (e .1 .0) (e .1 .1) _ _ _ _ _ (c .before .before .before .before .before .before .before .before .before .before .before .before .before .before .before .before .before .before .before .before .before .before .before .before .before .before .before .before .before .before .before .layout .ensures) (c .before .before .before .before .before .before .before .before .before .before .before .before .before .before .before .before .before .before .before .before .before .before .before .before .before .before .before .before .before .seeds-at .ensures) (c .before .before .before .before .before .before .before .before .before .before .before .before .before .before .before .before .before .before .before .before .before .before .before .before .before .before .before .before .seeds-end .ensures) (c .before .before .before .before .before .before .before .before .before .before .before .before .before .before .before .before .before .before .before .before .before .before .before .before .before .before .before .before .before .before .corrections-at .ensures) (c .before .before .before .before .before .before .before .before .before .before .before .before .before .before .before .commit .ensures),
         rows-made _ _ _ _ _ _ _ k (p .1 .0) (x .part .now) (p .1 .1 .0) _ t (e .0) (e .1 .0) (e .1 .1) _ (c .before .before .before .before .before .before .before .before .before .before .before .before .before .before .before .before .before .before .before .before .before .before .before .before .before .oct .ensures) _ _ (c .before .before .before .before .before .before .before .before .before .before .replay-held .ensures .1) (c .before .before .before .before .online .ensures),
       ),
     )
@@ -200,7 +201,7 @@ replay-spec =
     layout-requires
     corrections-at-requires
     seeds-at-requires
-    leaves-at-requires
+    seeds-end-requires
     sent-bytes-requires
     cast-second
     mul-second

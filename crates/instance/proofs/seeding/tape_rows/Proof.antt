@@ -39,21 +39,13 @@ loop-holds c =
     let x = c .before .before .before .before .args in
     (omega arith, (refl, none-written (x .memory .now) (x .to)))
 
--- row i is before the seeds
-
-inside : (c : tie.In-loop Inv-loop μ-loop)
-    → c .before .before .before .before .before .before .args .to + c .before .loop .i * c .before .before .oct .result + c .before .before .oct .result
-    ≤ c .before .before .before .before .before .before .args .seeds
-inside c =
-    let x = c .before .before .before .before .before .before .args in
-    omega (arith, row-fits (x .inst .parties) (c .before .before .oct .result) (c .before .loop .i) (c .loop-test .taken), c .before .before .before .before .before .before .pre .1 .1 .0, ap (λ (k : ℕ). x .inst .parties * k) (c .before .before .oct .ensures))
-
--- and so in the memory
-
+-- row i is in the memory
 within : (c : tie.In-loop Inv-loop μ-loop)
     → c .before .before .before .before .before .before .args .to + c .before .loop .i * c .before .before .oct .result + c .before .before .oct .result
     ≤ length (c .before .loop .memory)
-within c = omega (arith, inside c, c .before .loop .inv .1 .0, c .before .before .before .before .before .before .pre .1 .1 .1)
+within c =
+    let x = c .before .before .before .before .before .before .args in
+    omega (arith, row-fits (x .inst .parties) (c .before .before .oct .result) (c .before .loop .i) (c .loop-test .taken), c .before .before .before .before .before .before .pre .1 .1 .1, c .before .loop .inv .1 .0, ap (λ (k : ℕ). x .inst .parties * k) (c .before .before .oct .ensures))
 
 cast-k : tie.Need-cast-k Inv-loop μ-loop
 cast-k c = omega arith
@@ -135,7 +127,6 @@ loop-again c =
     let a = x .to + l .i * len in
     let size = part-size a len (l .memory) (within (c .before)) in
     let turn = row-written len f (tape-size C (x .inst .parties) (x .p) (x .inst .context) seeds len e) m (x .to) (l .i) a (a + len) (l .memory) in
-    let h = inside (c .before) in
     let q : c .if1 .memory ≡ sets m (x .to) (flatten (tabulate (l .i + 1) f)) = ⊎-elim
     (λ w.
     w .5
@@ -145,7 +136,7 @@ loop-again c =
     w .9
     ∙ turn (w .6 .last .1 .1 .1 .1 .0) refl refl (omega (arith, within (c .before), l .inv .1 .0)) (l .inv .1 .1) (w .6 .kept .1 .1 .1 .1 .0 ∙ size)
     (tape-derived C (x .inst .parties) (x .p) (x .inst .context) seeds (l .i) (w .3 .result) _ (w .2 .result) (w .6 .last .1 .1 .1 .1 .0) (w .0 .left)
-    (seed-read C (x .inst .parties) (x .p) (x .inst .context) (l .i) (x .seeds) (x .to) len m (l .memory) (w .2 .result) e (c .before .loop-test .taken) (omega arith) (omega (arith, h)) (l .inv .1 .1) (w .2 .ensures))
+    (seed-read C (x .inst .parties) (x .p) (x .inst .context) (l .i) (x .seeds) (x .to) m (l .memory) (w .2 .result) (c .before .loop-test .taken) (omega arith) (start .pre .1 .1 .0) (l .inv .1 .1) (w .2 .ensures))
     (used-is _ _ _ _ _ known (x .inst .parties) (l .i) (w .3 .result) (w .3 .ensures)) (size ∙ e) (w .6 .ensures)))
     (c .if1 .came) in
     (omega arith, (ap length q ∙ length-sets m (x .to) (flatten (tabulate (l .i + 1) f)), q))

@@ -17,7 +17,7 @@ mul-result c =
     let x = c .before .before .args in
     let p = c .before .before .pre in
     let h : c .oct .result ≤ 4194304 = omega (arith, c .oct .ensures) in
-    let m : x .n * c .oct .result ≤ 16 * 4194304 = mul-le-mul (p .0) h in
+    let m : x .n * c .oct .result ≤ 64 * 4194304 = mul-le-mul (p .0) h in
     omega (arith, m)
 
 returns : tie.Need-returns

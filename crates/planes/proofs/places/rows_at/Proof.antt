@@ -2,6 +2,7 @@
 -- Assumes nothing.
 use borrow.Author.Needs.{needs}
 use native.Mathlib.Omega.{arith}
+use Rattle.planes.proofs.Fits.{spare-small}
 use Rattle.planes.proofs.places.rows_at.Statement.{statement}
 use Rattle.planes.proofs.places.rows_at.Tie as tie
 
@@ -12,7 +13,7 @@ oct-requires : tie.Need-oct-requires
 oct-requires c κs = tt
 
 add-result : tie.Need-add-result
-add-result c = omega arith
+add-result c = omega (arith, spare-small (c .before .before .args .l))
 
 returns : tie.Need-returns
 returns c = omega arith

@@ -2,6 +2,7 @@
 -- Assumes nothing.
 use borrow.Author.Needs.{needs}
 use native.Mathlib.Omega.{arith}
+use Rattle.planes.proofs.Fits.{spare-small}
 use Rattle.planes.proofs.Within.{corrections-put}
 use Rattle.planes.proofs.tapes.put_corrections.Statement.{statement}
 use Rattle.planes.proofs.tapes.put_corrections.Tie as tie
@@ -23,7 +24,7 @@ put-held-bits-requires c κs =
     let p = c .before .before .before .before .before .before .pre in
     let e = c .before .before .before .tape-at .ensures in
     let d = c .before .before .corrections-at .ensures in
-    (omega (arith, d, p .0 .few-wires, p .0 .few-words), (omega (arith, e, d), omega (arith, d, p .1)))
+    (omega (arith, d, p .0 .few-wires, p .0 .few-words, spare-small (c .before .before .before .before .before .before .args .l)), (omega (arith, e, d), omega (arith, d, p .1)))
 
 same-length : tie.Need-same-length
 same-length c = search needs
