@@ -22,7 +22,7 @@ test:
 # below the library come first.
 lib:
 	@mkdir -p target
-	@echo "The library is proved, then built: some minutes the first time."
+	@echo "The library is proved, then built: some ten minutes the first time; target/lib.out shows how far it is."
 	@{ rt check $(below) && rt staticlib wivulameno; } >target/lib.out 2>&1 || { cat target/lib.out; exit 1; }
 
 bench: lib

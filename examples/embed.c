@@ -239,28 +239,15 @@ static uint8_t proof[16 * 1024];
 static const uint8_t message[] = "order 4711";
 static const size_t message_len = sizeof message - 1;
 
-/* The salt of a proof: new random bytes, which are no secret. */
-static void draw_salt(void)
-{
-    FILE *source = fopen("/dev/urandom", "rb");
-
-    if (source == NULL || fread(salt, 1, sizeof salt, source) != sizeof salt) {
-        printf("no random source\n");
-        exit(1);
-    }
-    fclose(source);
-}
-
 /*
  * One root, one call of wv_prove: the root is dropped whatever the answer is.
- * Two proofs from one root can show the row. The salt is random, too, a new one for
+ * Two proofs from one root and one salt can show the row. The salt is random, too, a new one for
  * each proof; it is no secret.
  */
 static uint32_t prove(size_t proof_len, size_t work_len, uint64_t *written)
 {
     uint32_t answer;
 
-    draw_salt();
     draw_root();
     fill_random(salt, sizeof salt);
     answer = wv_prove(circuit, sizeof circuit, witness, sizeof witness,

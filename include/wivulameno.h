@@ -739,7 +739,7 @@ static inline size_t wv_proof_len(uint32_t inputs, uint32_t outputs,
 /*
  * Proves that the circuit gives y for the witness. The root is 16 random bytes,
  * drawn from a shelf: a new root for each call, also after a refused one. Two
- * proofs from one root can show the witness. The salt is 32 bytes, as
+ * proofs from one root and one salt can show it. The salt is 32 bytes, as
  * above, and is written into the proof. Writes the proof to the start of proof, and
  * its length to written; the bytes of proof beyond that length stay as they were.
  * The work buffer is as the top of this file says. Refuses a circuit as above,
@@ -837,7 +837,7 @@ uint32_t wv_shared_enter(uint8_t state[WV_SHARED_STATE], uint32_t caller,
  * is refused with, or 255 if it is not finished in this call or none was waiting.
  * A finished proof waits no more, and its caller may enter another. The refusal
  * that finishes a proof with changed bytes counts as an instance; so does 13 if
- * its m is no longer above the number of the next instance. Refuses in this order:
+ * its m is not above the number of the next instance. Refuses in this order:
  *    8  the quota is not 1 to 512
  *   28  no proof is waiting
  *    6  the work buffer is shorter than WV_SHARED_WORK

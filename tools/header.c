@@ -19,7 +19,7 @@ static void equal(const char *what, size_t found, size_t expected)
 }
 
 /*
- * The room for the paper's m10; then some counts of the README's table; then
+ * The room for the paper's m10; then some counts of the table in docs/cost.md; then
  * the ends of the limits.
  */
 static void proof_lengths(void)
@@ -296,8 +296,8 @@ static void call(uint32_t quota, const uint8_t *buffer, size_t buffer_len,
  */
 static void shared_checker(void)
 {
-    static uint8_t buffer[38 + 233];
-    static const uint8_t root[WV_ROOT_LEN] = {4};
+    static uint8_t buffer[38 + 265];
+    static const uint8_t root[WV_ROOT_LEN] = {4}, salt[WV_SALT_LEN] = {5};
     const uint8_t witness = 3;
     const size_t whole = WV_SHARED_WORK;
     uint64_t written = 0, places[8] = {0, 36, 36, 1, 37, 1, 38, 0};
@@ -307,8 +307,8 @@ static void shared_checker(void)
     buffer[37] = 'a';
     equal("prove",
           wv_prove(k, sizeof k, &witness, 1, buffer + 36, 1, buffer + 37, 1,
-                   root, sizeof root, 4, 1, 2, buffer + 38, 233, &written,
-                   work, sizeof work),
+                   root, sizeof root, salt, sizeof salt, 4, 1, 2,
+                   buffer + 38, 265, &written, work, sizeof work),
           WV_ACCEPTED);
     places[7] = written;
     memset(state, 0xee, sizeof state);

@@ -15,9 +15,8 @@ use Rattle.schedule.proofs.Flags.{nobody-next, somebody-next}
 use Rattle.shared.specs.declared.Job.{Job}
 use Rattle.shared.specs.declared.Shared.{Shared}
 use Rattle.shared.specs.Service.{unlessRefused, serviceAt}
-use Rattle.shared.specs.States.{stateOf}
+use Rattle.shared.specs.StateSteps.{stateOf, refusalOf}
 use Rattle.shared.specs.Operations.{longWork, callRefusal, called, verdictsOf, workAfterCall}
-use Rattle.shared.specs.Answers.{refusalOf}
 use Rattle.calling.specs.declared.Called.{Called}
 use Rattle.calling.specs.Steps.{Replies}
 use Rattle.calling.proofs.Turns.{next-is}

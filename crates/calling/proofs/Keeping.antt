@@ -15,7 +15,7 @@ use Rattle.shared.specs.declared.entering.Looked.{Looked}
 use Rattle.shared.specs.declared.entering.Looked.the-variants as looked
 use Rattle.shared.specs.declared.serving.Served.{Served}
 use Rattle.shared.specs.Service.{allInside, entryAt, serviceAt}
-use Rattle.shared.specs.Answers.{refusalOf}
+use Rattle.shared.specs.StateSteps.{refusalOf}
 use Rattle.shared.specs.Steps.{lookedOf, outcomeOf, Looking, ReadyAt, instanceAt}
 use Rattle.shared.proofs.Onward as onward
 use Rattle.shared.proofs.Onward.{kept-service}

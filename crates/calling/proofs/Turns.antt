@@ -13,17 +13,17 @@ use lib.ListN.{length, getD, set, replicate, length-set, getD-replicate}
 use lib.Seq.{getD-set-same, getD-set-other, set-getD}
 use Rattle.bits.proofs.Numbers.{eq-or-ne}
 use Rattle.schedule.specs.Schedule.{Slot, idle, waiting, State, waits, next, Outcome, goesOn, finished, Work, Service, leaves, verdictOf, workOn, verdictOn, put, serviceOf, afterService, unlessNone, serve}
-use Rattle.schedule.specs.Callers.{flagged, lastServed}
+use Rattle.schedule.specs.Callers.{lastServed}
+use Rattle.schedule.specs.Steps.{flagged}
 use Rattle.schedule.specs.Steps.{nextCaller}
 use Rattle.schedule.proofs.Flags.{nobody-next, somebody-next, next-waits}
 use Rattle.shared.specs.declared.Places.{Places}
 use Rattle.shared.specs.declared.Job.{Job}
 use Rattle.shared.specs.declared.serving.Served.{Served}
 use Rattle.shared.specs.Service.{serviceAt}
-use Rattle.shared.specs.States.{nowhere, slotOf, stateOf}
+use Rattle.shared.specs.StateSteps.{nowhere, slotOf, stateOf, refusalOf}
 use Rattle.shared.specs.Operations as operations
 use Rattle.shared.specs.Operations.{under, verdictsOf}
-use Rattle.shared.specs.Answers.{refusalOf}
 use Rattle.shared.specs.Steps.{outcomeOf}
 use Rattle.shared.proofs.Histories.{serve-nobody}
 use Rattle.shared.proofs.Slots.{waits-flagged, slots-put}

@@ -9,9 +9,8 @@ use Rattle.schedule.specs.Schedule.{State, Service}
 use Rattle.shared.specs.declared.Places.{Places}
 use Rattle.shared.specs.declared.Job.{Job}
 use Rattle.shared.specs.Service.{entryAt}
-use Rattle.shared.specs.States.{stateOf}
+use Rattle.shared.specs.StateSteps.{stateOf, refusalOf}
 use Rattle.shared.specs.Operations.{verdictsOf}
-use Rattle.shared.specs.Answers.{refusalOf}
 use Rattle.shared.specs.Steps.{ReadyAt}
 use Rattle.calling.specs.declared.Kept.{Kept}
 use Rattle.calling.specs.declared.Called.{Called}

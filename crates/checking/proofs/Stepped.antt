@@ -12,8 +12,7 @@ use Rattle.keccak.specs.Steps.{absorbs}
 use Rattle.keccak.proofs.Absorbing.{Bytes}
 use Rattle.circuit.specs.Circuit.{Circuit}
 use Rattle.hashing.specs.Inputs.{allCommitmentsInput, allOnlineInput}
-use Rattle.hashing.specs.Digest.{transcriptOf}
-use Rattle.hashing.specs.Steps.{taken, given}
+use Rattle.hashing.specs.Digest.{transcriptOf, taken, given}
 use Rattle.instance.specs.Instance.{Asked}
 use Rattle.proof.specs.File.{headerHstar}
 use Rattle.checking.specs.declared.stepping.Running.{Running}

@@ -17,8 +17,7 @@ use Rattle.keccak.proofs.Absorbing.{Bytes}
 use Rattle.keccak.proofs.Steps.{squeezes-length}
 use Rattle.circuit.specs.Circuit.{Circuit}
 use Rattle.hashing.specs.Inputs.{contextOf, allCommitmentsInput, allOnlineInput}
-use Rattle.hashing.specs.Digest.{transcriptOf}
-use Rattle.hashing.specs.Steps.{taken, given}
+use Rattle.hashing.specs.Digest.{transcriptOf, taken, given}
 use Rattle.hashing.proofs.Digests.{taken-more, taken-room, given-taken}
 use Rattle.hashing.proofs.Hashes.{bytes-append, bytes-one}
 use Rattle.instance.specs.Instance.{Asked, opened, hiding, isChosen, commitmentsDigest, masterCommitments}

@@ -3,10 +3,9 @@
 -- Assumes nothing.
 use mathlib.Core.List.{List, []}
 use Prim.Native.Nat.{ℕ}
-use Rattle.keccak.specs.Steps.{absorbs}
+use Rattle.keccak.specs.Streaming.{absorbs}
 use Rattle.hashing.specs.Inputs.{allCommitmentsInput, allOnlineInput}
-use Rattle.hashing.specs.Digest.{transcriptOf}
-use Rattle.hashing.specs.Steps.{taken, given}
+use Rattle.hashing.specs.Digest.{transcriptOf, taken, given}
 use Rattle.checking.specs.declared.stepping.Running.{Running}
 
 -- no instance is taken in: the tags 9 and 10 alone

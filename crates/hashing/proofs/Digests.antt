@@ -12,8 +12,7 @@ use Rattle.keccak.proofs.Absorbing.{Bytes}
 use Rattle.keccak.proofs.Steps.{absorbs-append, absorbs-room}
 use Rattle.keccak.proofs.Squeezing.{sha3-256-steps}
 use Rattle.hashing.specs.Inputs.{commitmentsInput, onlineInput, allCommitmentsInput, allOnlineInput, transcriptInput}
-use Rattle.hashing.specs.Digest.{transcriptOf}
-use Rattle.hashing.specs.Steps.{taken, given}
+use Rattle.hashing.specs.Digest.{transcriptOf, taken, given}
 use Rattle.hashing.proofs.Hashes.{bytes-append, bytes-one, empty-room, took-tag}
 
 -- there is room for the next byte

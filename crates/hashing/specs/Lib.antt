@@ -2,4 +2,3 @@ pub mod Inputs
 pub mod Digest
 pub mod Statement
 pub mod Salts
-pub mod Steps

@@ -24,7 +24,7 @@ use Rattle.keccak.proofs.Absorbing.{Bytes}
 use Rattle.keccak.proofs.Lengths.{length-sha3-256}
 use Rattle.hashing.specs.Inputs.{commitmentInput, ownCorrections, commitmentsInput}
 use Rattle.party.specs.Derive.{commitmentTo, commitmentOf}
-use Rattle.hashing.specs.Steps.{taken, given}
+use Rattle.hashing.specs.Digest.{taken, given}
 use Rattle.hashing.proofs.Hashes.{bytes-append, bytes-one}
 use Rattle.hashing.proofs.Digests.{taken-more, taken-room, given-taken}
 use Rattle.instance.specs.Instance.{commitmentsDigest, commitmentsOf}

@@ -30,7 +30,7 @@ use Rattle.planes.proofs.Within.{block-row}
 use Rattle.walk.specs.Steps.{layoutOf}
 use Rattle.packed.specs.Steps.{broadcastBytes, sentBit, rowsSent}
 use Rattle.hashing.specs.Inputs.{onlineInput}
-use Rattle.hashing.specs.Steps.{taken, given}
+use Rattle.hashing.specs.Digest.{taken, given}
 use Rattle.hashing.proofs.Hashes.{bytes-append, bytes-one}
 use Rattle.hashing.proofs.Digests.{taken-more, online-more, given-taken}
 use Rattle.instance.specs.Instance.{onlineDigest}

@@ -30,7 +30,7 @@ use Rattle.correcting.proofs.Ran.{rows-ran, row-ran}
 use Rattle.mpc.specs.Steps.{Known}
 use Rattle.keccak.specs.declared.sponge.Sponge.{Sponge}
 use Rattle.keccak.specs.Steps.{absorbs}
-use Rattle.hashing.specs.Steps.{given}
+use Rattle.hashing.specs.Digest.{given}
 use Rattle.party.specs.Derive.{commitmentTo, commitmentOf}
 use Rattle.instance.specs.Instance.{tapesOf, commitmentsDigest, onlineDigest, commitmentsOf, masterSeeds, masterTapes, masterCorrections, masterCommitments, masterRun, masterMasked, masterOnline}
 use Rattle.instance.specs.Steps.{Lent, seedsHeld, FirstTaken, rowSent, Ran}

@@ -20,7 +20,7 @@ use Rattle.packed.specs.Steps.{broadcastBytes, correctionsHeld, sentBit, rowsSe
 use Rattle.mpc.specs.Steps.{Known}
 use Rattle.keccak.specs.declared.sponge.Sponge.{Sponge}
 use Rattle.hashing.specs.Inputs.{commitmentsInput}
-use Rattle.hashing.specs.Steps.{taken}
+use Rattle.hashing.specs.Digest.{taken}
 use Rattle.party.specs.Derive.{commitmentOf}
 use Rattle.party.specs.Derive as derive
 use Rattle.instance.specs.Instance.{seedOf, masterCorrections, masterRun}

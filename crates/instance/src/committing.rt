@@ -11,7 +11,7 @@ ghost use Rattle.walk.specs.Steps.{layoutOf};
 ghost use Rattle.packed.specs.Steps.{broadcastBytes, correctionsHeld, rowsSent};
 ghost use Rattle.keccak.specs.Steps.{absorbs};
 ghost use Rattle.hashing.specs.Inputs.{commitmentsInput};
-ghost use Rattle.hashing.specs.Steps.{taken, given};
+ghost use Rattle.hashing.specs.Digest.{taken, given};
 ghost use Rattle.party.specs.Derive.{commitmentTo, commitmentOf};
 ghost use Rattle.instance.specs.Instance.{commitmentsDigest, onlineDigest};
 ghost use Rattle.instance.specs.Steps.{seedsHeld, Seeded, FirstTaken};

@@ -1,3 +1,4 @@
 pub mod Bitstrings
 pub mod Sponge
+pub mod Streaming
 pub mod Steps

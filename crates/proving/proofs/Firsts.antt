@@ -19,8 +19,7 @@ use Rattle.keccak.proofs.Lengths.{length-sha3-256}
 use Rattle.circuit.specs.Circuit.{Circuit}
 use Rattle.plain.specs.Showing.{rowsOf}
 use Rattle.hashing.specs.Inputs.{contextOf, commitmentsInput, onlineInput, allCommitmentsInput, allOnlineInput}
-use Rattle.hashing.specs.Digest.{transcriptOf}
-use Rattle.hashing.specs.Steps.{taken, given}
+use Rattle.hashing.specs.Digest.{transcriptOf, taken, given}
 use Rattle.hashing.proofs.Hashes.{bytes-append, bytes-one}
 use Rattle.hashing.proofs.Digests.{taken-more, taken-room, given-taken, all-online-more}
 use Rattle.instance.specs.Instance.{commitmentsDigest, onlineDigest, commitmentsOf, masterSeeds, masterCorrections, masterCommitments, masterRun, masterMasked, masterOnline}

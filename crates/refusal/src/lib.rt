@@ -22,7 +22,7 @@ pub enum Refusal {
     Index,
     // 10: the output differs from y; the witness does not give y.
     Output,
-    // 11: a header under 38 bytes, out of limits or with its zero byte not 0 (the proof file).
+    // 11: a header under 70 bytes, out of limits or with its zero byte not 0 (the proof file).
     Header,
     // 12: a length other than h* implies.
     ProofLength,

@@ -11,7 +11,8 @@ use native.Mathlib.Numerals.{add-one}
 use borrow.Author.Tests.{lt-ltb, le-ltb}
 use Rattle.bits.proofs.Numbers.{lt-or-le}
 use Rattle.schedule.specs.Schedule.{begin, numbers, cyclic, firstOf, next}
-use Rattle.schedule.specs.Callers.{flagged, lastServed}
+use Rattle.schedule.specs.Callers.{lastServed}
+use Rattle.schedule.specs.Steps.{flagged}
 use Rattle.schedule.specs.Steps.{numberOf, nextCaller, firstWaiting}
 use Rattle.schedule.proofs.Order.{orElse, first-append, numbers-first, Next, next-first}
 

@@ -1,11 +1,16 @@
 -- What only the contracts of steps use: no definition of the paper stands here.
 -- Assumes nothing.
-use mathlib.Core.Bool.{Bool}
+use mathlib.Core.Bool.{Bool, false}
 use mathlib.Core.List.{List}
 use mathlib.Core.Option.{Option, none, some}
 use Prim.Native.Nat.{ℕ, _-_}
+use lib.ListN.{getD}
 use Rattle.schedule.specs.Schedule.{numbers, firstOf, next}
-use Rattle.schedule.specs.Callers.{callers, flagged, lastServed}
+use Rattle.schedule.specs.Callers.{callers, lastServed}
+
+-- who waits, by flags
+abbrev pub flagged : List Bool → ℕ → Bool
+flagged flags c = getD flags c false
 
 -- a caller's number, 16 for none
 abbrev pub numberOf : Option ℕ → ℕ

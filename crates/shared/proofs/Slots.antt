@@ -14,7 +14,8 @@ use lib.Seq.{getD-set-same, getD-set-other}
 use Rattle.bits.proofs.Numbers.{eq-or-ne}
 use Rattle.schedule.specs.Schedule.{Slot, idle, waiting, isWaiting, State, empty, waits, put}
 use Rattle.schedule.specs.History.{isFree, afterEntry}
-use Rattle.schedule.specs.Callers.{flagged, lastServed}
+use Rattle.schedule.specs.Callers.{lastServed}
+use Rattle.schedule.specs.Steps.{flagged}
 use Rattle.checking.specs.declared.stepping.Running.{Running}
 use Rattle.checking.specs.RunningDigests.{started}
 use Rattle.shared.specs.declared.Places.{Places}
@@ -23,7 +24,7 @@ use Rattle.shared.specs.declared.Shared.{Shared}
 use Rattle.shared.specs.Service.{allInside, entryAt, unlessRefused, jobAt}
 use Rattle.shared.specs.Operations.{longWork, enterRefusal, entered, workAfterEntry}
 use Rattle.shared.specs.Steps.{seated}
-use Rattle.shared.specs.States.{nowhere, slotOf, stateOf}
+use Rattle.shared.specs.StateSteps.{nowhere, slotOf, stateOf}
 
 nobody : (k c : ℕ) → getD (replicate {A = Bool} k false) c false ≡ false
 nobody zero c = refl

@@ -20,6 +20,7 @@ use Rattle.schedule.specs.History as history
 use Rattle.schedule.specs.History.{Event, isFree, afterEntry, after, servicesFrom}
 use Rattle.schedule.specs.Alone.{byOutcome, alone, ownIn, verdictIn, Same}
 use Rattle.schedule.proofs.Fairness.{within, between}
+use Rattle.schedule.proofs.Waiting.{soon}
 use Rattle.schedule.proofs.Verdicts.{verdict-alone}
 use Rattle.shared.specs.declared.Place.{Place}
 use Rattle.shared.specs.declared.Places.{Places}
@@ -164,6 +165,7 @@ pub shared-checker : SharedChecker
 shared-checker =
     record {
       within = λ events b row a c e. within Job ℕ 16 (planned events) b row a c (sym (services-planned empty events) ∙ e);
+      soon = λ events b row a first c e. soon Job ℕ 16 (planned events) b row a first c (sym (services-planned empty events) ∙ e);
       between = λ events b row a first second c e. between Job ℕ 16 (planned events) b row a first second c (sym (services-planned empty events) ∙ e);
       alone = verdict-told;
       ends = verdict-ends;

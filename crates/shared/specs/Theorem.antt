@@ -51,6 +51,10 @@ pub record SharedChecker : Type 0 where
   -- "a waiting caller gets an instance within 16 services"
   pub within : (events : List Lent) (before row after : List (Service ℕ)) (c : ℕ) → servicesAfter empty events ≡ before ++ row ++ after
       → length row ≡ 16 → c < 16 → waitsAt c row ≡ true → servedIn c row ≡ true
+  -- the same of a caller that waits at the first of them: it waits on until it is served
+  pub soon : (events : List Lent) (before row after : List (Service ℕ)) (first : Service ℕ) (c : ℕ)
+      → servicesAfter empty events ≡ before ++ (first ∷ row) ++ after → length (first ∷ row) ≡ 16 → first .waited c ≡ true
+      → servedIn c (first ∷ row) ≡ true
   -- "between two services of one caller every other that waits all that while gets one"
   pub between : (events : List Lent) (before between after : List (Service ℕ)) (first second : Service ℕ) (c : ℕ)
       → servicesAfter empty events ≡ before ++ (first ∷ between) ++ (second ∷ after) → first .caller ≡ second .caller → c ≢ first .caller

@@ -2,7 +2,7 @@
 ghost use mathlib.Core.Path.{_≡_};
 ghost use Rattle.schedule.specs.Schedule.{empty};
 ghost use Rattle.shared.specs.Service.{jobAt};
-ghost use Rattle.shared.specs.States.{stateOf};
+ghost use Rattle.shared.specs.StateSteps.{stateOf};
 
 pub mod entering;
 pub mod serving;

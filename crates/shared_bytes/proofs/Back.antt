@@ -146,13 +146,21 @@ idle-slot : (x : Slot Job) → (isWaiting x ≡ true → ⊥) → idle ≡ x
 idle-slot idle h = refl
 idle-slot (waiting j) h = absurd (h refl)
 
--- the slots one after the other, from byte 1 on
+-- the slots one after the other
+slots-long : (f : ℕ → List ℕ) → ((c : ℕ) → length (f c) ≡ 471) → length (flatten (tabulate 16 f)) ≡ 16 * 471
+slots-long f n =
+    length-flatten 471 (tabulate 16 f) (λ k h. ap length (getD-tabulate 16 f k [] (omega (arith, length-tabulate 16 f))) ∙ n k)
+    ∙ ap (λ (k : ℕ). k * 471) (length-tabulate 16 f)
+
+pub state-long : (s : State Job) → StateFits s → length (encodeState s) ≡ 7537
+unfolding encodeState
+state-long s f = ap suc (slots-long (λ k. slotBytes (s .slot k)) (λ k. length-slot (s .slot k) (f .slots k)))
+
+-- from byte 1 on
 slot-held : (b : ℕ) (f : ℕ → List ℕ) → ((c : ℕ) → length (f c) ≡ 471) → (c : ℕ) → c < 16 → Holds (b ∷ flatten (tabulate 16 f)) (1 + 471 * c) (f c)
 slot-held b f n c l i m =
     let rows : List ℕ = flatten (tabulate 16 f) in
-    let z : length rows ≡ 16 * 471
-    = length-flatten 471 (tabulate 16 f) (λ k h. ap length (getD-tabulate 16 f k [] (omega (arith, length-tabulate 16 f))) ∙ n k)
-    ∙ ap (λ (k : ℕ). k * 471) (length-tabulate 16 f) in
+    let z : length rows ≡ 16 * 471 = slots-long f n in
     let q : 1 + 471 * c + i ≡ suc (c * 471 + i) = omega arith in
     let u : i < 471 = omega (arith, n c) in
     ap (λ (k : ℕ). getD (b ∷ rows) k 0) q ∙ sym (row-getD rows 471 c i (omega (arith, row-fits 16 471 c l, z)) u)

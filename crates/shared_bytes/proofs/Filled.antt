@@ -21,7 +21,7 @@ use Rattle.schedule.specs.Callers.{lastServed}
 use Rattle.shared.specs.declared.Place.{Place}
 use Rattle.shared.specs.declared.Places.{Places}
 use Rattle.shared.specs.declared.Job.{Job}
-use Rattle.shared.specs.States.{nowhere, slotOf, stateOf}
+use Rattle.shared.specs.StateSteps.{nowhere, slotOf, stateOf}
 use Rattle.shared_bytes.specs.Bytes.{slotLength, placeAt, placesAt, spongeAt, jobIn, slotIn, decodeState}
 use Rattle.shared_bytes.specs.Steps.{flagIn, jobOf}
 

@@ -12,8 +12,7 @@ use Rattle.shared.specs.declared.Places.{Places}
 use Rattle.shared.specs.declared.Job.{Job}
 use Rattle.shared.specs.declared.Shared.{Shared}
 use Rattle.shared.specs.Service.{unlessRefused}
-use Rattle.shared.specs.States.{stateOf}
-use Rattle.shared.specs.Answers.{refusalOf}
+use Rattle.shared.specs.StateSteps.{stateOf, refusalOf}
 use Rattle.shared.specs.Operations.{enterRefusal, entered, workAfterEntry, callRefusal, called, verdictsOf, workAfterCall}
 use Rattle.shared_bytes.specs.Bytes.{decodeState, encodeState}
 use Rattle.shared_bytes.specs.Operations.{startOp, placesOf, enterOp, callOp}

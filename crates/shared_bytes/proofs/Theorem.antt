@@ -12,7 +12,7 @@ use Rattle.shared.specs.Operations.{enterRefusal, entered, callRefusal, called,
 use Rattle.shared_bytes.specs.Bytes.{decodeState, encodeState}
 use Rattle.shared_bytes.specs.Operations.{startOp, placesOf, enterOp, callOp}
 use Rattle.shared_bytes.specs.Theorem.{StateFits, LentFits, stateLeft, numbersOf, bytesAfter, BytesKeepState}
-use Rattle.shared_bytes.proofs.Back.{state-back}
+use Rattle.shared_bytes.proofs.Back.{state-back, state-long}
 use Rattle.shared_bytes.proofs.Fits.{decoded-fits, empty-state-fits, entered-fits, called-fits}
 
 -- the bytes that an entry leaves are those of the state after it
@@ -55,4 +55,4 @@ follows-empty events l =
     follows-from events (encodeState empty) (subst StateFits (sym e) empty-state-fits) l ∙ ap (λ (z : State Job). stateAfter z events) e
 
 pub bytes-keep-state : BytesKeepState
-bytes-keep-state = record { back = state-back; total = decoded-fits; follows = follows-empty }
+bytes-keep-state = record { back = state-back; long = state-long; total = decoded-fits; follows = follows-empty }

@@ -22,7 +22,7 @@ use Rattle.shared.specs.declared.Place.{Place}
 use Rattle.shared.specs.declared.Places.{Places}
 use Rattle.shared.specs.declared.Job.{Job}
 use Rattle.shared.specs.declared.Shared.{Shared}
-use Rattle.shared.specs.States.{nowhere, slotOf, stateOf}
+use Rattle.shared.specs.StateSteps.{nowhere, slotOf, stateOf}
 use Rattle.schedule.specs.Callers.{lastServed}
 use Rattle.shared_bytes.specs.Bytes.{placeBytes, placesBytes, spongeBytes, jobBytes, slotBytes, encodeState}
 

@@ -14,7 +14,7 @@ use Rattle.shared.specs.declared.Place.{Place}
 use Rattle.shared.specs.declared.Places.{Places}
 use Rattle.shared.specs.declared.Job.{Job}
 use Rattle.shared.specs.Operations.{Lent, enter, call, stateAfter}
-use Rattle.shared_bytes.specs.Bytes.{decodeState, encodeState}
+use Rattle.shared_bytes.specs.Bytes.{stateLength, decodeState, encodeState}
 use Rattle.shared_bytes.specs.Operations.{startOp, enterOp, callOp}
 
 -- numbers that fit their fields
@@ -72,6 +72,8 @@ bytesAfter state (call quota buffer work ∷ events) = bytesAfter (stateLeft (ca
 pub record BytesKeepState : Type 0 where
   -- decoding gives back what was encoded
   pub back : (s : State Job) → StateFits s → decodeState (encodeState s) ≡ s
+  -- the bytes are as many as the lent array has
+  pub long : (s : State Job) → StateFits s → length (encodeState s) ≡ stateLength
   -- every string of bytes is a state that is given back
   pub total : (state : List ℕ) → ((i : ℕ) → getD state i 0 < 256) → StateFits (decodeState state)
   -- "From the empty state on, each entry or call given the state that the last one left"

@@ -4,7 +4,7 @@ ghost use Prim.Native.Nat.{_+_, _*_, _≤_, _<_};
 ghost use lib.ListN.{length, getD};
 ghost use Rattle.bits.specs.Bits.{tabulate};
 ghost use Rattle.bits.specs.Bytes.{leAt};
-ghost use Rattle.shared.specs.States.{stateOf};
+ghost use Rattle.shared.specs.StateSteps.{stateOf};
 ghost use Rattle.shared_bytes.specs.Bytes.{placeAt, placesAt, spongeAt, jobIn, decodeState};
 ghost use Rattle.shared_bytes.specs.Steps.{flagIn, jobOf};
 use crate::SLOT_BYTES;

@@ -6,7 +6,7 @@ ghost use lib.ListN.{length, getD};
 ghost use lib.Seq.{sets};
 ghost use Rattle.permutation.specs.Permutation.{laneBytes};
 ghost use Rattle.schedule.specs.Schedule.{idle, waiting as «waits-with»};
-ghost use Rattle.shared.specs.States.{nowhere, stateOf};
+ghost use Rattle.shared.specs.StateSteps.{nowhere, stateOf};
 ghost use Rattle.shared_bytes.specs.Bytes.{placeBytes, placesBytes, spongeBytes, jobBytes, slotBytes, encodeState};
 use crate::SLOT_BYTES;
 use bits::clear;

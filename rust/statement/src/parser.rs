@@ -256,7 +256,9 @@ impl Parser {
     /// Is there no `=` where a comparison can be meant?
     fn not_assigned(&self) -> Result<(), Fault> {
         match self.next() {
-            Token::Fixed("=") => Err(self.place().fault("to compare two numbers write `==`")),
+            Token::Fixed("=") => Err(self
+                .place()
+                .fault("to compare two numbers write `==`, `>=` or `<=`")),
             _ => Ok(()),
         }
     }

@@ -152,8 +152,11 @@ fn values() {
         ),
         ("(a >= b", "`)` is expected, not the end of the text"),
         ("(a >= b ^, b", "`)` is expected, not `,`"),
-        ("a ^= b", "to compare two numbers write `==`"),
-        ("a + b ^= 3", "to compare two numbers write `==`"),
+        ("a ^= b", "to compare two numbers write `==`, `>=` or `<=`"),
+        (
+            "a + b ^= 3",
+            "to compare two numbers write `==`, `>=` or `<=`",
+        ),
         (
             "a < b ^< 5",
             "a comparison has two sides: join two of them by `and`",

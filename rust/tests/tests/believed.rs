@@ -1,7 +1,7 @@
 //! What a reader must believe: the definitions that the promises of the
 //! operations and of FIPS 202's step mappings, and the statements of the theorems
 //! stand on. What only serves the contracts of steps (`specs/Steps.antt`,
-//! in `circuit` `specs/FieldSteps.antt` too) is not among them.
+//! in `circuit` `specs/FieldSteps.antt`, in `shared` `specs/StateSteps.antt` too) is not among them.
 
 use std::collections::{BTreeMap, BTreeSet};
 use std::fs;
@@ -101,17 +101,12 @@ fn promised(specs: &Specs) -> (BTreeSet<Item>, usize) {
     (found, count)
 }
 
-/// Crates that no operation and no other crate stands on yet. What they define and
-/// state is read when an operation stands on it.
-const PREPARED: [&str; 1] = ["shared"];
-
 /// The statements of the theorems: in `proofs`, `pub theorem : Statement`.
 fn stated(specs: &Specs) -> BTreeSet<Item> {
     let mut found = BTreeSet::new();
     for path in files(&root().join("crates"), ".antt") {
         let parts: Vec<&str> = path.iter().filter_map(|part| part.to_str()).collect();
-        let is_prepared = PREPARED.iter().any(|krate| parts.contains(krate));
-        if !parts.contains(&"proofs") || is_prepared {
+        if !parts.contains(&"proofs") {
             continue;
         }
         let proofs = text(&path);
@@ -176,9 +171,7 @@ fn no_step_is_believed() {
 fn what_is_not_believed_is_a_step() {
     let specs = Specs::read();
     let believed = believed(&specs);
-    let is_prepared = |item: &Item| PREPARED.contains(&item.krate.as_str());
-    let parted = |item: &Item| !is_of_steps(item) && !is_prepared(item);
-    let all = specs.all().into_iter().filter(parted);
+    let all = specs.all().into_iter().filter(|item| !is_of_steps(item));
     let idle: Vec<Item> = all.filter(|item| !believed.contains(item)).collect();
     assert!(idle.is_empty(), "not believed: {idle:#?}");
 }

@@ -5,7 +5,7 @@ use reference::shared::Places;
 use tests::calls::Setting;
 use tests::circuits::{faults_of_five, FIVE};
 use tests::office::{none, some, Office};
-use tests::proofs::{places, Check, Prove};
+use tests::proofs::{places, Check, Prove, HEADER};
 use tests::random::Random;
 use tests::shared::{append, finished, proved, Both, WORK};
 use wivulameno::proof::SharedChecker;
@@ -296,13 +296,13 @@ fn every_number_on_entry() {
         (6, with(&|check| check.y.clear())),
         (6, with(&|check| check.message = vec![0; 4097])),
         (7, with(&|check| check.y[0] |= 0x08)),
-        (11, with(&|check| check.proof.truncate(37))),
+        (11, with(&|check| check.proof.truncate(HEADER - 1))),
         (11, with(&|check| check.proof[5] = 1)),
         (11, with(&|check| check.proof[4] = 3)),
         (11, with(&|check| check.proof[2] = check.proof[0])),
         (12, with(&|check| check.proof.push(0))),
         (12, with(&|check| check.proof.truncate(200))),
-        (12, with(&|check| check.proof.truncate(38))),
+        (12, with(&|check| check.proof.truncate(HEADER))),
     ];
     for (number, circuit) in faults_of_five() {
         cases.push((number, with(&|check| check.circuit = circuit.clone())));
@@ -320,7 +320,7 @@ fn every_number_on_entry() {
         assert_eq!(office.enter(3, places), Err(number));
         assert_eq!(office.check(1), Err(28));
     }
-    for place in [all_places[0].1, 38] {
+    for place in [all_places[0].1, HEADER] {
         let check = with(&|check| check.proof[place] ^= 1);
         let number = check.by_reference().expect_err("a changed bit");
         assert!([10, 13].contains(&number));

@@ -7,7 +7,7 @@ use tests::calls::{Setting, COUNTS};
 use tests::circuits::{damaged, faults_of_five, FIVE};
 use tests::office::Office;
 use tests::outcomes::Outcomes;
-use tests::proofs::{Check, Prove};
+use tests::proofs::{Check, Prove, HEADER};
 use tests::random::Random;
 use tests::shared::{append, finished, of_eight_and_of_five, WORK};
 
@@ -21,7 +21,9 @@ struct Known {
 }
 
 impl Known {
-    fn of(check: Check) -> Known {
+    fn of(mut check: Check) -> Known {
+        // The work buffer is enough for a changed circuit, too.
+        check.work_len = WORK;
         let alone = check.by_reference();
         let services = match Checkable::of(check.statement(), &check.proof) {
             Ok(proof) => {
@@ -66,7 +68,7 @@ fn pool(random: &mut Random, count: usize, most: usize) -> Vec<Known> {
             2 => check.message = vec![0; 4097],
             3 => check.proof.truncate(random.below(last)),
             4 => check.proof[random.below(6)] ^= 1,
-            5 | 6 => check.proof[random.from_to(38, last)] ^= 1 << random.below(8),
+            5 | 6 => check.proof[random.from_to(HEADER, last)] ^= 1 << random.below(8),
             7 => check.proof[last] ^= 0x80,
             _ => {}
         }

@@ -4,7 +4,7 @@
 use reference::shared::{Answer, Places, Shared, CALLERS};
 use tests::outcomes::Outcomes;
 use tests::paged::{Edge, Paged};
-use tests::proofs::Check;
+use tests::proofs::{Check, HEADER};
 use tests::random::Random;
 use tests::shared::{append, finished, is_outside, proved, verdict_bytes, WORK};
 use wivulameno::limits::SHARED_STATE;
@@ -172,7 +172,7 @@ fn a_buffer(random: &mut Random) -> (Vec<u8>, Vec<Places>) {
     for which in 0..5 {
         let mut check = all[which].clone();
         let last = check.proof.len() - 1;
-        check.proof[random.from_to(38, last)] ^= 1;
+        check.proof[random.from_to(HEADER, last)] ^= 1;
         all.push(check);
     }
     let places = all.iter().map(|check| append(&mut buffer, check)).collect();

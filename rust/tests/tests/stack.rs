@@ -16,7 +16,7 @@ use wivulameno::limits::MAX_WORK;
 use wivulameno::proof::{check, prove, Counts, Places, SharedChecker, Statement};
 use wivulameno::{burn_stack, seeds, shelf, Work};
 
-/// The promise of the header and of the README.
+/// The promise of the header and of `docs/embedding.md`.
 const MOST: usize = 96 * 1024;
 
 /// The C functions themselves: the crate's functions burn the stack, so that its use

@@ -294,7 +294,7 @@ mod tests {
         rest.split('"').next().unwrap().parse().expect("a number")
     }
 
-    /// No label lies on another one or on a point, also in the image of the README.
+    /// No label lies on another one or on a point, also in the image of `docs/cost.md`.
     #[test]
     fn labels_can_be_read() {
         let text = include_str!("../../../docs/proof-cost.txt");

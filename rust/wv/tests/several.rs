@@ -120,9 +120,9 @@ fn one_of_several_is_refused() {
     let [short, _, long] = all_accepted();
     let proof = folder.read("wide");
     let circuit = at_least(32, true);
-    // Byte 38 is of an opened node: only h* shows that it was changed.
+    // Byte 70 is of an opened node: only h* shows that it was changed.
     let mut changed = proof.clone();
-    changed[38] ^= 1;
+    changed[70] ^= 1;
     let changes = [
         ("wide", proof[1..].to_vec(), 11),
         ("wide", proof[..proof.len() - 1].to_vec(), 12),

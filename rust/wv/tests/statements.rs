@@ -149,7 +149,7 @@ fn a_circuit_of_another_statement() {
     let prove = "prove goods.circuit goods.row --shelf page --log log --message text:a --out proof";
     assert_eq!(folder.wv(prove).status, 0);
     let before = folder.files();
-    let told = "goods.circuit is not what other.statement asks: `wv build` makes the circuit";
+    let told = "goods.circuit is not what other.statement asks: `wv build` makes its circuit";
     folder
         .wv("evaluate goods.circuit goods.row --statement other.statement")
         .unwanted(told);

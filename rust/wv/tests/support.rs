@@ -154,7 +154,8 @@ fn a_page_changed_by_other_hands() {
     stands(&folder, lines, |ended| ended.unwanted(told));
     folder.wv(PROVE).unwanted(told);
     folder.write("page", &page[1..]);
-    let told = "page: put its last good copy back";
+    let told = "page: put the present page back; if there is none, move this one away and begin \
+                a new one with `wv shelf new --lost`";
     stands(&folder, "", |ended| ended.refused(14, told));
     folder.wv(PROVE).refused(14, told);
     folder.wv(STOCK).refused(14, told);

@@ -1,7 +1,7 @@
 -- `hashing::commit` meets its contract: the parts taken in one after the other are their concatenation.
 -- Assumes nothing.
 use mathlib.Core.List.{List, [], _∷_, _++_}
-use Rattle.hashing.specs.Steps.{given, taken}
+use Rattle.hashing.specs.Digest.{given, taken}
 use Rattle.hashing.proofs.Hashes.{bytes-append, bytes-one, empty-room, took-tag, took-more, took-room}
 use Rattle.hashing.proofs.Digests.{given-taken}
 use native.Mathlib.Omega.{arith}

@@ -1,7 +1,7 @@
 -- `hashing::finish` meets its contract: padding, then 32 bytes.
 -- Assumes nothing.
 use Rattle.keccak.specs.Steps.{padded, squeezes}
-use Rattle.hashing.specs.Steps.{given}
+use Rattle.hashing.specs.Digest.{given}
 use native.Mathlib.Omega.{arith}
 use mathlib.Core.Path.{ap, _∙_}
 use borrow.Author.Needs.{needs}

@@ -137,7 +137,7 @@ impl Checked {
 /// for (m, root) in [(64, [7; 16]), (4, [8; 16])] {
 ///     let counts = Counts { m, tau: 1, n: 2 };
 ///     let mut proof = [0; 4096];
-///     let len = prove(statement, &[0b11], &root, counts, &mut proof, &mut work)?;
+///     let len = prove(statement, &[0b11], &root, &[9; 32], counts, &mut proof, &mut work)?;
 ///     places.push(Places::append(&mut buffer, statement, &proof[..len]));
 /// }
 ///

@@ -213,7 +213,9 @@ mod proof {
             ..statement
         };
         match check(other, proof, work) {
-            Err(refusal) => println!("  for another message: {refusal}\n"),
+            Err(refusal) => {
+                println!("  for another message, which gives another challenge: {refusal}\n")
+            }
             Ok(()) => return Err("accepted for another message".into()),
         }
         Ok(())

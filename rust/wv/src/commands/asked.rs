@@ -34,7 +34,7 @@ impl Asked {
         match asked.built.circuit == circuit.bytes() {
             true => Ok(Some(asked)),
             false => Err(Failure::Unwanted(format!(
-                "{} is not what {} asks: `wv build` makes the circuit that is",
+                "{} is not what {} asks: `wv build` makes its circuit, which both sides need",
                 circuit.name(),
                 asked.name()
             ))),

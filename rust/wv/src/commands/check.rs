@@ -43,7 +43,8 @@ line with its name and its verdict is printed as soon as there is one. `--y` and
                      128. The maker chooses M, tau and n: with small ones a
                      proof can be guessed. 0 accepts any
   --quota Q          check side by side, also a single proof, Q instances in a
-                     call: 1 to 512, usually 64. Verdicts come between two calls
+                     call: 1 to 512, usually 512. Verdicts are told between two
+                     calls, and every call reads the circuits again
   --json             print an object with the keys accepted, m, tau, n, bits,
                      refused and message; the last two are null when all is
                      well. With a statement there is the key y, an object (side

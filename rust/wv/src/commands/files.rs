@@ -99,7 +99,9 @@ impl ShelfFiles {
                 "a new shelf needs a new log; if the page of this log is lost, `--lost` begins a \
                  new one, and every older page is refused from then on"
             }
-            Trouble::Exists(Name::Page) => "a page is not replaced",
+            Trouble::Exists(Name::Page) => {
+                "a page is not replaced: go on with it, or move it away first"
+            }
             Trouble::Missing(Name::Log) if lost => {
                 "`--lost` goes on with a log; without it a new shelf is made"
             }
@@ -206,7 +208,10 @@ impl ShelfFiles {
     fn cause(&self, refusal: Refusal) -> String {
         let page = shown(&self.page);
         match refusal {
-            Refusal::Unsound => format!("{page}: put its last good copy back"),
+            Refusal::Unsound => format!(
+                "{page}: put the present page back; if there is none, move this one away and \
+                 begin a new one with `wv shelf new --lost`"
+            ),
             Refusal::Empty => format!("{page}: `wv shelf stock` puts more on it"),
             Refusal::Full => format!("{page}: every slot holds a root"),
             Refusal::Spent => format!("{page}: make a new shelf with a new log"),

@@ -73,8 +73,9 @@ pub const COMMON: &str = "\
 Input bytes are given as the name of a file, as `-` for standard input, as
 `fd:3` for an open descriptor, as `hex:4e20` for bytes typed in hexadecimal, or
 as `text:order 7`. Bits are packed into bytes lowest first. An output is a file,
-or `-` for standard output; it replaces no input, no shelf page and no log. A
-word behind `--` is no option.
+which is replaced if it is there, or `-` for standard output; it may not be an
+input, the shelf page or the log of the same command. A word behind `--` is no
+option.
 
 Exit status:
   0  done or accepted

@@ -15,9 +15,6 @@ use wivulameno::limits::MAX_QUOTA;
 use wivulameno::proof::{Checked, Places, SharedChecker};
 use wivulameno::{Refusal, Work};
 
-/// The instances of a call when nothing else is said.
-const QUOTA: u32 = 64;
-
 /// Checks all proofs, and tells a verdict on each as soon as there is one.
 pub fn check(args: &Args, asked: f64, report: &mut Report) -> Result<(), Failure> {
     let quota = quota(args)?;
@@ -46,7 +43,7 @@ pub fn check(args: &Args, asked: f64, report: &mut Report) -> Result<(), Failure
 
 /// Refused with 8 if it is out of its limits.
 fn quota(args: &Args) -> Result<u32, Failure> {
-    let quota = args.number("quota")?.unwrap_or(QUOTA);
+    let quota = args.number("quota")?.unwrap_or(MAX_QUOTA);
     let cause = || format!("--quota {quota}: 1 to {MAX_QUOTA}");
     match (1..=MAX_QUOTA).contains(&quota) {
         true => Ok(quota),

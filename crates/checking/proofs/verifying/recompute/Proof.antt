@@ -9,7 +9,7 @@ use lib.ListN.{length}
 use Rattle.bits.specs.Bits.{tabulate}
 use Rattle.circuit.specs.File.{circuitOf}
 use Rattle.hashing.specs.Inputs.{allCommitmentsInput, allOnlineInput}
-use Rattle.hashing.specs.Steps.{taken}
+use Rattle.hashing.specs.Digest.{taken}
 use Rattle.proof.specs.Steps.{askOf, asksIn}
 use Rattle.proof.specs.File.{hides, stretchStart}
 use Rattle.proof.specs.Check.{every}

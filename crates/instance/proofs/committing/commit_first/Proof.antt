@@ -6,7 +6,7 @@ use native.Mathlib.Omega.{arith}
 use Prim.Native.Nat.{ℕ, _-_, _*_}
 use Rattle.bits.specs.Bits.{tabulate}
 use Rattle.hashing.specs.Inputs.{commitmentsInput}
-use Rattle.hashing.specs.Steps.{taken}
+use Rattle.hashing.specs.Digest.{taken}
 use Rattle.instance.specs.Steps.{seedsHeld}
 use Rattle.instance.proofs.Rooms.{room-low, seeds-inside, seeds-size}
 use Rattle.instance.proofs.Sent.{seeds-part}

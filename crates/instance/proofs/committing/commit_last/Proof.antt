@@ -6,7 +6,7 @@ use native.Mathlib.Omega.{arith}
 use Prim.Native.Nat.{ℕ, _-_}
 use Rattle.keccak.specs.Steps.{absorbs}
 use Rattle.keccak.proofs.Steps.{absorbs-room}
-use Rattle.hashing.specs.Steps.{given}
+use Rattle.hashing.specs.Digest.{given}
 use Rattle.party.specs.Derive.{commitmentTo}
 use Rattle.instance.proofs.Rooms.{room-low, corrections-inside}
 use Rattle.instance.proofs.Sent.{corrections-part}

@@ -8,7 +8,7 @@ use Prim.Native.Nat.{ℕ, _+_, _-_, _*_, _≤_, _<_}
 use lib.ListN.{length, getD}
 use Rattle.bits.specs.Bits.{tabulate}
 use Rattle.hashing.specs.Inputs.{onlineInput}
-use Rattle.hashing.specs.Steps.{taken}
+use Rattle.hashing.specs.Digest.{taken}
 use Rattle.hashing.proofs.Digests.{taken-room}
 use Rattle.instance.proofs.Online.{sentRow, Same, block-same, online-turn, online-begins, online-ends, block-words, block-planes, block-fits}
 use Rattle.instance.proofs.committing.online.Statement.{statement}

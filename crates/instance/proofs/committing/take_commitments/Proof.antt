@@ -8,7 +8,7 @@ use Prim.Native.Nat.{_-_, _≤_}
 use lib.ListN.{length}
 use Rattle.bits.specs.Bits.{tabulate}
 use Rattle.hashing.specs.Inputs.{commitmentsInput}
-use Rattle.hashing.specs.Steps.{taken}
+use Rattle.hashing.specs.Digest.{taken}
 use Rattle.instance.proofs.Committed.{comAt, commitment-length, coms-none, coms-room, coms-turn, com-theirs, com-own, taken-all}
 use Rattle.instance.proofs.committing.take_commitments.Statement.{statement}
 use Rattle.instance.proofs.committing.take_commitments.Tie as tie

@@ -10,7 +10,7 @@ use Rattle.bits.proofs.Rows.{part-length, rows-none, rows-turn}
 use Rattle.bits.specs.Bits.{tabulate}
 use Rattle.circuit.specs.File.{circuitOf}
 use Rattle.hashing.specs.Inputs.{contextOf, allCommitmentsInput, allOnlineInput}
-use Rattle.hashing.specs.Steps.{taken}
+use Rattle.hashing.specs.Digest.{taken}
 use Rattle.hashing.proofs.Digests.{taken-more}
 use Rattle.instance.specs.Instance.{masterCommitments, masterOnline}
 use Rattle.proof.specs.Steps.{masterIn}

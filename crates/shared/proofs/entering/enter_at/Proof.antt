@@ -4,7 +4,7 @@ use borrow.Author.Needs.{needs}
 use mathlib.Core.Path.{refl, sym, ap, _∙_}
 use Rattle.shared.specs.Steps.{lookedOf}
 use Rattle.shared.specs.Service.{entryAt, jobAt}
-use Rattle.shared.specs.States.{stateOf}
+use Rattle.shared.specs.StateSteps.{stateOf}
 use Rattle.shared.specs.Steps.{seated}
 use Rattle.shared.proofs.Slots.{at-refused, at-taken}
 use Rattle.shared.proofs.entering.enter_at.Statement.{statement}

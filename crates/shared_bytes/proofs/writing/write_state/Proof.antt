@@ -4,7 +4,7 @@ use native.Mathlib.Omega.{arith}
 use mathlib.Core.Path.{_∙_}
 use Prim.Native.Nat.{ℕ, _-_}
 use Rattle.shared_bytes.proofs.Written.{Slots, slots-none, slot-more, slots-end, state-written}
-use Rattle.shared.specs.States.{slotOf}
+use Rattle.shared.specs.StateSteps.{slotOf}
 use Rattle.shared_bytes.specs.Bytes.{slotBytes}
 use lib.ListN.{length-set}
 use Rattle.shared_bytes.proofs.writing.write_state.Statement.{statement}
