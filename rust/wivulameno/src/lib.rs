@@ -85,9 +85,9 @@ use limits::DIGEST_LEN;
 /// The version of this crate, which is that of the C headers and of `wv`.
 pub const VERSION: &str = env!("CARGO_PKG_VERSION");
 
-/// The README's program in Rust, as it stands there.
+/// The program in Rust of `docs/embedding.md`, as it stands there.
 #[cfg(doctest)]
-#[doc = include_str!("../../../README.md")]
+#[doc = include_str!("../../../docs/embedding.md")]
 struct Readme;
 
 fn answer(status: u32) -> Result<(), Refusal> {

@@ -26,6 +26,16 @@ pub struct Input {
     name: Option<String>,
 }
 
+/// For a file that cannot be opened. A name that no file has may be typed bytes.
+fn not_opened(name: &str) -> impl Fn(io::Error) -> Failure + '_ {
+    move |error| match error.kind() {
+        io::ErrorKind::NotFound => Failure::File(format!(
+            "{name}: {error}; what is typed begins with `text:` or `hex:`"
+        )),
+        _ => at(name)(error),
+    }
+}
+
 impl Input {
     fn typed(bytes: Vec<u8>) -> Input {
         Input {
@@ -103,7 +113,7 @@ impl Inputs {
             Form::Descriptor(number) => self.descriptor(number),
             Form::File(path) => {
                 let name = shown(path);
-                let file = File::open(path).map_err(at(&name))?;
+                let file = File::open(path).map_err(not_opened(&name))?;
                 Input::read(file, Place::of(Path::new(path)), name)
             }
         }

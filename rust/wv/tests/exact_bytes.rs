@@ -106,7 +106,7 @@ fn escaped_names() {
         .wv_words(&[b"evaluate", b"covers16.circuit", b"hex:0\xff"])
         .mistaken("`\\xff` is no hexadecimal digit");
     let json = folder.wv_words(&[b"circuit", b"\"no\\\xff\"", b"--json"]);
-    let message = r#""\"no\\\\xff\": No such file or directory (os error 2)""#;
+    let message = r#""\"no\\\\xff\": No such file or directory (os error 2); what is typed begins with `text:` or `hex:`""#;
     let object = format!("{{\"refused\":null,\"message\":{message}}}\n");
     assert_eq!((json.status, json.text()), (2, object.as_str()));
 }

@@ -1,4 +1,4 @@
-//! The commands of the README, as they stand there.
+//! The commands of the README and of `docs/commands.md`, as they stand there.
 #![deny(unused_must_use)]
 #![cfg(unix)]
 
@@ -8,27 +8,36 @@ use common::Folder;
 use std::os::unix::fs::symlink;
 use std::path::Path;
 
-const README: &str = include_str!("../../../README.md");
+const PAGES: [&str; 2] = [
+    include_str!("../../../README.md"),
+    include_str!("../../../docs/commands.md"),
+];
 
 /// The blocks of commands that begin with `wv`.
-fn scripts() -> Vec<&'static str> {
-    let blocks = README.split("```sh\n").skip(1);
+fn scripts(page: &'static str) -> Vec<&'static str> {
+    let blocks = page.split("```sh\n").skip(1);
     let blocks = blocks.map(|block| block.split("```").next().expect("its end"));
     blocks.filter(|block| block.starts_with("wv ")).collect()
 }
 
-/// One block after the other, in one folder, beside the examples.
+/// One block of a page after the other, in one folder, beside the examples. A block that
+/// checks ends with what the check says.
 #[test]
 fn every_command_works() {
-    let folder = Folder::new("readme");
-    let examples = Path::new(env!("CARGO_MANIFEST_DIR")).join("../../examples");
-    symlink(examples, folder.path("examples")).expect("a link");
-    let scripts = scripts();
-    assert!(scripts.len() >= 2);
-    for script in scripts {
-        let ended = folder.sh(&format!("set -e\n{script}"));
-        assert_eq!((ended.status, ended.err.as_str()), (0, ""), "{script}");
-        assert!(ended.text().ends_with(" bits\n"), "{script}: {ended:?}");
-        assert!(ended.text().contains("accepted, "), "{script}: {ended:?}");
+    for page in PAGES {
+        let folder = Folder::new("readme");
+        let examples = Path::new(env!("CARGO_MANIFEST_DIR")).join("../../examples");
+        symlink(examples, folder.path("examples")).expect("a link");
+        let scripts = scripts(page);
+        assert!(scripts.len() >= 2);
+        assert!(scripts.iter().any(|script| script.contains("wv check ")));
+        for script in scripts {
+            let ended = folder.sh(&format!("set -e\n{script}"));
+            assert_eq!((ended.status, ended.err.as_str()), (0, ""), "{script}");
+            if script.contains("wv check ") {
+                assert!(ended.text().ends_with(" bits\n"), "{script}: {ended:?}");
+                assert!(ended.text().contains("accepted, "), "{script}: {ended:?}");
+            }
+        }
     }
 }
