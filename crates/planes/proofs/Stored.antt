@@ -18,10 +18,10 @@ use Rattle.words.specs.Words.{every, place, chosen}
 use Rattle.words.specs.Steps.{at}
 use Rattle.words.proofs.Columns.{chosen-lt, every-lt, word-put}
 use Rattle.words.proofs.Fill.{fill-at, fill-length, fill-other}
-use Rattle.words.proofs.Turns.{blocks-bit}
+use Rattle.words.proofs.Turns.{blocks-bit, leAt-blocks}
 use Rattle.planes.specs.Steps.{tapeWords, tapeAt, broadcastWord, planesEnd, tape, rowsIn, storedWords, storedGroups, storedRows, putBits, putParty}
 use Rattle.planes.specs.declared.Layout.{Layout}
-use Rattle.planes.proofs.Turning.{group-within, leAt-blocks, rows-few, rows-in, rows-left}
+use Rattle.planes.proofs.Turning.{group-within, rows-few, rows-in, rows-left}
 use Rattle.planes.proofs.Views.{byte-other, word-length, word-same, word-other}
 
 -- row p's bytes end before row u's, where p is before u

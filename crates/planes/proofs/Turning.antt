@@ -15,13 +15,12 @@ use lib.Seq.{sets}
 use lib.Pow.{pow-mono, pow-pos}
 use Rattle.bits.specs.Bits.{bitVal, odd, testBit, fromBits, bitAt}
 use Rattle.bits.specs.Bytes.{leAt, leBytes}
-use Rattle.bits.proofs.Little.{leAt-last, leAt-zero, pow-bytes}
 use Rattle.bits.proofs.Numbers.{eq-or-ne, ext-bits, fromBits-cong, fromBits-lt, lt-or-le, odd-bitVal, testBit-fromBits, testBit-high, testBit-zero}
 use Rattle.bits.proofs.Packing.{bitAt-byte}
 use Rattle.words.specs.Words.{every, place, chosen}
-use Rattle.words.specs.Steps.{at, fill, turned}
+use Rattle.words.specs.Steps.{at, fill, turned, columnWords, transposedRows, storedColumn}
 use Rattle.words.proofs.Fill.{fill-at, fill-cong, fill-join, fill-length, fill-none, fill-other, fill-turn}
-use Rattle.words.proofs.Turns.{blocks, blocks-bit, blocks-lt}
+use Rattle.words.proofs.Turns.{blocks, blocks-bit, blocks-lt, column-bits, column-end, column-turned, leAt-blocks}
 use Rattle.planes.specs.Steps.{tapeWords, tapeAt, broadcastWord, cleared, clearedTapes, loadedWords, rowsIn, loadedGroups, loadedTapes, storedWords, storedGroups, storedRows, putBits, putParty}
 use Rattle.planes.specs.declared.Layout.{Layout}
 
@@ -76,6 +75,32 @@ store-turn n m w r v from a len k e d =
     let g : from + 64 * k + t * 8 ≡ from + 8 * (8 * k + t) = omega arith in
     ap (λ (u : ℕ). testBit (at m u) p) g))
     ∙ rw add-one
+
+-- a column of a block of words
+pub store-column : (n : ℕ) (m w r v c : List ℕ) (from a len b : ℕ) → n ≤ 8 → b < 8 → c ≡ transposedRows (columnWords m from)
+    → r ≡ storedWords n m from b a len w → v ≡ storedColumn n c b (a + b) len r → v ≡ storedWords n m from (b + 1) a len w
+store-column n m w r v c from a len b few hb e f d =
+    store-turn n m w r v from a len b f
+    (column-turned 8 n m r v (columnWords m from) c (from + 64 * b) 8 (a + b) len b (omega arith) few hb
+    (λ p t hp ht. column-bits m from b p t hp hb ht) (λ p t hp. column-end m from (8 * b + t) p hp) e d)
+
+-- c bytes more of each row
+pub store-more : (n : ℕ) (m w r : List ℕ) (from a len k c : ℕ) → r ≡ storedWords n m from k a len w
+    → storedWords n m (from + 64 * k) c (a + k) len r ≡ storedWords n m from (k + c) a len w
+unfolding storedWords
+store-more n m w r from a len k zero e = e ∙ ap (λ (i : ℕ). storedWords n m from i a len w) (sym (add-zero k))
+store-more n m w r from a len k (suc c) e =
+    let start : a + k + c ≡ a + (k + c) = omega arith in
+    let next : suc (k + c) ≡ k + suc c = omega arith in
+    let f : ℕ → ℕ = λ p. fromBits 8 (λ t. testBit (at m (from + 8 * (8 * (k + c) + t))) p) in
+    ap₂ (λ (i : ℕ) (x : List ℕ). fill (λ p. i + p * len) (λ p. fromBits 8 (λ t. testBit (at m (from + 64 * k + 8 * (8 * c + t))) p)) n x) start
+    (store-more n m w r from a len k c e)
+    ∙ fill-cong (λ p. a + (k + c) + p * len) _ f (storedWords n m from (k + c) a len w) n
+    (λ p l. fromBits-cong 8 _ (λ t. testBit (at m (from + 8 * (8 * (k + c) + t))) p)
+    (λ t h.
+    let g : from + 64 * k + 8 * (8 * c + t) ≡ from + 8 * (8 * (k + c) + t) = omega arith in
+    ap (λ (u : ℕ). testBit (at m u) p) g))
+    ∙ ap (λ (i : ℕ). storedWords n m from i a len w) next
 
 -- no group yet
 pub tapes-none : (n : ℕ) (s : List ℕ) (len to : ℕ) (m : List ℕ) → m ≡ loadedGroups n s len 0 to m
@@ -158,13 +183,6 @@ module _ (n : ℕ) (s : List ℕ) (len to : ℕ) (m : List ℕ) where
       same-side : (b g : ℕ) → b ≢ g → ltb b g ≡ ltb b (suc g)
       same-side b g e =
           ⊎-elim (λ l. lt-ltb b g l ∙ sym (lt-ltb b (suc g) (omega arith))) (λ l. le-ltb b g l ∙ sym (le-ltb b (suc g) (omega arith))) (lt-or-le b g)
-
--- the number in n bytes
-pub leAt-blocks : (n : ℕ) (s : List ℕ) (k : ℕ) → leAt n s k ≡ blocks 8 (λ i. getD s (k + i) 0) n
-unfolding blocks
-leAt-blocks zero s k = leAt-zero s k
-leAt-blocks (suc n) s k =
-    leAt-last n s k ∙ ap₂ (λ (x y : ℕ). x + getD s (k + n) 0 * y) (leAt-blocks n s k) (pow-bytes n) ∙ add-comm _ _
 
 blocks-cong : (w : ℕ) (f g : ℕ → ℕ) (n : ℕ) → ((i : ℕ) → i < n → f i ≡ g i) → blocks w f n ≡ blocks w g n
 unfolding blocks

@@ -1,23 +1,24 @@
 -- Rows and words of one memory: one turn of each loop, and the whole steps.
 -- Assumes nothing.
-use mathlib.Core.Path.{_≡_, sym, ap, ap₂, _∙_}
+use mathlib.Core.Path.{_≡_, refl, sym, ap, ap₂, _∙_}
 use mathlib.Core.List.{List, [], _∷_}
-use Prim.Native.Nat.{ℕ, _+_, _-_, _*_, _/_, _%_, _≤_, _<_}
+use mathlib.Core.Logic.{⊎-elim}
+use Prim.Native.Nat.{ℕ, zero, suc, _+_, _-_, _*_, _/_, _%_, _≤_, _<_}
 use native.Mathlib.Omega.{arith}
-use lib.ListN.{length, getD, take, drop, length-drop}
+use lib.ListN.{length, getD, take, drop, length-drop, List·getD-eq-default}
 use lib.Seq.{sets, getD-drop, getD-take, length-take-le}
 use Rattle.bits.specs.Bits.{bitVal, odd, testBit, fromBits, bitAt}
 use Rattle.bits.specs.Bytes.{leAt, leBytes, rowOf}
-use Rattle.bits.proofs.Numbers.{fromBits-cong, testBit-fromBits}
+use Rattle.bits.proofs.Numbers.{fromBits-cong, lt-or-le, testBit-fromBits}
 use Rattle.bits.proofs.Packing.{bitAt-byte}
 use Rattle.bits.proofs.Rows.{row-getD, row-length}
 use Rattle.words.specs.Words.{every, place, chosen}
-use Rattle.words.specs.Steps.{at, transposed, gathered, scattered, turned}
-use Rattle.words.proofs.Fill.{fill-cong, fill-read}
-use Rattle.words.proofs.Turns.{blocks-bit, place-within, turned-word}
+use Rattle.words.specs.Steps.{at, fill, transposed, gathered, scattered, turned, rowWords, transposedRows, storedColumn}
+use Rattle.words.proofs.Fill.{fill-cong, fill-join, fill-read}
+use Rattle.words.proofs.Turns.{blocks-bit, column-turned, leAt-blocks, place-within, row-bits, row-none, turned-word}
 use Rattle.planes.specs.Steps.{tapeAt, broadcastWord, correctionsAt, rowsAt, tape, clearedTapes, loadedWords, rowsIn, loadedGroups, loadedRows, storedWords, storedBlock, putBits, putParty}
 use Rattle.planes.specs.declared.Layout.{Layout}
-use Rattle.planes.proofs.Turning.{groups-other, leAt-blocks, load-turn, party-put, put-bytes-turn, put-turn, store-turn, tapes-loaded, tapes-turn}
+use Rattle.planes.proofs.Turning.{groups-other, load-turn, party-put, put-bytes-turn, put-turn, store-more, store-turn, tapes-loaded, tapes-turn}
 use Rattle.planes.proofs.Views.{clear-length}
 use Rattle.planes.proofs.Stored.{put-byte, stored-at, stored-other}
 use Rattle.planes.proofs.Held.{bitAt-held, clear-other, drop-cong, words-source}
@@ -58,6 +59,29 @@ module _ (n len a : ℕ) (m rows : List ℕ) (room : a + n * len ≤ length m) (
       let place : a + (k + p * len) ≡ a + k + p * len = omega arith in
       rows-byte (k + p * len) (omega (arith, place-within p n len q)) ∙ ap (at m) place)
 
+  rows-small : ((j : ℕ) → getD m j 0 < 256) → (j : ℕ) → getD rows j 0 < 256
+  rows-small h j =
+      ⊎-elim
+      (λ l. rw (rows-byte j l) (h (a + j)))
+      (λ l.
+      let past : length rows ≤ j = omega (arith, rows-length) in
+      let none : getD rows j 0 ≡ 0 = List·getD-eq-default rows 0 past in
+      omega arith)
+      (lt-or-le j (n * len))
+
+  -- byte k + b of each of them, as a column of 8 bytes of each, transposed
+  pub rows-column : (small : (j : ℕ) → getD m j 0 < 256) (k to b : ℕ) (x v w : List ℕ) → n ≤ 8 → b < 8 → k + 8 ≤ len
+      → w ≡ transposedRows (rowWords n rows k len) → x ≡ loadedWords n m (a + k) len b to m → v ≡ storedColumn 8 w b (to + 64 * b) 8 x
+      → v ≡ loadedWords n m (a + k) len (b + 1) to m
+  rows-column small k to b x v w few hb h e f d =
+      load-turn n m m x v (a + k) len to b f
+      (column-turned n 8 m x v (rowWords n rows k len) w (a + k + b) len (to + 64 * b) 8 b few (omega arith) hb
+      (λ p t hp ht.
+      let place : a + (k + b + p * len) ≡ a + k + b + p * len = omega arith in
+      row-bits n rows k len b p t (rows-small small) few hb hp ht
+      ∙ ap (λ (y : ℕ). testBit y t) (rows-byte (k + b + p * len) (omega (arith, place-within p n len hp)) ∙ ap (at m) place))
+      (λ p t hp. row-none n rows k len (8 * b + t) p hp) e d)
+
 -- one byte more of each row: the rows stand after the words
 pub load-within-turn : (n : ℕ) (w m v : List ℕ) (a len to k : ℕ) → to + 64 * len ≤ a + 7 → k < len → m ≡ loadedWords n w a len k to w
     → v ≡ turned n 8 m (a + k) len (to + 64 * k) 8 m → v ≡ loadedWords n w a len (k + 1) to w
@@ -66,6 +90,27 @@ load-within-turn n w m v a len to k low h e d =
     load-turn n w w m v a len to k e
     (d ∙ turned-source n 8 m w (a + k) (a + k) len (to + 64 * k) 8 m (λ p l. fill-read _ _ w m (8 * k) (a + k + p * len) e (λ u x q. omega arith)))
 
+-- eight bytes more of each row
+pub load-block-turn : (n : ℕ) (w m v : List ℕ) (a len to k : ℕ) → to + 64 * len ≤ a + 7 → k + 8 ≤ len → m ≡ loadedWords n w a len k to w
+    → v ≡ loadedWords n m (a + k) len 8 (to + 64 * k) m → v ≡ loadedWords n w a len (k + 8) to w
+unfolding loadedWords
+load-block-turn n w m v a len to k low h e d =
+    let pos : ℕ → ℕ = λ q. to + 8 * q in
+    let f : ℕ → ℕ = λ q. fromBits n (λ p. bitAt w (8 * (a + p * len) + q)) in
+    let pos′ : ℕ → ℕ = λ q. to + 64 * k + 8 * q in
+    let f′ : ℕ → ℕ = λ q. fromBits n (λ p. bitAt m (8 * (a + k + p * len) + q)) in
+    let i : 8 * k + 64 ≡ 8 * (k + 8) = omega arith in
+    d ∙ ap (fill pos′ f′ 64) e
+    ∙ fill-join pos f pos′ f′ w (8 * k) 64 (λ z l. omega arith)
+    (λ z l. fromBits-cong n (λ p. bitAt m (8 * (a + k + p * len) + z)) (λ p. bitAt w (8 * (a + p * len) + (8 * k + z)))
+    (λ p x.
+    let u : 8 * (a + k + p * len) + z ≡ 8 * (a + k + z / 8 + p * len) + z % 8 = omega arith in
+    let y : 8 * (a + k + z / 8 + p * len) + z % 8 ≡ 8 * (a + p * len) + (8 * k + z) = omega arith in
+    ap (bitAt m) u ∙ bitAt-byte m (a + k + z / 8 + p * len) (z % 8) (omega arith)
+    ∙ ap (λ (c : ℕ). testBit c (z % 8)) (fill-read pos f w m (8 * k) (a + k + z / 8 + p * len) e (λ t g q. omega arith))
+    ∙ sym (bitAt-byte w (a + k + z / 8 + p * len) (z % 8) (omega arith)) ∙ ap (bitAt w) y))
+    ∙ ap (λ (c : ℕ). fill pos f c w) i
+
 pub store-within-turn : (n : ℕ) (w m v : List ℕ) (from a len k : ℕ) → from + 64 * len ≤ a + 7 → k < len → m ≡ storedWords n w from k a len w
     → v ≡ turned 8 n m (from + 64 * k) 8 (a + k) len m → v ≡ storedWords n w from (k + 1) a len w
 store-within-turn n w m v from a len k low h e d =
@@ -73,6 +118,26 @@ store-within-turn n w m v from a len k low h e d =
     (d ∙ turned-source 8 n m w (from + 64 * k) (from + 64 * k) 8 (a + k) len m
     (λ t l. ap (λ (x : List ℕ). at x (from + 64 * k + t * 8)) e
     ∙ stored-other n w from a len w k (from + 64 * k + t * 8) (omega arith) (λ i p x y q. omega arith)))
+
+-- the bytes that are stored may be those of another memory
+store-source : (n : ℕ) (s t : List ℕ) (from c a len : ℕ) (r : List ℕ) → ((u : ℕ) → u < 8 * c → at s (from + 8 * u) ≡ at t (from + 8 * u))
+    → storedWords n s from c a len r ≡ storedWords n t from c a len r
+unfolding storedWords
+store-source n s t from zero a len r h = refl
+store-source n s t from (suc c) a len r h =
+    ap (fill (λ p. a + c + p * len) (λ p. fromBits 8 (λ i. testBit (at s (from + 8 * (8 * c + i))) p)) n) (store-source n s t from c a len r (λ u l. h u (omega arith)))
+    ∙ fill-cong (λ p. a + c + p * len) _ (λ p. fromBits 8 (λ i. testBit (at t (from + 8 * (8 * c + i))) p)) (storedWords n t from c a len r) n
+    (λ p l. fromBits-cong 8 _ (λ i. testBit (at t (from + 8 * (8 * c + i))) p) (λ i q. ap (λ (x : ℕ). testBit x p) (h (8 * c + i) (omega arith))))
+
+-- eight bytes more of each row
+pub store-block-turn : (n : ℕ) (w m v : List ℕ) (from a len k : ℕ) → from + 64 * len ≤ a + 7 → k + 8 ≤ len → m ≡ storedWords n w from k a len w
+    → v ≡ storedWords n m (from + 64 * k) 8 (a + k) len m → v ≡ storedWords n w from (k + 8) a len w
+store-block-turn n w m v from a len k low h e d =
+    d
+    ∙ store-source n m w (from + 64 * k) 8 (a + k) len m
+    (λ u l. ap (λ (x : List ℕ). at x (from + 64 * k + 8 * u)) e
+    ∙ stored-other n w from a len w k (from + 64 * k + 8 * u) (omega arith) (λ i p x y q. omega arith))
+    ∙ store-more n w w m from a len k 8 e
 
 -- one group more: the rows are read from the memory as it then is
 pub groups-within-turn : (n r : ℕ) (w m v : List ℕ) (a len to g : ℕ) → to + 64 * len ≤ a → g ≤ 8 → r ≡ rowsIn n g → m ≡ loadedGroups n (drop a w) len g to w

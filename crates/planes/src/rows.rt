@@ -7,18 +7,41 @@ use crate::Layout;
 use crate::places::rows_at;
 use crate::places::tape_at;
 use crate::tapes::rows_in;
+use words::blocks::read_columns;
+use words::blocks::store_column;
+use words::blocks::transpose_rows;
 use words::transpose::turn;
 use words::transpose::turn_within;
 
-// Brings words into n rows of len bytes, n at most 8, the first from byte a of rows on: the byte of word q is at from + 8 q.
+// Brings 64 words into 8 bytes of each of n rows of len bytes, n at most 8, those of the first from byte a of rows on: the byte of word q is
+// at from + 8 q.
+fn store_eight(memory: &[u8], from: usize, n: usize, rows: &mut [u8], a: usize, len: usize)
+    requires { ⌜ (n ≤ 8) × ((«from» + 504 < length (now memory)) × ((len ≤ length (now memory)) × (a + n * len + 7 < length (now rows) + len))) ⌝ }
+    ensures { λ _. ⌜ now (rows .exit) ≡ storedWords n (now (memory .entry)) «from» 8 a len (now (rows .entry)) ⌝ }
+{
+    let r = transpose_rows(read_columns(memory, from));
+    let mut b = 0;
+    while b < 8 {
+        store_column(r, b, rows, a + b, len, n);
+        b += 1;
+    }
+}
+
+// Brings words into n rows of len bytes, n at most 8, the first from byte a of rows on: the byte of word q is at from + 8 q. Eight bytes of
+// each row at a time, then those that are left one by one.
 fn store_words(memory: &[u8], from: usize, n: usize, rows: &mut [u8], a: usize, len: usize)
     requires { ⌜ (n ≤ 8) × ((«from» + 64 * len ≤ length (now memory) + 7) × (a + n * len ≤ length (now rows))) ⌝ }
     ensures { λ _. ⌜ now (rows .exit) ≡ storedWords n (now (memory .entry)) «from» len a len (now (rows .entry)) ⌝ }
 {
     let mut k = 0;
     while k < len {
-        turn(memory, from + 64 * k, 8, 8, rows, a + k, len, n);
-        k += 1;
+        if len - k >= 8 {
+            store_eight(memory, from + 64 * k, n, rows, a + k, len);
+            k += 8;
+        } else {
+            turn(memory, from + 64 * k, 8, 8, rows, a + k, len, n);
+            k += 1;
+        }
     }
 }
 
@@ -44,6 +67,19 @@ pub fn store_rows(l: Layout, memory: &[u8], n: usize, rows: &mut [u8], len: usiz
     store_groups(memory, from, n, rows, len);
 }
 
+// Brings 64 words into 8 bytes of each of n rows of the memory, as store_eight does.
+fn store_eight_within(memory: &mut [u8], from: usize, n: usize, a: usize, len: usize)
+    requires { ⌜ (n ≤ 8) × ((«from» + 504 < length (now memory)) × ((len ≤ length (now memory)) × (a + n * len + 7 < length (now memory) + len))) ⌝ }
+    ensures { λ _. ⌜ now (memory .exit) ≡ storedWords n (now (memory .entry)) «from» 8 a len (now (memory .entry)) ⌝ }
+{
+    let r = transpose_rows(read_columns(memory, from));
+    let mut b = 0;
+    while b < 8 {
+        store_column(r, b, memory, a + b, len, n);
+        b += 1;
+    }
+}
+
 // Brings the words from `from` on into n rows of len bytes of the memory, n at most 8, the first from byte a on, as store_words does.
 fn store_within(memory: &mut [u8], from: usize, n: usize, a: usize, len: usize)
     requires { ⌜ (n ≤ 8) × ((«from» + 64 * len ≤ a + 7) × (a + n * len ≤ length (now memory))) ⌝ }
@@ -51,8 +87,13 @@ fn store_within(memory: &mut [u8], from: usize, n: usize, a: usize, len: usize)
 {
     let mut k = 0;
     while k < len {
-        turn_within(memory, from + 64 * k, 8, 8, a + k, len, n);
-        k += 1;
+        if len - k >= 8 {
+            store_eight_within(memory, from + 64 * k, n, a + k, len);
+            k += 8;
+        } else {
+            turn_within(memory, from + 64 * k, 8, 8, a + k, len, n);
+            k += 1;
+        }
     }
 }
 

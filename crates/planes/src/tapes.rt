@@ -10,6 +10,9 @@ use crate::places::corrections_at;
 use crate::places::rows_at;
 use crate::places::tape_at;
 use crate::places::tape_words;
+use words::blocks::read_rows;
+use words::blocks::store_column;
+use words::blocks::transpose_rows;
 use words::chosen;
 use words::every;
 use words::place;
@@ -40,16 +43,37 @@ fn turn_rows(memory: &mut [u8], a: usize, len: usize, n: usize, k: usize, to: us
     scatter(transpose8(x), memory, to + 64 * k, 8, 8);
 }
 
+// Brings 8 bytes, from byte k on, of each of n rows of len bytes of the memory, n at most 8, which are one part of it from byte a on, into 64
+// words: bit q of those bytes to the byte at to + 64 k + 8 q.
+fn load_block(memory: &mut [u8], a: usize, len: usize, n: usize, k: usize, to: usize)
+    requires { ⌜ (n ≤ 8) × ((k + 8 ≤ len) × ((a + n * len ≤ length (now memory)) × (to + 64 * k + 504 < length (now memory)))) ⌝ }
+    ensures { λ _. ⌜ now (memory .exit) ≡ loadedWords n (now (memory .entry)) (a + k) len 8 (to + 64 * k) (now (memory .entry)) ⌝ }
+{
+    let rows = bits::row(&memory[a..], n * len, 0);
+    let w = transpose_rows(read_rows(rows, k, len, n));
+    let first = to + 64 * k;
+    let mut b = 0;
+    while b < 8 {
+        store_column(w, b, memory, first + 64 * b, 8, 8);
+        b += 1;
+    }
+}
+
 // Brings n rows of len bytes of the memory, n at most 8, the first from byte a on, into words before them: bit q of the rows to the byte
-// at to + 8 q.
+// at to + 8 q. Eight bytes of each row at a time, then those that are left one by one.
 fn load_words(memory: &mut [u8], a: usize, len: usize, n: usize, to: usize)
     requires { ⌜ (n ≤ 8) × ((a + n * len ≤ length (now memory)) × (to + 64 * len ≤ a + 7)) ⌝ }
     ensures { λ _. ⌜ now (memory .exit) ≡ loadedWords n (now (memory .entry)) a len len to (now (memory .entry)) ⌝ }
 {
     let mut k = 0;
     while k < len {
-        turn_rows(memory, a, len, n, k, to);
-        k += 1;
+        if len - k >= 8 {
+            load_block(memory, a, len, n, k, to);
+            k += 8;
+        } else {
+            turn_rows(memory, a, len, n, k, to);
+            k += 1;
+        }
     }
 }
 

@@ -20,12 +20,12 @@ use Rattle.words.specs.Steps.{swapped, transposed}
 use Rattle.words.proofs.Columns.{cond-map}
 
 -- whether f holds at every place below n, computed
-abbrev all : ℕ → (ℕ → Bool) → Bool
+abbrev pub all : ℕ → (ℕ → Bool) → Bool
 all zero f = true
 all (suc n) f = all n f && f n
 
 -- so it holds at each
-all-at : (n : ℕ) (f : ℕ → Bool) → all n f ≡ true → (k : ℕ) → k < n → f k ≡ true
+pub all-at : (n : ℕ) (f : ℕ → Bool) → all n f ≡ true → (k : ℕ) → k < n → f k ≡ true
 all-at zero f e k l = absurd (omega arith)
 all-at (suc n) f e k l =
     ⊎-elim (λ q. ap f q ∙ and-true-right (all n f) (f n) e) (λ lt. all-at n f (and-true-left (all n f) (f n) e) k lt) (eq-or-lt-of-le (le-of-suc-le-suc l))
@@ -36,7 +36,7 @@ not-true true e = sym e
 not-true false e = refl
 
 -- place z is one that an exchange reaches from below
-abbrev above : ℕ → ℕ → ℕ → Bool
+abbrev pub above : ℕ → ℕ → ℕ → Bool
 above m d z = not (ltb z d) && testBit m (z - d)
 
 -- where the bit at place z comes from

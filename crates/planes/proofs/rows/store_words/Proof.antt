@@ -1,11 +1,11 @@
 -- `planes::rows::store_words` meets its contract. The invariant: k bytes of each row are stored.
 -- Assumes nothing.
-use Rattle.planes.specs.Steps.{storedWords}
-use Rattle.planes.proofs.Turning.{store-none, store-turn}
 use native.Mathlib.Omega.{arith}
 use mathlib.Core.Path.{_≡_, refl, ap, _∙_}
 use Prim.Native.Nat.{ℕ, _-_, _≤_}
 use lib.ListN.{length}
+use Rattle.planes.specs.Steps.{storedWords}
+use Rattle.planes.proofs.Turning.{store-more, store-none, store-turn}
 use Rattle.planes.proofs.rows.store_words.Statement.{statement}
 use Rattle.planes.proofs.rows.store_words.Tie as tie
 
@@ -19,6 +19,33 @@ abbrev μ-loop : tie.MeasureT-loop
 loop-holds : tie.Need-loop-holds Inv-loop μ-loop
 loop-holds c = (omega arith, (refl, store-none _ _ _ _ _ _))
 
+sub-if1 : tie.Need-sub-if1 Inv-loop μ-loop
+sub-if1 c = omega arith
+
+mul-store-eight : tie.Need-mul-store-eight Inv-loop μ-loop
+mul-store-eight c = omega arith
+
+add-store-eight : tie.Need-add-store-eight Inv-loop μ-loop
+add-store-eight c = omega arith
+
+add-store-eight-2 : tie.Need-add-store-eight-2 Inv-loop μ-loop
+add-store-eight-2 c = omega arith
+
+store-eight-requires : tie.Need-store-eight-requires Inv-loop μ-loop
+store-eight-requires c κs = (omega arith, (omega arith, (omega arith, omega arith)))
+
+add-k : tie.Need-add-k Inv-loop μ-loop
+add-k c = omega arith
+
+loop-less : tie.Need-loop-less Inv-loop μ-loop
+loop-less c = omega arith
+
+loop-again : tie.Need-loop-again Inv-loop μ-loop
+loop-again c =
+    let l = c .before .before .before .before .before .before .loop in
+    let r = c .before .before .store-eight in
+    (omega arith, (r .kept .1 .1 .1 .0 ∙ l .inv .1 .0, r .ensures ∙ store-more _ _ _ _ _ _ _ _ 8 (l .inv .1 .1)))
+
 mul-turn : tie.Need-mul-turn Inv-loop μ-loop
 mul-turn c = omega arith
 
@@ -31,15 +58,15 @@ add-turn-2 c = omega arith
 turn-requires : tie.Need-turn-requires Inv-loop μ-loop
 turn-requires c κs = ((omega arith, omega arith), (omega arith, omega arith))
 
-add-k : tie.Need-add-k Inv-loop μ-loop
-add-k c = omega arith
+add-k-2 : tie.Need-add-k-2 Inv-loop μ-loop
+add-k-2 c = omega arith
 
-loop-less : tie.Need-loop-less Inv-loop μ-loop
-loop-less c = omega arith
+loop-less-2 : tie.Need-loop-less-2 Inv-loop μ-loop
+loop-less-2 c = omega arith
 
-loop-again : tie.Need-loop-again Inv-loop μ-loop
-loop-again c =
-    let l = c .before .before .before .before .before .loop in
+loop-again-2 : tie.Need-loop-again-2 Inv-loop μ-loop
+loop-again-2 c =
+    let l = c .before .before .before .before .before .before .loop in
     let r = c .before .before .turn in
     (omega arith, (r .kept .1 .1 .1 .1 .0 ∙ l .inv .1 .0, store-turn _ _ _ _ _ _ _ _ _ (l .inv .1 .1) (r .ensures)))
 
@@ -59,12 +86,20 @@ store-words-spec =
     Inv-loop
     μ-loop
     loop-holds
+    sub-if1
+    mul-store-eight
+    add-store-eight
+    add-store-eight-2
+    store-eight-requires
+    add-k
+    loop-less
+    loop-again
     mul-turn
     add-turn
     add-turn-2
     turn-requires
-    add-k
-    loop-less
-    loop-again
+    add-k-2
+    loop-less-2
+    loop-again-2
     same-length
     returns)

@@ -6,7 +6,7 @@ use Prim.Native.Nat.{ℕ, _-_, _≤_}
 use lib.ListN.{length}
 use Rattle.planes.specs.Steps.{loadedWords}
 use Rattle.planes.proofs.Turning.{load-none}
-use Rattle.planes.proofs.Within.{load-within-turn}
+use Rattle.planes.proofs.Within.{load-block-turn, load-within-turn}
 use Rattle.planes.proofs.tapes.load_words.Statement.{statement}
 use Rattle.planes.proofs.tapes.load_words.Tie as tie
 
@@ -20,8 +20,11 @@ abbrev μ-loop : tie.MeasureT-loop
 loop-holds : tie.Need-loop-holds Inv-loop μ-loop
 loop-holds c = (omega arith, (refl, load-none _ _ _ _ _ _))
 
-turn-rows-requires : tie.Need-turn-rows-requires Inv-loop μ-loop
-turn-rows-requires c κs = (omega arith, (omega arith, (omega arith, omega arith)))
+sub-if1 : tie.Need-sub-if1 Inv-loop μ-loop
+sub-if1 c = omega arith
+
+load-block-requires : tie.Need-load-block-requires Inv-loop μ-loop
+load-block-requires c κs = (omega arith, (omega arith, (omega arith, omega arith)))
 
 add-k : tie.Need-add-k Inv-loop μ-loop
 add-k c = omega arith
@@ -31,7 +34,22 @@ loop-less c = omega arith
 
 loop-again : tie.Need-loop-again Inv-loop μ-loop
 loop-again c =
-    let l = c .before .before .before .before .before .loop in
+    let l = c .before .before .before .before .before .before .loop in
+    let r = c .before .before .load-block in
+    (omega arith, (r .kept .0 ∙ l .inv .1 .0, load-block-turn _ _ _ _ _ _ _ _ (omega arith) (omega arith) (l .inv .1 .1) (r .ensures)))
+
+turn-rows-requires : tie.Need-turn-rows-requires Inv-loop μ-loop
+turn-rows-requires c κs = (omega arith, (omega arith, (omega arith, omega arith)))
+
+add-k-2 : tie.Need-add-k-2 Inv-loop μ-loop
+add-k-2 c = omega arith
+
+loop-less-2 : tie.Need-loop-less-2 Inv-loop μ-loop
+loop-less-2 c = omega arith
+
+loop-again-2 : tie.Need-loop-again-2 Inv-loop μ-loop
+loop-again-2 c =
+    let l = c .before .before .before .before .before .before .loop in
     let r = c .before .before .turn-rows in
     (omega arith, (r .kept .0 ∙ l .inv .1 .0, load-within-turn _ _ _ _ _ _ _ _ (omega arith) (omega arith) (l .inv .1 .1) (r .ensures)))
 
@@ -45,4 +63,20 @@ returns c =
     c .before .loop .inv .1 .1 ∙ ap (λ (i : ℕ). loadedWords (x .n) (x .memory .now) (x .a) (x .len) i (x .to) (x .memory .now)) e
 
 pub load-words-spec : {M : Type 1} → statement M
-load-words-spec = tie.close (tie.spec Inv-loop μ-loop loop-holds turn-rows-requires add-k loop-less loop-again same-length returns)
+load-words-spec =
+    tie.close
+    (tie.spec
+    Inv-loop
+    μ-loop
+    loop-holds
+    sub-if1
+    load-block-requires
+    add-k
+    loop-less
+    loop-again
+    turn-rows-requires
+    add-k-2
+    loop-less-2
+    loop-again-2
+    same-length
+    returns)
