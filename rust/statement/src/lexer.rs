@@ -4,7 +4,7 @@ use crate::fault::{Fault, Place};
 use std::fmt;
 
 /// The words that are no names.
-const WORDS: [&str; 8] = ["row", "let", "show", "and", "or", "not", "in", "to"];
+pub const WORDS: [&str; 8] = ["row", "let", "show", "and", "or", "not", "in", "to"];
 
 /// The signs; the longer ones are tried first.
 const SIGNS: [&str; 12] = [
@@ -165,6 +165,12 @@ fn number(word: &str) -> Result<Token, String> {
 fn stray(char: char) -> String {
     let advice = match char {
         '-' => "no number is negative: what is taken off one side is added on the other",
+        '.' => "a number is whole, and a range is written `in (1 to 5)`",
+        '*' => "there is no product: twice a number is the sum `a + a`",
+        '/' | '%' => "there is no division: compare with a sum, as `a + a >= b`",
+        ';' => "a part of a statement ends where the next begins, without a sign",
+        '"' | '\'' | '`' => "names and numbers stand without quotes",
+        '[' | ']' | '{' | '}' => "brackets are `(` and `)`",
         '!' => "`not` stands before a condition, `!=` between two numbers",
         '&' => "write `and`",
         '|' => "write `or`",

@@ -1,7 +1,7 @@
 //! From tokens to a tree. `docs/statements.md` has the grammar.
 
 use crate::fault::{Fault, Place};
-use crate::lexer::{tokens, Token};
+use crate::lexer::{tokens, Token, WORDS};
 use crate::tree::{Comparison, Field, Kind, Name, Part, Value};
 
 /// So deep can brackets and `not` stand in each other.
@@ -80,7 +80,23 @@ impl Parser {
             self.need("=")?;
             return Ok(Part::Let(name, self.value()?));
         }
-        Err(self.expected("`row`, `let` or `show`"))
+        let fault = self.expected("`row`, `let` or `show`");
+        Err(match self.small_letters() {
+            Some(word) => {
+                let advice = format!("{}: the word is `{word}`, in small letters", fault.text);
+                fault.place.fault(advice)
+            }
+            None => fault,
+        })
+    }
+
+    /// The word of the language that the next token is in other letters.
+    fn small_letters(&self) -> Option<&'static str> {
+        let Token::Name(name) = self.next() else {
+            return None;
+        };
+        let small = name.to_ascii_lowercase();
+        WORDS.into_iter().find(|word| *word == small)
     }
 
     /// One or more, with a comma between two.
@@ -126,7 +142,28 @@ impl Parser {
             true => Some(self.value()?),
             false => None,
         };
+        if value.is_none() {
+            self.nothing_computed(&name)?;
+        }
         Ok((name, value))
+    }
+
+    /// Does nothing follow a shown name that would make more of it?
+    fn nothing_computed(&self, name: &Name) -> Result<(), Fault> {
+        let Token::Fixed(word) = self.next() else {
+            return Ok(());
+        };
+        let text = &name.text;
+        let advice = match *word {
+            ":" => format!("what `{text}` stands for comes behind `=`: `show {text} = ..`"),
+            "+" | "in" | "and" | "or" | "not" | "==" | "!=" | ">=" | "<=" | ">" | "<" => format!(
+                "what is computed is shown under a name of its own: `show name = {text} {word} ..`"
+            ),
+            _ => return Ok(()),
+        };
+        Err(self
+            .place()
+            .fault(format!("`{word}` cannot stand here: {advice}")))
     }
 
     fn value(&mut self) -> Parsed {
@@ -215,7 +252,11 @@ impl Parser {
 
     /// A list of numbers and ranges, behind `in`.
     fn member(&mut self, left: Value) -> Parsed {
-        self.need("(")?;
+        if !self.take("(") {
+            let fault = self.expected("`(`");
+            let advice = "numbers and ranges stand in brackets, as `in (3, 5 to 9)`";
+            return Err(fault.place.fault(format!("{}: {advice}", fault.text)));
+        }
         let ranges = self.list(Parser::range)?;
         self.need(")")?;
         Ok(Value {

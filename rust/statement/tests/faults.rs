@@ -55,8 +55,16 @@ fn words_and_signs() {
         ("row a: 4 show b = a == 3 ^&& a == 4", "`&` cannot stand here: write `and`"),
         ("row a: 4 show b = a == 3 ^|| a == 4", "`|` cannot stand here: write `or`"),
         ("row gr^öße: 4 show größe", "`ö` cannot stand here: names have the letters a to z and A to Z, digits and `_`"),
-        ("row a: 4^; show a", "`;` cannot stand here: it has no meaning"),
-        ("row a: 4 show a ^* 2", "`*` cannot stand here: it has no meaning"),
+        ("row a: 4^; show a", "`;` cannot stand here: a part of a statement ends where the next begins, without a sign"),
+        ("row a: 4^$ show a", "`$` cannot stand here: it has no meaning"),
+        ("row a: 4 show a ^* 2", "`*` cannot stand here: there is no product: twice a number is the sum `a + a`"),
+        ("row a: 4\nshow c = a ^/ 2 >= 3", "`/` cannot stand here: there is no division: compare with a sum, as `a + a >= b`"),
+        ("row a: 4\nshow c = a ^% 2 == 1", "`%` cannot stand here: there is no division: compare with a sum, as `a + a >= b`"),
+        ("row a: 4\nshow c = a in (1^..5)", "`.` cannot stand here: a number is whole, and a range is written `in (1 to 5)`"),
+        ("row a: 4\nshow c = a in 1 ^.. 5", "`.` cannot stand here: a number is whole, and a range is written `in (1 to 5)`"),
+        ("row a: 4\nshow c = a >= 1^.5", "`.` cannot stand here: a number is whole, and a range is written `in (1 to 5)`"),
+        ("row ^\"a\": 4", "`\"` cannot stand here: names and numbers stand without quotes"),
+        ("row a: 4 show c = a in ^[1, 2]", "`[` cannot stand here: brackets are `(` and `)`"),
         ("row a: 4 ^\0show a", &format!("{unseen}0000")),
         ("row a: 4 ^\rshow a", &format!("{unseen}000D")),
         ("row a: 4 # a comment^\rshow a", &format!("{unseen}000D")),
@@ -129,6 +137,37 @@ fn parts() {
     ]);
 }
 
+/// What newcomers write, each with the form that is meant.
+#[test]
+fn other_forms() {
+    let named = "what is computed is shown under a name of its own: `show name = a";
+    for word in [
+        "+", "in", "and", "or", "not", "==", "!=", ">=", "<=", ">", "<",
+    ] {
+        let marked = format!("row a: 4\nshow a ^{word} 1");
+        let expected = format!("`{word}` cannot stand here: {named} {word} ..`");
+        assert_fault(marked.as_bytes(), &expected);
+    }
+    assert_faults(&[
+        (
+            "row a: 4, b: 4\nshow b,\n  a ^+ 1",
+            "`+` cannot stand here: what is computed is shown under a name of its own: `show name = a + ..`",
+        ),
+        (
+            "row a: 4\nshow late^: a >= 3",
+            "`:` cannot stand here: what `late` stands for comes behind `=`: `show late = ..`",
+        ),
+        (
+            "row a: 4\nshow c = a >= 3 ^AND a <= 5",
+            "`row`, `let` or `show` is expected, not `AND`: the word is `and`, in small letters",
+        ),
+        (
+            "^Row a: 4",
+            "`row`, `let` or `show` is expected, not `Row`: the word is `row`, in small letters",
+        ),
+    ]);
+}
+
 #[test]
 fn values() {
     let row = "row a: 4, b: 4\nshow c = ";
@@ -165,7 +204,14 @@ fn values() {
             "a == b ^!= 5",
             "a comparison has two sides: join two of them by `and`",
         ),
-        ("a in ^21", "`(` is expected, not `21`"),
+        (
+            "a in ^21",
+            "`(` is expected, not `21`: numbers and ranges stand in brackets, as `in (3, 5 to 9)`",
+        ),
+        (
+            "a not in ^1 to 5",
+            "`(` is expected, not `1`: numbers and ranges stand in brackets, as `in (3, 5 to 9)`",
+        ),
         ("a not ^>= b", "`in` is expected, not `>=`"),
         ("a in (^)", "a number is expected, not `)`"),
         ("a in (1, ^b)", "a number is expected, not `b`"),
