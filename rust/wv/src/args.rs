@@ -5,57 +5,136 @@ use crate::failure::Failure;
 use crate::input::{Input, Inputs};
 use crate::names::shown;
 use std::ffi::{OsStr, OsString};
-use std::path::PathBuf;
+use std::path::{Path, PathBuf};
 use std::str::FromStr;
 use std::time::Duration;
 
 /// The words behind a command's name.
-#[derive(Default)]
 pub struct Args {
+    command: &'static Command,
     places: Vec<OsString>,
     options: Vec<(&'static str, OsString)>,
     flags: Vec<&'static str>,
     inputs: Inputs,
+    torn: Vec<Torn>,
+}
+
+/// What is typed, and the places right behind it: they may be its other words, if it
+/// is not quoted.
+struct Torn {
+    /// `--message ` before what is typed; empty before a place.
+    option: String,
+    typed: String,
+    words: Vec<OsString>,
+}
+
+impl Torn {
+    /// If the word is typed bytes; other words can follow.
+    fn of(option: String, word: &OsStr) -> Option<Torn> {
+        let bytes = word.as_encoded_bytes();
+        let is_typed = bytes.starts_with(b"text:") || bytes.starts_with(b"hex:");
+        is_typed.then(|| Torn {
+            option,
+            typed: shown(word),
+            words: vec![],
+        })
+    }
+
+    /// Is one of the words behind it no file?
+    fn is_likely(&self) -> bool {
+        self.words.iter().any(|word| !Path::new(word).exists())
+    }
+
+    /// What to do if the words behind it are a part of it.
+    fn advice(&self) -> String {
+        let Torn { option, typed, .. } = self;
+        let words: Vec<String> = self.words.iter().map(shown).collect();
+        let (rule, whole) = match typed.starts_with("text:") {
+            true => {
+                let whole = format!("'{typed} {}'", words.join(" "));
+                ("a text with spaces in it is quoted", whole)
+            }
+            false => {
+                let whole = format!("{typed}{}", words.concat());
+                ("hexadecimal digits stand together", whole)
+            }
+        };
+        let first = &words[0];
+        format!("`{first}` stands alone behind `{option}{typed}`: {rule}, as in {option}{whole}")
+    }
 }
 
 impl Args {
     /// Sorts the words. What follows `--` are places.
-    pub fn parse(command: &Command, words: Vec<OsString>) -> Result<Args, Failure> {
-        let mut args = Args::default();
+    pub fn parse(command: &'static Command, words: Vec<OsString>) -> Result<Args, Failure> {
+        let mut args = Args {
+            command,
+            places: vec![],
+            options: vec![],
+            flags: vec![],
+            inputs: Inputs::default(),
+            torn: vec![],
+        };
         let mut words = words.into_iter();
+        let mut is_behind = false;
         while let Some(word) = words.next() {
             if word == "--" {
-                for place in words.by_ref() {
-                    args.take_place(command, place)?;
-                }
+                args.places.extend(words.by_ref());
             } else if word != "-" && word.as_encoded_bytes().starts_with(b"-") {
-                args.take_option(command, &word, &mut words)?;
+                is_behind = args.take_option(&word, &mut words)?;
             } else {
-                args.take_place(command, word)?;
+                is_behind = args.take_place(word, is_behind);
             }
         }
-        let given = args.places.len();
-        if given < command.places || !given.is_multiple_of(command.places) {
-            return Err(command.misused("an argument is missing"));
-        }
+        args.count_places()?;
         Ok(args)
     }
 
-    fn take_place(&mut self, command: &Command, word: OsString) -> Result<(), Failure> {
-        if self.places.len() == command.places * command.times {
-            let text = format!("`{}` is one argument too many", shown(word));
-            return Err(command.misused(&text));
+    /// Are there as many places as the command takes?
+    fn count_places(&self) -> Result<(), Failure> {
+        let Command { places, times, .. } = *self.command;
+        let given = self.places.len();
+        let (most, is_whole) = (places * times, given.is_multiple_of(places.max(1)));
+        if places <= given && given <= most && is_whole {
+            return Ok(());
         }
-        self.places.push(word);
-        Ok(())
+        let wrong = match self.places.get(most) {
+            Some(word) => format!("`{}` is one argument too many", shown(word)),
+            None => {
+                let name = self.command.place_name(given % places);
+                format!("an argument is missing: {name}")
+            }
+        };
+        let torn = self.torn.iter().find(|torn| torn.is_likely());
+        let wrong = torn.filter(|_| given > places).map_or(wrong, Torn::advice);
+        Err(self.command.misused(&wrong))
     }
 
+    /// Takes a place; `is_behind` what is typed, or its words. Can the next one be a
+    /// word of it, too?
+    fn take_place(&mut self, word: OsString, is_behind: bool) -> bool {
+        self.places.push(word.clone());
+        match Torn::of(String::new(), &word) {
+            Some(torn) => {
+                self.torn.push(torn);
+                return true;
+            }
+            None if is_behind => {
+                let torn = self.torn.last_mut();
+                torn.expect("what it is behind").words.push(word);
+            }
+            None => {}
+        }
+        is_behind
+    }
+
+    /// Takes an option with its value. Is this typed?
     fn take_option(
         &mut self,
-        command: &Command,
         word: &OsStr,
         rest: &mut impl Iterator<Item = OsString>,
-    ) -> Result<(), Failure> {
+    ) -> Result<bool, Failure> {
+        let command = self.command;
         let (word, value) = split(word);
         let name = shown(word);
         let is_it = |known: &&&'static str| name.strip_prefix("--") == Some(**known);
@@ -63,20 +142,44 @@ impl Args {
             self.flags.push(flag);
             return match value {
                 Some(_) => Err(command.misused(&format!("`{name}` takes no value"))),
-                None => Ok(()),
+                None => Ok(false),
             };
         }
         let Some(option) = command.options.iter().find(is_it) else {
             return Err(command.misused(&format!("no option `{name}`")));
         };
-        let Some(value) = value.map(OsStr::to_os_string).or_else(|| rest.next()) else {
-            return Err(command.misused(&format!("`{name}` needs a value")));
-        };
+        let next = || self.next_value(option, rest.next());
+        let value = value.map_or_else(next, |value| Ok(value.to_os_string()))?;
         if self.option(option).is_some() && !command.repeated.contains(option) {
             return Err(command.misused(&format!("`{name}` stands there twice")));
         }
+        let torn = Torn::of(format!("{name} "), &value);
+        let is_typed = torn.is_some();
+        self.torn.extend(torn);
         self.options.push((option, value));
-        Ok(())
+        Ok(is_typed)
+    }
+
+    /// The word behind an option, which is its value and not another option.
+    fn next_value(
+        &self,
+        option: &'static str,
+        word: Option<OsString>,
+    ) -> Result<OsString, Failure> {
+        let is_value = |word: &OsString| !word.as_encoded_bytes().starts_with(b"--");
+        let expected = self.command.expected(option);
+        let wrong = match word {
+            Some(word) if is_value(&word) => return Ok(word),
+            Some(word) => {
+                let word = shown(word);
+                format!(
+                    "`--{option}` needs a value, and `{word}` is an option: {expected}; a value \
+                     that begins so is given as --{option}={word}"
+                )
+            }
+            None => format!("`--{option}` needs a value: {expected}"),
+        };
+        Err(self.command.misused(&wrong))
     }
 
     /// The argument at this place, from 0.
@@ -108,7 +211,11 @@ impl Args {
 
     /// The value of an option that has to be there.
     pub fn needed(&self, name: &str) -> Result<&OsStr, Failure> {
-        let missing = || Failure::Usage(format!("`--{name}` is needed"));
+        let missing = || {
+            let expected = self.command.expected(name);
+            let text = format!("`--{name}` is needed: {expected}");
+            self.command.misused(&text)
+        };
         self.option(name).ok_or_else(missing)
     }
 
@@ -148,7 +255,12 @@ impl Args {
 
     /// The bytes that an argument stands for.
     pub fn input(&self, value: &OsStr) -> Result<Input, Failure> {
-        self.inputs.get(value)
+        let read = self.inputs.get(value);
+        let is_word = |torn: &&Torn| torn.words.iter().any(|word| word == value);
+        match self.torn.iter().find(is_word) {
+            Some(torn) if read.is_err() => Err(self.command.misused(&torn.advice())),
+            _ => read,
+        }
     }
 
     /// The bytes that a secret option stands for, if it is there.

@@ -55,6 +55,11 @@ pub const FAMILIES: [Family; 3] = [
     },
 ];
 
+/// The counts of the paper's table 1 for 128 bits that a proof can have. The table also
+/// has n 64 with M 631 and n 128 with M 916: a proof has at most 512 instances, and 64
+/// parties.
+pub const PAPER: &[Counts] = FAMILIES[2].members;
+
 /// What `wv prove` takes when nothing else is said.
 pub const USUAL: Counts = counts(145, 66, 8);
 

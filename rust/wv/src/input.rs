@@ -12,7 +12,7 @@ use wivulameno::limits::{MAX_CIRCUIT, MAX_PROOF};
 
 /// More than the longest proof and than a text of the most gates, and less than
 /// fills a memory.
-const LIMIT: u64 = 1 << 24;
+pub const LIMIT: u64 = 1 << 24;
 const _: () = assert!(MAX_PROOF < LIMIT as usize && MAX_CIRCUIT < MAX_PROOF);
 
 /// What was read, and where.
@@ -57,6 +57,11 @@ impl Input {
             place,
             name: Some(name),
         })
+    }
+
+    /// Does it come from a file, and not from the command line?
+    pub fn is_read(&self) -> bool {
+        self.name.is_some()
     }
 
     /// For a message: what it is, and its name.

@@ -8,6 +8,7 @@ pub mod failure;
 pub mod fresh;
 pub mod input;
 pub mod json;
+pub mod kind;
 pub mod names;
 pub mod output;
 pub mod pages;
@@ -63,7 +64,7 @@ fn help(words: &[String]) -> Result<(), Failure> {
     }
 }
 
-fn run_command(command: &Command, rest: Vec<OsString>) -> Result<(), Failure> {
+fn run_command(command: &'static Command, rest: Vec<OsString>) -> Result<(), Failure> {
     let mut options = rest.iter().take_while(|word| *word != "--");
     if options.clone().any(|word| word == "--help" || word == "-h") {
         return print(&command.full_help());

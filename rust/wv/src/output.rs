@@ -4,11 +4,12 @@
 //! whole and on disk: whatever is cut off, there is the old file or the new one.
 
 use crate::failure::{at, write_out, Failure};
+use crate::kind::{is_log, is_page};
 use crate::names::shown;
 use crate::place::{descriptor, descriptor_named, end_of_links, folder_of, Place};
 use std::ffi::OsStr;
 use std::fs::{self, File, OpenOptions};
-use std::io::{self, Write};
+use std::io::{self, Read, Write};
 use std::path::{Path, PathBuf};
 use std::process;
 
@@ -27,7 +28,8 @@ pub enum Target {
 
 impl Target {
     /// Finds out before the work whether this place can be written, and is none
-    /// of the files that are taken. Nothing is changed.
+    /// of the files that are taken, and no page and no log of any shelf. Nothing is
+    /// changed.
     pub fn find(value: &OsStr, taken: &Taken) -> Result<Target, Failure> {
         let path = end_of_links(Path::new(value));
         let target = match (value == "-", descriptor_named(&path)) {
@@ -40,6 +42,7 @@ impl Target {
             _ => Target::at_path(value, path)?,
         };
         target.is_free(taken)?;
+        target.is_no_shelf()?;
         target.probe()?;
         Ok(target)
     }
@@ -78,6 +81,31 @@ impl Target {
             None => Ok(()),
             Some((what, _)) => {
                 let text = format!("{name} is {what}: the output needs a file of its own");
+                Err(Failure::Usage(text))
+            }
+        }
+    }
+
+    /// Is it no page and no log, which hold roots and draws that are nowhere else?
+    fn is_no_shelf(&self) -> Result<(), Failure> {
+        let (name, found) = match self {
+            Target::Standard => {
+                let found = descriptor(1).ok().and_then(|file| read_again(&file));
+                ("standard output".to_string(), found)
+            }
+            Target::Direct(name, file) => (format!("--out {name}"), read_again(file)),
+            Target::Beside(name, path) => match File::open(path) {
+                Err(error) if error.kind() == io::ErrorKind::NotFound => return Ok(()),
+                opened => (format!("--out {name}"), Some(opened.map_err(at(name))?)),
+            },
+        };
+        let what = found.map(|found| shelf_file(&found)).transpose();
+        match what.map_err(at(&name))?.flatten() {
+            None => Ok(()),
+            Some(what) => {
+                let text = format!(
+                    "{name} is {what}, which no output replaces: give the output another name"
+                );
                 Err(Failure::Usage(text))
             }
         }
@@ -125,6 +153,32 @@ impl Target {
             Target::Beside(name, path) => replace(&path, bytes).map_err(at(&name)),
         }
     }
+}
+
+/// A handle for reading the file behind another handle, if it is one.
+#[cfg(unix)]
+fn read_again(file: &File) -> Option<File> {
+    use std::os::fd::AsRawFd;
+    let is_file = file.metadata().is_ok_and(|found| found.is_file());
+    let opened = is_file.then(|| File::open(format!("/dev/fd/{}", file.as_raw_fd())));
+    opened?.ok()
+}
+
+#[cfg(not(unix))]
+fn read_again(_: &File) -> Option<File> {
+    None
+}
+
+/// What file of a shelf this is, if it is one.
+fn shelf_file(file: &File) -> io::Result<Option<&'static str>> {
+    let len = file.metadata()?.len();
+    let mut start = vec![];
+    file.take(64).read_to_end(&mut start)?;
+    Ok(match (is_page(&start, len), is_log(&start)) {
+        (true, _) => Some("a shelf page"),
+        (_, true) => Some("the log of a shelf"),
+        _ => None,
+    })
 }
 
 /// Is there a name at the end that a file can have?

@@ -53,14 +53,14 @@ fn options(command: &Command) -> Vec<Opt> {
 }
 
 /// The word behind an option in the usage, as `LOG` in `--log LOG`.
-fn value_name(command: &Command, option: &str) -> &'static str {
+pub fn value_name(command: &Command, option: &str) -> &'static str {
     let mut words = command.usage.split([' ', '\n', '[', ']', '(', ')']);
     let found = words.find(|word| word.strip_prefix("--") == Some(option));
     found.and_then(|_| words.next()).unwrap_or("")
 }
 
 /// What the help says of an option, on one line.
-fn about(command: &Command, option: &str) -> String {
+pub fn about(command: &Command, option: &str) -> String {
     let is_it = |term: &str| term.split(' ').next() == Some(&format!("--{option}"));
     let parts = parts(command.help);
     let items = parts.into_iter().filter_map(|part| match part {

@@ -51,7 +51,7 @@ fn a_table_of_good_counts() {
     assert_eq!(head[0], "32 inputs, 17 outputs, 16 AND gates");
     let names: Vec<&str> = head[1].split_whitespace().collect();
     let expected = [
-        "n", "M", "tau", "bits", "bytes", "prove", "ms", "check", "ms",
+        "n", "M", "tau", "bits", "bytes", "at", "most", "prove", "ms", "check", "ms",
     ];
     assert_eq!(names, expected);
     let sizes = sizes(&covers16()).expect("a legal circuit");
@@ -82,6 +82,35 @@ fn a_table_of_good_counts() {
     assert!(rows.iter().all(|row| row.time >= fast.time - 0.021));
     let marks: usize = rows.iter().map(|row| row.marks.len()).sum();
     assert_eq!(marks, 2);
+}
+
+/// Table 1 of the paper for 128 bits, but for n 64 and n 128, which have more than 512
+/// instances. Each stands there once, and other soundness has none of them.
+#[test]
+fn the_papers_counts() {
+    let folder = Folder::new("cost_paper");
+    folder.write("c", &covers16());
+    let ended = folder.wv("cost c --bits 128");
+    assert_eq!((ended.status, ended.err.as_str()), (0, ""));
+    let (_, rows) = rows(ended.text());
+    let is_marked = |row: &&Row| row.marks.iter().any(|mark| mark == "paper");
+    let marked: Vec<_> = rows
+        .iter()
+        .filter(is_marked)
+        .map(|row| row.counts)
+        .collect();
+    let table = [(4, 218, 65), (8, 252, 44), (16, 352, 33), (32, 462, 27)];
+    assert_eq!(marked, table.map(|(n, m, tau)| Counts { m, tau, n }));
+    for counts in &marked {
+        let equal = rows.iter().filter(|row| row.counts == *counts);
+        assert_eq!(equal.count(), 1, "{counts:?}");
+    }
+    assert!(rows.iter().all(|row| row.bits >= 128.0));
+    let parties: Vec<u32> = rows.iter().map(|row| row.counts.n).collect();
+    assert!(parties.is_sorted(), "{parties:?}");
+    let other = folder.wv("cost c --bits 127");
+    assert_eq!(other.status, 0);
+    assert!(!other.text().contains("paper"));
 }
 
 /// A proof with the numbers of the marked row is as long as told, or shorter, and

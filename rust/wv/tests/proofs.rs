@@ -132,7 +132,7 @@ fn refused_proofs() {
     check("hex:f501", "a", &proof).refused(6, "--y has 2 bytes, the circuit asks for 3");
     check("hex:f50102", "a", &proof).refused(7, "--y has bits set behind its 17");
     check("hex:f50100", "a", &proof[..69]).refused(11, "standard input is no proof");
-    check("hex:f50100", "a", b"").refused(11, "standard input is no proof");
+    check("hex:f50100", "a", b"").refused(11, "standard input: it is empty, no proof");
     let mut zeroed = proof.clone();
     zeroed[5] = 1;
     check("hex:f50100", "a", &zeroed).refused(11, "is no proof");

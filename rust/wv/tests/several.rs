@@ -198,9 +198,12 @@ fn for_a_program() {
 fn mistakes() {
     let folder = with_proofs("several_mistakes");
     for quota in ["0", "513", "4294967295"] {
+        let told = format!("--quota {quota}: a call checks 1 to 512 instances");
+        folder.wv(&format!("{ALL} --quota {quota}")).mistaken(&told);
+        let unread = "check none none --y none --message none";
         folder
-            .wv(&format!("{ALL} --quota {quota}"))
-            .refused(8, &format!("--quota {quota}: 1 to 512"));
+            .wv(&format!("{unread} --quota {quota}"))
+            .mistaken(&told);
     }
     for quota in ["-1", "many", "1.5", "4294967296"] {
         folder

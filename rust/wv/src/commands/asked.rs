@@ -5,6 +5,7 @@ use crate::args::Args;
 use crate::failure::Failure;
 use crate::input::Input;
 use crate::json::Value;
+use crate::kind::Kind;
 use crate::output::Taken;
 use crate::report::Report;
 use statement::{build, Built, Fault, Given};
@@ -19,7 +20,7 @@ pub struct Asked {
 impl Asked {
     pub fn read(args: &Args, value: &OsStr) -> Result<Asked, Failure> {
         let input = args.input(value)?;
-        let wrong = |fault| faulty(&input, "the typed statement", &fault);
+        let wrong = |fault| faulty(&input, &STATEMENT, &fault);
         let built = build(&input.bytes).map_err(wrong)?;
         Ok(Asked { input, built })
     }
@@ -57,6 +58,26 @@ impl Asked {
         lines.collect()
     }
 
+    /// The conditions that a y shows as not met.
+    pub fn unmet(&self, y: &[u8]) -> Vec<&str> {
+        let values = self.built.y.unpack(y).into_iter();
+        let unmet = values.filter(|(_, value)| *value == Given::Condition(false));
+        unmet.map(|(name, _)| name).collect()
+    }
+
+    /// What the first y shows and the second does not, and the other way round.
+    pub fn differences(&self, first: &[u8], second: &[u8]) -> [String; 2] {
+        let [first, second] = [first, second].map(|y| self.built.y.unpack(y));
+        let without = |one: &[(&str, Given)], other: &[(&str, Given)]| {
+            let others = one.iter().filter(|value| !other.contains(value));
+            let lines: Vec<String> = others
+                .map(|(name, value)| format!("{name}={value}"))
+                .collect();
+            lines.join(" ")
+        };
+        [without(&first, &second), without(&second, &first)]
+    }
+
     /// Reports what a y shows.
     pub fn report(&self, y: &[u8], report: &mut Report) {
         self.lines(y).lines().for_each(|line| report.line(line));
@@ -69,7 +90,40 @@ impl Asked {
     }
 }
 
-/// The failure of a text with a fault.
-pub fn faulty(input: &Input, typed: &str, fault: &Fault) -> Failure {
-    Failure::File(format!("{}: {fault}", input.name_or(typed)))
+/// A text that a command takes.
+pub struct Expected {
+    /// What it is called if it has no name.
+    typed: &'static str,
+    /// What it is, and what to do about another one.
+    wanted: &'static str,
+    /// What a text with a fault can look like and still be one.
+    looks: Kind,
+}
+
+pub const STATEMENT: Expected = Expected {
+    typed: "the typed statement",
+    wanted: "statement: a statement is a text, and `wv help build` shows one",
+    looks: Kind::Statement,
+};
+
+pub const VALUES: Expected = Expected {
+    typed: "the typed values",
+    wanted: "text with values: it stands behind the statement, as `on_hand=1000 order=250`",
+    looks: Kind::Values,
+};
+
+/// The failure of a text with a fault, and what it is if it is something else.
+pub fn faulty(input: &Input, expected: &Expected, fault: &Fault) -> Failure {
+    let Expected {
+        typed,
+        wanted,
+        looks,
+    } = expected;
+    let kind = Kind::of(&input.bytes);
+    let may_be = [*looks, Kind::Text, Kind::Hex, Kind::Empty].contains(&kind);
+    let advice = match may_be {
+        true => String::new(),
+        false => format!("; {}", kind.instead_of(wanted)),
+    };
+    Failure::File(format!("{}: {fault}{advice}", input.name_or(typed)))
 }

@@ -1,5 +1,6 @@
 //! Which argument a refusal is about.
 
+use crate::kind::Kind;
 use crate::names::counted;
 use wivulameno::limits::{MAX_INSTANCES, MAX_MESSAGE, SALT_LEN};
 use wivulameno::proof::Counts;
@@ -11,6 +12,8 @@ pub struct Packed<'a> {
     pub name: String,
     pub bytes: &'a [u8],
     pub bits: u32,
+    /// What it should be, and how it is made, if it is a file.
+    pub made: Option<&'static str>,
 }
 
 impl Packed<'_> {
@@ -19,12 +22,25 @@ impl Packed<'_> {
         let asked = self.bits.div_ceil(8) as usize;
         let found = counted(self.bytes.len() as u64, "byte");
         let text = format!("{} has {found}, the circuit asks for {asked}", self.name);
-        (self.bytes.len() != asked).then_some(text)
+        (self.bytes.len() != asked).then(|| text + &self.advice())
+    }
+
+    /// What a file is that is something else.
+    fn advice(&self) -> String {
+        let Some(made) = self.made else {
+            return String::new();
+        };
+        match Kind::of(self.bytes) {
+            Kind::Other => String::new(),
+            kind => format!(": {}", kind.instead_of(made)),
+        }
     }
 
     /// What is wrong with the bits behind the last one.
     pub fn unused(&self) -> Option<String> {
-        let Packed { name, bytes, bits } = self;
+        let Packed {
+            name, bytes, bits, ..
+        } = self;
         let used = bits % 8;
         let unused = bytes.last().filter(|_| used != 0)? >> used;
         let text = format!("{name} has bits set behind its {bits}, in its last byte");
@@ -67,6 +83,7 @@ mod tests {
             name: "--y".into(),
             bytes,
             bits,
+            made: None,
         };
         assert_eq!(packed(&[1, 2, 1], 17).length(), None);
         assert_eq!(packed(&[1, 2, 1], 17).unused(), None);

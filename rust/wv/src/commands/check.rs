@@ -9,6 +9,7 @@ use crate::args::Args;
 use crate::failure::Failure;
 use crate::input::Input;
 use crate::json::{Object, Value};
+use crate::kind::Kind;
 use crate::progress::Progress;
 use crate::report::Report;
 use wivulameno::limits::MAX_CALLERS;
@@ -159,7 +160,7 @@ impl Claim {
 
     /// What is likely to be the reason.
     fn cause(&self, refusal: Refusal) -> String {
-        let y = self.circuit.output(self.y.titled("--y"), &self.y.bytes);
+        let y = self.circuit.given_output(&self.y);
         let message = self.message.titled("--message");
         let known = match refusal {
             Refusal::Length => {
@@ -170,7 +171,14 @@ impl Claim {
             _ => None,
         };
         let proof = self.proof.name_or("the typed proof");
+        let kind = Kind::of(&self.proof.bytes);
         known.unwrap_or_else(|| match refusal {
+            _ if !matches!(kind, Kind::Proof | Kind::Other) => {
+                let what = kind.instead_of("proof");
+                format!(
+                    "{proof}: {what}: `wv prove` makes one; the proof stands behind its circuit"
+                )
+            }
             Refusal::ProofHeader => {
                 format!("{proof} is no proof, or was cut or changed at its start")
             }

@@ -7,10 +7,13 @@ use super::Command;
 use crate::args::Args;
 use crate::failure::Failure;
 use crate::input::{to_hex, Input};
+use crate::kind::Kind;
+use crate::names::counted;
 use crate::output::{Taken, Target};
 use crate::report::Report;
 use std::ffi::OsStr;
 use wivulameno::circuit::{self, Sizes};
+use wivulameno::limits::{MAX_GATES, MAX_INPUTS, MAX_OUTPUTS};
 use wivulameno::Refusal;
 
 pub const CIRCUIT: Command = Command {
@@ -55,11 +58,77 @@ fn sizes(args: &Args, report: &mut Report) -> Result<(), Failure> {
     Ok(())
 }
 
-/// What to do with a file of the old form, which is refused with 1 or 2.
-fn old_form(refusal: Refusal, bytes: &[u8]) -> Option<String> {
-    let can_be = matches!(refusal, Refusal::CircuitLength | Refusal::CircuitSizes);
-    let is_old = can_be && circuit::upgrade_to_vec(bytes).is_ok();
-    is_old.then(|| "it is a circuit of the old form: `wv upgrade` makes it a new one".into())
+/// How a circuit is made.
+const MADE: &str =
+    "`wv build` makes one from a statement, `wv convert` from a Bristol Fashion text";
+
+/// What a file is that is refused, and what to do.
+fn advice(refusal: Refusal, bytes: &[u8]) -> String {
+    let may_be_other = matches!(refusal, Refusal::CircuitLength | Refusal::CircuitSizes);
+    if let Some(advice) = chain::advice(refusal, circuit::fault_slot(bytes)) {
+        return advice;
+    }
+    if !may_be_other {
+        return format!("it was changed: copy it anew, or make it again: {MADE}");
+    }
+    let kind = Kind::of(bytes);
+    match kind {
+        Kind::OldCircuit => {
+            "it is a circuit of the old form: `wv upgrade` makes it a new one".into()
+        }
+        Kind::Statement => "it is a statement, no circuit: `wv build` makes one from it".into(),
+        Kind::Bristol => {
+            "it is a Bristol Fashion text, no circuit: `wv convert` makes one from it".into()
+        }
+        Kind::Other => {
+            let torn = torn(bytes);
+            torn.unwrap_or_else(|| format!("this is no circuit file: {MADE}"))
+        }
+        _ => format!("{}: {MADE}", kind.instead_of("circuit")),
+    }
+}
+
+/// What is wrong with a file that has the header of a circuit.
+fn torn(bytes: &[u8]) -> Option<String> {
+    let field = |place: usize| {
+        let field = bytes.get(4 * place..)?.first_chunk()?;
+        Some(u32::from_le_bytes(*field))
+    };
+    let sizes = Sizes {
+        inputs: field(0)?,
+        outputs: field(1)?,
+        gates: field(2)?,
+        ands: 0,
+    };
+    let Sizes {
+        inputs,
+        outputs,
+        gates,
+        ..
+    } = sizes;
+    let asked = 16 + 4 * u64::from(outputs) + 16 * u64::from(gates);
+    let len = bytes.len() as u64;
+    let is_within = (1..=MAX_INPUTS).contains(&inputs)
+        && (1..=MAX_OUTPUTS).contains(&outputs)
+        && gates <= MAX_GATES;
+    if is_within && asked != len {
+        let found = counted(len, "byte");
+        return Some(format!(
+            "its header asks for {asked} bytes, and it has {found}: it was cut off or changed; \
+             copy it anew, or make it again: {MADE}"
+        ));
+    }
+    (!is_within && asked == len).then(|| {
+        let [inputs, outputs, gates] = [
+            counted(inputs, "input"),
+            counted(outputs, "output"),
+            counted(gates, "gate"),
+        ];
+        format!(
+            "it has {inputs}, {outputs} and {gates}, and a circuit has 1 to {MAX_INPUTS}, 1 to \
+             {MAX_OUTPUTS} and at most {MAX_GATES}: prove in parts"
+        )
+    })
 }
 
 /// A circuit that the library reads.
@@ -78,13 +147,8 @@ impl Circuit {
     fn of(input: Input) -> Result<Circuit, Failure> {
         let failure = |refusal| {
             let name = input.name_or("the typed circuit");
-            let slot = circuit::fault_slot(&input.bytes);
-            let advice = chain::advice(refusal, slot).or_else(|| old_form(refusal, &input.bytes));
-            let cause = match advice {
-                Some(advice) => format!("{name}: {advice}"),
-                None => name.to_string(),
-            };
-            Failure::Refused(refusal, cause)
+            let advice = advice(refusal, &input.bytes);
+            Failure::Refused(refusal, format!("{name}: {advice}"))
         };
         let sizes = circuit::sizes(&input.bytes).map_err(failure)?;
         Ok(Circuit { input, sizes })
@@ -106,6 +170,9 @@ impl Circuit {
             name: input.titled("the witness"),
             bytes: &input.bytes,
             bits: self.sizes.inputs,
+            made: input
+                .is_read()
+                .then_some("packed row: `wv row` packs one from values"),
         }
     }
 
@@ -115,6 +182,17 @@ impl Circuit {
             name,
             bytes,
             bits: self.sizes.outputs,
+            made: None,
+        }
+    }
+
+    /// A y that was given, or what should be one.
+    pub fn given_output<'a>(&self, input: &'a Input) -> Packed<'a> {
+        let made = "packed y: `wv claim` packs one, `wv evaluate --raw` writes one, and digits \
+                    are typed behind `hex:`";
+        Packed {
+            made: input.is_read().then_some(made),
+            ..self.output(input.titled("--y"), &input.bytes)
         }
     }
 

@@ -4,6 +4,7 @@ use super::Command;
 use crate::args::Args;
 use crate::failure::{tell, Failure};
 use crate::input::Input;
+use crate::kind::Kind;
 use crate::names::counted;
 use crate::output::Target;
 use crate::report::Report;
@@ -76,9 +77,23 @@ fn converted(input: &Input, text: &[u8]) -> Result<Vec<u8>, Failure> {
             true => "; `--tidy` mends the ends of lines",
             false => "",
         };
+        let advice = other(Kind::of(&input.bytes)).unwrap_or(advice.into());
         Failure::Refused(refusal, format!("{name}: {place}{advice}"))
     };
     from_bristol_to_vec(text).map_err(failure)
+}
+
+/// What to do with what is no such text, if that can be told.
+fn other(kind: Kind) -> Option<String> {
+    let done = match kind {
+        Kind::Bristol | Kind::Values | Kind::Hex | Kind::Text | Kind::Empty => return None,
+        Kind::Circuit => "it is a circuit as `wv` takes it",
+        Kind::OldCircuit => "`wv upgrade` makes a circuit of it",
+        Kind::Statement => "`wv build` makes a circuit of it",
+        _ => "`wv help convert` shows the form",
+    };
+    let what = kind.instead_of("Bristol Fashion text");
+    Some(format!("; {what}: {done}"))
 }
 
 /// Where a text is refused.

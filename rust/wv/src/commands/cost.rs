@@ -4,7 +4,7 @@ use super::check::{shown_bits, BITS};
 use super::circuit::Circuit;
 use super::Command;
 use crate::args::Args;
-use crate::cost::{longest, room};
+use crate::cost::{longest, room, PAPER};
 use crate::failure::Failure;
 use crate::names::counted;
 use crate::progress::Progress;
@@ -25,8 +25,9 @@ For each number of parties n, prints the M and tau that make the shortest proofs
 and those with the fewest instances, with the soundness in bits, the most bytes
 that a proof can have, and the milliseconds to prove and to check. The row with
 the fewest bytes is marked `shortest`; the one with the least time to prove and
-check, taken together, `fastest`. `wv prove` takes the numbers of a row as
---instances, --chosen and --parties.
+check, taken together, `fastest`; and for 128 bits the rows of table 1 in Katz,
+Kolesnikov and Wang (2018), as far as a proof can have them, `paper`. `wv prove`
+takes the numbers of a row as --instances, --chosen and --parties.
 
   --bits B  the soundness that is asked for, usually 128
 
@@ -53,15 +54,26 @@ fn cost(args: &Args, report: &mut Report) -> Result<(), Failure> {
         let text = format!("no M up to {MAX_INSTANCES} has {goal} bits of soundness");
         return Err(Failure::Unwanted(text));
     }
+    let counts = with_paper(counts, goal);
     let rows: Vec<Row> = counts
         .into_iter()
         .map(|counts| Row::measured(&circuit, counts))
         .collect();
     report.line(&title(circuit.sizes));
-    for line in table(&rows) {
+    for line in table(&rows, goal) {
         report.line(&line);
     }
     Ok(())
+}
+
+/// The same with those of the paper, if so many bits are asked for; by rising n.
+fn with_paper(mut counts: Vec<Counts>, goal: f64) -> Vec<Counts> {
+    let others = PAPER
+        .iter()
+        .filter(|paper| goal == BITS && !counts.contains(paper));
+    counts.extend(others.copied().collect::<Vec<_>>());
+    counts.sort_by_key(|counts| counts.n);
+    counts
 }
 
 fn title(sizes: Sizes) -> String {
@@ -135,19 +147,19 @@ fn best(mut call: impl FnMut()) -> f64 {
 }
 
 /// The lines of the table, with the marks.
-fn table(rows: &[Row]) -> Vec<String> {
+fn table(rows: &[Row], goal: f64) -> Vec<String> {
     let shortest = rows.iter().map(|row| row.bytes).min();
     let fastest = rows.iter().map(Row::time).fold(f64::MAX, f64::min);
     let mut lines = vec![format!(
-        "{:>3} {:>4} {:>4} {:>6} {:>9} {:>9} {:>9}",
-        "n", "M", "tau", "bits", "bytes", "prove ms", "check ms"
+        "{:>3} {:>4} {:>4} {:>6} {:>13} {:>9} {:>9}",
+        "n", "M", "tau", "bits", "bytes at most", "prove ms", "check ms"
     )];
     let [mut short, mut fast] = [false; 2];
     for row in rows {
         let Counts { m, tau, n } = row.counts;
         let bits = shown_bits(row.counts.soundness_bits().expect("legal counts"));
         let mut line = format!(
-            "{n:>3} {m:>4} {tau:>4} {bits:>6} {:>9} {:>9.2} {:>9.2}",
+            "{n:>3} {m:>4} {tau:>4} {bits:>6} {:>13} {:>9.2} {:>9.2}",
             row.bytes, row.prove, row.check
         );
         if Some(row.bytes) == shortest && !short {
@@ -157,6 +169,9 @@ fn table(rows: &[Row]) -> Vec<String> {
         if row.time() == fastest && !fast {
             line += "  fastest";
             fast = true;
+        }
+        if goal == BITS && PAPER.contains(&row.counts) {
+            line += "  paper";
         }
         lines.push(line);
     }

@@ -2,11 +2,15 @@
 
 use crate::args::{path, Args};
 use crate::failure::{tell, Failure};
+use crate::input::LIMIT;
+use crate::kind::Kind;
 use crate::names::{counted, shown};
 use crate::output::Taken;
 use crate::place::{end_of_links, Place};
 use crate::progress::Progress;
 use std::ffi::OsStr;
+use std::fs::File;
+use std::io::Read;
 use std::path::{Path, PathBuf};
 use std::thread;
 use std::time::{Duration, Instant};
@@ -19,6 +23,18 @@ const PAUSE: Duration = Duration::from_millis(20);
 /// What to do when no page can be trusted.
 const BEGIN_AGAIN: &str = "no page of this shelf can be trusted: delete all its pages, and make a \
                            new shelf with a new log and new roots";
+
+/// What a file is that should be one of a shelf, if that can be told.
+fn other_file(path: &Path, wanted: Kind) -> Option<String> {
+    let mut bytes = vec![];
+    let file = File::open(path).ok()?;
+    file.take(LIMIT).read_to_end(&mut bytes).ok()?;
+    let kind = Kind::of(&bytes);
+    let told = kind
+        .told()
+        .filter(|_| ![wanted, Kind::Empty].contains(&kind))?;
+    Some(format!("it is {told}"))
+}
 
 /// The page and the log, and how long to wait for them.
 pub struct ShelfFiles {
@@ -169,8 +185,10 @@ impl ShelfFiles {
                 shown(&self.log)
             )),
             Trouble::Missing(Name::Log) | Trouble::NotALog => Failure::File(format!(
-                "{}: name the log of this page; if it is lost, {BEGIN_AGAIN}",
-                self.told(&trouble)
+                "{}{}: name the log of this page; if it is lost, {BEGIN_AGAIN}",
+                self.told(&trouble),
+                other_file(&self.log, Kind::Log)
+                    .map_or(String::new(), |other| format!(", {other}"))
             )),
             Trouble::Missing(Name::Page) => Failure::File(format!(
                 "{}: put it back, or if it is lost begin a new one with `wv shelf new --lost`",
@@ -208,12 +226,18 @@ impl ShelfFiles {
     fn cause(&self, refusal: Refusal) -> String {
         let page = shown(&self.page);
         match refusal {
-            Refusal::Unsound => format!(
-                "{page}: put the present page back; if there is none, move this one away and \
-                 begin a new one with `wv shelf new --lost`"
-            ),
+            Refusal::Unsound => match other_file(&self.page, Kind::Page) {
+                Some(other) => format!(
+                    "{page}: {other}: name the page, and its log behind --log, or put the \
+                     present page back"
+                ),
+                None => format!(
+                    "{page}: put the present page back; if there is none, move this one away \
+                     and begin a new one with `wv shelf new --lost`"
+                ),
+            },
             Refusal::Empty => format!("{page}: `wv shelf stock` puts more on it"),
-            Refusal::Full => format!("{page}: every slot holds a root"),
+            Refusal::Full => format!("{page}: every slot holds a root, so none is needed now"),
             Refusal::Spent => format!("{page}: make a new shelf with a new log"),
             _ => page,
         }

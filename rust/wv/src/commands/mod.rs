@@ -20,6 +20,7 @@ mod upgrade;
 
 use crate::args::Args;
 use crate::failure::Failure;
+use crate::pages::{about, value_name};
 use crate::report::Report;
 
 /// A command of `wv`.
@@ -74,8 +75,8 @@ Input bytes are given as the name of a file, as `-` for standard input, as
 `fd:3` for an open descriptor, as `hex:4e20` for bytes typed in hexadecimal, or
 as `text:order 7`. Bits are packed into bytes lowest first. An output is a file,
 which is replaced if it is there, or `-` for standard output; it may not be an
-input, the shelf page or the log of the same command. A word behind `--` is no
-option.
+input of the same command, nor the page or the log of any shelf. A text with
+spaces in it is quoted: 'text:order 7'. A word behind `--` is no option.
 
 Exit status:
   0  done or accepted
@@ -127,6 +128,18 @@ impl Command {
             ..
         } = self;
         format!("wv {name} {usage}\n\n{about}\n\n{help}\nFor example:\n{example}\n{COMMON}")
+    }
+
+    /// The name of the argument at this place, as the usage has it.
+    pub fn place_name(&self, place: usize) -> &'static str {
+        let name = self.usage.split_whitespace().nth(place);
+        name.unwrap_or_default()
+    }
+
+    /// What stands behind an option, and what it is.
+    pub fn expected(&self, option: &str) -> String {
+        let (value, about) = (value_name(self, option), about(self, option));
+        format!("--{option} {value}, {about}")
     }
 
     /// The failure of a call that does not fit the usage.

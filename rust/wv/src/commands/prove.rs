@@ -1,5 +1,6 @@
 //! Proofs, made with a root from a shelf.
 
+use super::asked::Asked;
 use super::causes;
 use super::check::{shown_bits, BITS};
 use super::circuit::Circuit;
@@ -19,8 +20,8 @@ use wivulameno::{Refusal, Work};
 pub const PROVE: Command = Command {
     name: "prove",
     usage: "CIRCUIT WITNESS --shelf PAGE --log LOG --message MESSAGE --out PROOF
-         [--y Y] [--salt SALT] [--instances M] [--chosen TAU] [--parties N]
-         [--wait SECONDS]",
+         [--y Y] [--statement STATEMENT] [--salt SALT] [--instances M]
+         [--chosen TAU] [--parties N] [--wait SECONDS]",
     about: "Make a proof with a root from a shelf.",
     help: "\
 Proves that the circuit gives y for the witness, without showing more of it.
@@ -28,11 +29,15 @@ One root is drawn from the shelf for the proof. A call that would be refused
 draws none. The proof is bound to the circuit file, y and the message: whoever
 checks it needs the same bytes of all three. The salt stands in the proof.
 
-  --shelf PAGE       the shelf, and
+  --shelf PAGE       the page of the shelf
   --log LOG          the file that counts its draws
-  --message MESSAGE  up to 4096 bytes
+  --message MESSAGE  up to 4096 bytes, as 'text:order 4711' or a file
   --out PROOF        where the proof goes
   --y Y              the claimed output; without it, what the circuit gives
+  --statement STATEMENT
+                     print what the proof shows, a line `name=value` each; the
+                     circuit has to be the statement's. A condition that is no
+                     is told on standard error, if there is no --y
   --salt SALT        32 bytes, which the hashes of trees, tapes and commitments
                      take and the proof shows; without it, new ones from
                      /dev/urandom, as it should be
@@ -47,9 +52,9 @@ A witness that is typed on the command line is seen by other users in the
 process list, and kept in the shell's history: give a row that they may not read
 as a file, as `-` or as `fd:N`.
 
-Refused with 1, 2, 3, 5, 19, 20 or 21 for the circuit, 8 for the three numbers,
-6 for a length, 7 for unused bits, 10 if the witness does not give y, 14 to 18
-by the shelf.
+Refused with 1, 2, 3, 5, 19, 20 or 21 for the circuit, without a number if it is
+not the statement's, 8 for the three numbers, 6 for a length, 7 for unused bits,
+10 if the witness does not give y, 14 to 18 by the shelf.
 
 15 has two causes. Behind: the page has fewer draws than the log counts, so it
 is old; put the present page back. Ahead: it has more, so the log was set back;
@@ -69,6 +74,7 @@ stocking or proof that meets a page ahead writes that into the log, for good.
         "message",
         "out",
         "y",
+        "statement",
         "salt",
         "instances",
         "chosen",
@@ -91,11 +97,15 @@ fn prove(args: &Args, report: &mut Report) -> Result<(), Failure> {
     let mut work = Work::for_sizes(wish.circuit.sizes);
     wish.rehearse(&mut work)?;
     wish.warn();
+    wish.note();
     let root = draw(&files)?;
     let proof = wish.proof(&root, &mut work)?;
     let leaves_standard_output = target.leaves_standard_output();
     target.write(&proof)?;
     if leaves_standard_output {
+        if let Some(asked) = &wish.asked {
+            asked.report(&wish.y, report);
+        }
         let told = format!("proved {} in {} bytes", to_hex(&wish.y), proof.len());
         report.line(&told);
     }
@@ -112,6 +122,7 @@ fn draw(files: &ShelfFiles) -> Result<[u8; 16], Failure> {
 /// What is to be proved.
 struct Wish {
     circuit: Circuit,
+    asked: Option<Asked>,
     witness: Input,
     message: Input,
     claimed: Option<Input>,
@@ -129,6 +140,7 @@ impl Wish {
             n: args.number("parties")?.unwrap_or(USUAL.n),
         };
         let circuit = Circuit::read(args, args.place(0))?;
+        let asked = Asked::of_circuit(args, &circuit)?;
         let witness = args.input(args.place(1))?;
         let claimed = args.option("y").map(|y| args.input(y)).transpose()?;
         let message = args.input(args.needed("message")?)?;
@@ -146,6 +158,7 @@ impl Wish {
         };
         Ok(Wish {
             circuit,
+            asked,
             witness,
             message,
             claimed,
@@ -159,6 +172,7 @@ impl Wish {
     /// The files that the proof must not replace.
     fn taken(&self) -> Taken {
         let mut taken = self.circuit.taken();
+        taken.extend(self.asked.iter().flat_map(Asked::taken));
         let mut take = |what, input: &Input| taken.push((input.titled(what), input.place.clone()));
         take("the witness", &self.witness);
         take("the message", &self.message);
@@ -215,9 +229,10 @@ impl Wish {
     /// Which argument the refusal is about.
     fn cause(&self, refusal: Refusal) -> String {
         let witness = self.circuit.witness(&self.witness);
-        let claimed = self.claimed.as_ref();
-        let name = claimed.map_or("--y".into(), |claimed| claimed.titled("--y"));
-        let y = self.circuit.output(name, &self.y);
+        let y = match &self.claimed {
+            Some(claimed) => self.circuit.given_output(claimed),
+            None => self.circuit.output("--y".into(), &self.y),
+        };
         let cause = match refusal {
             Refusal::Counts => causes::counts(self.counts),
             Refusal::Length => {
@@ -228,12 +243,44 @@ impl Wish {
             }
             Refusal::UnusedBits => witness.unused().or_else(|| y.unused()),
             Refusal::Output => self.circuit.outputs(&self.witness).ok().map(|outputs| {
-                let [given, claimed] = [to_hex(&outputs), to_hex(&self.y)];
-                format!("{} gives {given}, and --y is {claimed}", witness.name)
+                let (given, claimed, advice) = self.contrasted(&outputs);
+                format!(
+                    "{} gives {given}, and --y is {claimed}{advice}",
+                    witness.name
+                )
             }),
             _ => None,
         };
         cause.unwrap_or_default()
+    }
+
+    /// What the circuit gives, what is claimed, and how to see more. By name, if there
+    /// is a statement.
+    fn contrasted(&self, outputs: &[u8]) -> (String, String, &str) {
+        match &self.asked {
+            Some(asked) => {
+                let [given, claimed] = asked.differences(outputs, &self.y);
+                (given, claimed, "")
+            }
+            None => (
+                to_hex(outputs),
+                to_hex(&self.y),
+                ": `--statement` tells them by name",
+            ),
+        }
+    }
+
+    /// Says which conditions the row does not meet, if nobody said what they should be.
+    fn note(&self) {
+        let (Some(asked), None) = (&self.asked, &self.claimed) else {
+            return;
+        };
+        for name in asked.unmet(&self.y) {
+            tell(&format!(
+                "note: {name} is no for this row, and the proof shows it: with --y a row that \
+                 does not give what is asked for is refused"
+            ));
+        }
     }
 
     /// What is wrong with the salt that was given.

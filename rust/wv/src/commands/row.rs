@@ -1,6 +1,6 @@
 //! Rows and claims from named values.
 
-use super::asked::{faulty, Asked};
+use super::asked::{faulty, Asked, VALUES};
 use super::Command;
 use crate::args::Args;
 use crate::failure::Failure;
@@ -65,7 +65,7 @@ fn pack(args: &Args, report: &mut Report, of: fn(&Asked) -> &Layout) -> Result<(
     let target = Target::find(out, &taken)?;
     let layout = of(&asked);
     let packed = layout.pack(&values.bytes);
-    let packed = packed.map_err(|fault| faulty(&values, "the typed values", &fault))?;
+    let packed = packed.map_err(|fault| faulty(&values, &VALUES, &fault))?;
     let leaves_standard_output = target.leaves_standard_output();
     target.write(&packed)?;
     if leaves_standard_output {

@@ -41,13 +41,13 @@ pub fn check(args: &Args, asked: f64, report: &mut Report) -> Result<(), Failure
     verdicts.report(report)
 }
 
-/// Refused with 8 if it is out of its limits.
+/// The instances in a call.
 fn quota(args: &Args) -> Result<u32, Failure> {
     let quota = args.number("quota")?.unwrap_or(MAX_QUOTA);
-    let cause = || format!("--quota {quota}: 1 to {MAX_QUOTA}");
+    let wrong = || format!("--quota {quota}: a call checks 1 to {MAX_QUOTA} instances");
     match (1..=MAX_QUOTA).contains(&quota) {
         true => Ok(quota),
-        false => Err(Failure::Refused(Refusal::Counts, cause())),
+        false => Err(Failure::Usage(wrong())),
     }
 }
 

@@ -5,6 +5,7 @@ use super::Command;
 use crate::args::Args;
 use crate::failure::Failure;
 use crate::input::Input;
+use crate::kind::Kind;
 use crate::names::counted;
 use crate::output::Target;
 use crate::report::Report;
@@ -57,8 +58,15 @@ fn cause(input: &Input, refusal: Refusal) -> String {
         return format!("{name} is no file of the old form, but a circuit as it is");
     }
     let slot = upgrade_slot(&input.bytes);
-    match chain::advice(refusal, slot) {
-        Some(advice) => format!("{name}: {advice}"),
-        None => name.to_string(),
+    if let Some(advice) = chain::advice(refusal, slot) {
+        return format!("{name}: {advice}");
     }
+    let done = match Kind::of(&input.bytes) {
+        Kind::Statement => ": `wv build` makes a circuit of it",
+        Kind::Bristol => ": `wv convert` makes a circuit of it",
+        Kind::Other => ", or it was cut off or changed: copy it anew",
+        _ => ": name the circuit",
+    };
+    let what = Kind::of(&input.bytes).instead_of("circuit of the old form");
+    format!("{name}: {what}{done}")
 }
