@@ -3,7 +3,7 @@
 # make bench   throughput of the library, the second implementation and OpenSSL, and what a proof costs, in
 #              target/; make bench KEEP=1 writes docs/proof-cost.txt and docs/proof-cost.svg
 # make install PREFIX=/usr/local   headers, archives, pkg-config files, wv, its manual page and completions
-# make dist    tarballs of the sources and of what is installed, in target/dist
+# make dist    tarballs in target/dist: the sources, and the package that the README begins with
 
 .PHONY: run test bench lib install dist fmt
 

@@ -1,4 +1,5 @@
-//! The commands of the README and of `docs/commands.md`, as they stand there.
+//! The commands of the README and of `docs/commands.md`, as they stand there. `tools/c-tests`
+//! runs those of the README on the package, and those on the sources.
 #![deny(unused_must_use)]
 #![cfg(unix)]
 
