@@ -249,12 +249,22 @@ fn print_table(examples: &[Example], parties: &[u32], rounds: usize, openssl: Op
         let all = all.iter();
         all.flat_map(move |&counts| rows(example, counts, openssl))
     });
-    print_rows(&mut rows.collect::<Vec<Row>>(), rounds, openssl);
+    print_rows(&mut rows.collect::<Vec<Row>>(), rounds, LEAST_TAU, openssl);
     println!();
 }
 
+/// Which instances are chosen.
+const LEAST_TAU: &str =
+    "the least tau for an error of 2^-128, or the tau of the least error if\nnone is";
+const AN_EIGHTH: &str = "an eighth of the instances is chosen";
+
 /// Times the rows and prints them; gives the best seconds of each.
-fn print_rows(rows: &mut [Row], rounds: usize, openssl: Option<&OpenSsl>) -> Vec<[Option<f64>; 3]> {
+fn print_rows(
+    rows: &mut [Row],
+    rounds: usize,
+    tau: &str,
+    openssl: Option<&OpenSsl>,
+) -> Vec<[Option<f64>; 3]> {
     let best = best_times(rounds, rows);
     let hasher = if openssl.is_some() {
         "OpenSSL"
@@ -262,8 +272,7 @@ fn print_rows(rows: &mut [Row], rounds: usize, openssl: Option<&OpenSsl>) -> Vec
         "the second"
     };
     println!("ms; ns for each AND gate, party and instance; hashing is the same hash calls alone,");
-    println!("by {hasher}; the least tau for an error of 2^-128, or the tau of the least error if");
-    println!("none is; best of {rounds} rounds");
+    println!("by {hasher}; {tau}; best of {rounds} rounds");
     let head = [
         "ours",
         "second",
@@ -287,6 +296,7 @@ pub fn print(openssl: Option<&OpenSsl>) {
     print_table(&[Example::worst()], UP_TO_16, 6, openssl);
     print_many_parties(openssl);
     print_prices(openssl);
+    print_parties_and_instances(openssl);
     published::print();
 }
 
@@ -311,7 +321,7 @@ fn print_many_parties(openssl: Option<&OpenSsl>) {
     let rows = MANY_PARTIES
         .into_iter()
         .flat_map(|counts| rows_without_second(&worst, counts, openssl));
-    print_rows(&mut rows.collect::<Vec<Row>>(), 3, openssl);
+    print_rows(&mut rows.collect::<Vec<Row>>(), 3, LEAST_TAU, openssl);
     println!();
 }
 
@@ -335,24 +345,90 @@ fn print_prices(openssl: Option<&OpenSsl>) {
         .iter()
         .flat_map(|example| rows(example, PRICE_COUNTS, openssl));
     let mut rows: Vec<Row> = rows.collect();
-    let best = print_rows(&mut rows, 5, openssl);
-    let seconds = |row: usize| best[row][0].expect("a time");
-    let whole = |row: usize| seconds(row) / rows[row].amount as f64;
-    let grown = |row: usize, fixed: f64| (seconds(row) - fixed) / rows[row].amount as f64;
-    for (operation, row) in [("prove", 0), ("check", 1)] {
-        let fixed = seconds(row);
-        println!(
-            "90000 against 9000 gates, {operation}, the time for each AND gate: {:.2}; without the \
-             {:.2} ms of 1 gate: {:.2}",
-            whole(row + 4) / whole(row + 2),
-            1e3 * fixed,
-            grown(row + 4, fixed) / grown(row + 2, fixed),
-        );
-    }
+    let best = print_rows(&mut rows, 5, LEAST_TAU, openssl);
+    let ands = examples.each_ref().map(|example| example.sizes.ands);
+    print_growth(
+        ["90000 against 9000 gates", "AND gate", "1 gate"],
+        ands,
+        &best,
+    );
     for example in &examples[1..] {
         print_memory(example);
     }
     println!();
+}
+
+/// The least number of parties, few, and many, with M 64, and an eighth of the instances
+/// chosen.
+const PARTIES: [Counts; 3] = {
+    const fn of(n: u32) -> Counts {
+        Counts { m: 64, tau: 8, n }
+    }
+    [of(2), of(16), of(64)]
+};
+
+/// Hardly any instances, few, and the most, by 16 parties, and an eighth of them chosen.
+const GROWING_INSTANCES: [Counts; 3] = {
+    const fn of(m: u32) -> Counts {
+        Counts {
+            m,
+            tau: m / 8,
+            n: 16,
+        }
+    }
+    [of(8), of(64), of(512)]
+};
+
+/// A price of 9,000 gates by more and more parties, and in more and more instances: how
+/// far from linear the time is in each.
+fn print_parties_and_instances(openssl: Option<&OpenSsl>) {
+    let example = Example::price("9000 gates", 9_000);
+    let best_of = |all: [Counts; 3]| {
+        let rows = all.into_iter();
+        let rows = rows.flat_map(|counts| rows_without_second(&example, counts, openssl));
+        print_rows(&mut rows.collect::<Vec<Row>>(), 5, AN_EIGHTH, openssl)
+    };
+    let best = best_of(PARTIES);
+    print_growth(
+        ["64 against 16 parties", "party", "2 parties"],
+        PARTIES.map(|counts| counts.n as usize),
+        &best,
+    );
+    println!();
+    let best = best_of(GROWING_INSTANCES);
+    print_growth(
+        ["512 against 64 instances", "instance", "8 instances"],
+        GROWING_INSTANCES.map(|counts| counts.m as usize),
+        &best,
+    );
+    println!();
+}
+
+/// Prints how the times of prove and check, in turn, grow from the least number over few to
+/// many: whole, with what does not grow in it, and without the price of the least number.
+fn print_growth([against, each, least]: [&str; 3], numbers: [usize; 3], best: &[[Option<f64>; 3]]) {
+    for (operation, first) in [("prove", 0), ("check", 1)] {
+        let seconds = [0, 2, 4].map(|row| best[first + row][0].expect("a time"));
+        let [whole, without] = growth(numbers, seconds);
+        println!(
+            "{against}, {operation}, the time for each {each}: {whole:.2}; without the {:.2} ms of \
+             {least}: {without:.2}",
+            1e3 * seconds[0],
+        );
+    }
+}
+
+/// The time for each of many over that for each of few: whole, and without the least number
+/// and its time. The second is 1 for a time that is linear with a fixed part; so is the
+/// first without one.
+fn growth(numbers: [usize; 3], seconds: [f64; 3]) -> [f64; 2] {
+    let [least, few, many] = numbers.map(|number| number as f64);
+    let [fixed, at_few, at_many] = seconds;
+    let each = |seconds: f64, number: f64| seconds / number;
+    [
+        each(at_many, many) / each(at_few, few),
+        each(at_many - fixed, many - least) / each(at_few - fixed, few - least),
+    ]
 }
 
 /// What the library is lent for a proof; it has no other memory but the stack.
@@ -383,6 +459,35 @@ mod tests {
             assert!((128.0..128.1).contains(&soundness(m, tau, n)), "{n}");
             assert!(soundness(512, tau - 2, n) < 128.0, "{n}");
         }
+    }
+
+    /// A fixed part shows in the first figure alone, what grows faster in both.
+    #[test]
+    fn figures_of_growth() {
+        let numbers = [2, 16, 64];
+        let near = |figures: [f64; 2], expected: [f64; 2]| {
+            for (figure, expected) in figures.into_iter().zip(expected) {
+                assert!((figure - expected).abs() < 1e-9, "{figures:?}");
+            }
+        };
+        let of = |time: fn(f64) -> f64| growth(numbers, numbers.map(|number| time(number as f64)));
+        near(of(|number| 3.0 * number), [1.0, 1.0]);
+        // (32 + 64) / 64 is 1.5, (32 + 16) / 16 is 3.
+        near(of(|number| 32.0 + number), [0.5, 1.0]);
+        // 64 over 16; (4096 - 4) / 62 over (256 - 4) / 14, which are 66 and 18.
+        near(of(|number| number * number), [4.0, 66.0 / 18.0]);
+    }
+
+    #[test]
+    fn counts_that_grow() {
+        for all in [PARTIES, GROWING_INSTANCES] {
+            for Counts { m, tau, n } in all {
+                assert!(wivulameno::proof::Counts { m, tau, n }.are_legal());
+                assert_eq!(8 * tau, m);
+            }
+        }
+        assert_eq!(PARTIES.map(|counts| counts.n), [2, 16, 64]);
+        assert_eq!(GROWING_INSTANCES.map(|counts| counts.m), [8, 64, 512]);
     }
 
     #[test]
