@@ -3,6 +3,8 @@
 use std::collections::BTreeSet;
 use std::fs;
 use std::path::Path;
+use tests::challenges::Challenge;
+use tests::random::Random;
 use tests::tables::{section, tables, value, Layout};
 use wivulameno::circuit::{evaluate, sizes, Sizes};
 use wivulameno::mpc::{prepare, run, RunOut};
@@ -36,24 +38,27 @@ fn bit(bytes: &[u8], place: usize) -> bool {
 #[test]
 fn pictures() {
     let names = [("O", 3), ("G", 2), ("c", 9), ("S", 5), ("t", 0), ("k", 1)];
-    for (name, least) in [
-        ("Circuit file", 7),
-        ("Proof file", 7),
-        ("Shelf page", 7),
-        ("Log", 3),
+    for (name, picture, least) in [
+        ("Circuit file", 0, 7),
+        ("Proof file", 0, 7),
+        ("Challenge", 0, 11),
+        ("Challenge", 1, 3),
+        ("Shelf page", 0, 7),
+        ("Log", 0, 3),
     ] {
         let text = section(FORMATS, name);
         let ruler = text
             .split("```text\n")
-            .nth(1)
+            .nth(1 + picture)
             .and_then(|text| text.lines().next());
         let places = ruler.expect("a picture").split("  ").map(str::trim);
         let places: Vec<&str> = places
             .filter(|place| !["", "end"].contains(place))
             .collect();
         assert!(places.len() >= least, "{name}");
-        let header = &layouts(name)[0];
+        let header = &layouts(name)[picture];
         let names: Vec<_> = match name {
+            "Challenge" => vec![("O", 17), ("L", 5), ("τ", 4), ("t", 0)],
             "Log" => names
                 .iter()
                 .map(|&(name, _)| (name, 2))
@@ -495,6 +500,145 @@ fn proofs() {
     ] {
         follow(name, m, tau, n);
     }
+}
+
+/// The challenge by the section of its own: instances, ascending, with their hidden parties.
+fn drawn_by_the_page(counts: [usize; 3], stream: &[u8]) -> Vec<(u16, u8)> {
+    let [m, tau, n] = counts;
+    let layout = &layouts("Challenge")[1];
+    has_fields(layout, &["word t", "byte t", "end"]);
+    assert_eq!(layout.range("end", &[("τ", tau)]).start, stream.len());
+    let number = |field, t| layout.number(stream, field, &[("τ", tau), ("t", t)]);
+    let mut chosen: Vec<usize> = vec![];
+    for t in 0..tau {
+        let mut free = (0..m).filter(|j| !chosen.contains(j));
+        let place = number("word t", t) % (m - t);
+        chosen.push(free.nth(place).expect("one is free"));
+    }
+    chosen.sort();
+    let hidden = (0..tau).map(|t| number("byte t", t) % n);
+    let both = chosen.into_iter().zip(hidden);
+    both.map(|(j, p)| (j as u16, p as u8)).collect()
+}
+
+/// Inputs that are put together by the table, against both implementations, which are lent
+/// the fields apart.
+#[test]
+fn challenges() {
+    let layout = &layouts("Challenge")[0];
+    let fields = [
+        "tag",
+        "h*",
+        "salt",
+        "M",
+        "τ",
+        "n",
+        "circuit digest",
+        "y",
+        "L",
+        "message",
+        "end",
+    ];
+    has_fields(layout, &fields);
+    let mut random = Random::new(10);
+    for (m, tau, n, outputs, len) in [
+        (2, 1, 2, 1, 0),
+        (5, 3, 4, 8, 1),
+        (17, 16, 8, 9, 10),
+        (145, 66, 8, 34, 10),
+        (352, 33, 16, 17, 300),
+        (300, 299, 32, 255, 7),
+        (512, 511, 64, 256, 4096),
+    ] {
+        let counts = [m, tau, n];
+        let y = usize::div_ceil(outputs, 8);
+        let call = Challenge::any(&mut random, counts.map(|count| count as u32), y, len);
+        let names = [("O", outputs), ("L", len)];
+        let mut input = vec![0; layout.range("end", &names).start];
+        let little = |number: usize| number.to_le_bytes().to_vec();
+        for (field, bytes) in [
+            ("tag", little(6)),
+            ("h*", call.h_star.clone()),
+            ("salt", call.salt.clone()),
+            ("M", little(m)),
+            ("τ", little(tau)),
+            ("n", little(n)),
+            ("circuit digest", call.circuit_digest.clone()),
+            ("y", call.y.clone()),
+            ("L", little(len)),
+            ("message", call.message.clone()),
+        ] {
+            let range = layout.range(field, &names);
+            let len = range.len();
+            assert!(len == bytes.len() || bytes.len() == 8, "{field}");
+            input[range].copy_from_slice(&bytes[..len]);
+        }
+        let mut stream = vec![0; 9 * tau];
+        shake256(&input, &mut stream);
+        let drawn = drawn_by_the_page(counts, &stream);
+        let expected = reference::seeds::drawn(counts.map(|count| count as u32), &stream);
+        assert_eq!(drawn, expected, "{counts:?}");
+        let drawn: Vec<u8> = drawn
+            .iter()
+            .flat_map(|(j, p)| [j.to_le_bytes()[0], j.to_le_bytes()[1], *p])
+            .collect();
+        for out in [by_library(&call), by_second(&call)] {
+            assert_eq!(out, drawn, "{counts:?}");
+        }
+    }
+}
+
+fn by_library(call: &Challenge) -> Vec<u8> {
+    let mut out = vec![0; call.out_len];
+    call.with(call.inputs(), &mut out).expect("no refusal");
+    out
+}
+
+fn by_second(call: &Challenge) -> Vec<u8> {
+    let mut out = vec![0; call.out_len];
+    let [m, tau, n] = call.counts;
+    let [h_star, salt, circuit_digest, y, message] = call.inputs();
+    let input = reference::seeds::ChallengeInput {
+        h_star,
+        salt,
+        circuit_digest,
+        y,
+        message,
+    };
+    reference::seeds::challenge(m, tau, n, input, &mut out).expect("no refusal");
+    out
+}
+
+/// The two tables of the example: each line follows from the one before, and the second
+/// implementation draws the same.
+#[test]
+fn the_example_of_a_challenge() {
+    let all = tables(section(FORMATS, "Challenge"));
+    let [steps, ends] = ["t", "chosen, ascending"].map(|head| {
+        let table = all.iter().find(|table| table[0][0] == head);
+        &table.expect("a table")[1..]
+    });
+    let number = |cell: &String| cell.parse::<usize>().expect("a number");
+    let counts = [5, 3, 4];
+    let mut stream = vec![];
+    let mut free: Vec<usize> = (0..counts[0]).collect();
+    for (t, row) in steps.iter().enumerate() {
+        assert_eq!(number(&row[0]), t);
+        let told: Vec<usize> = row[2].split(' ').map(|word| number(&word.into())).collect();
+        assert_eq!(told, free);
+        assert_eq!(number(&row[3]), number(&row[1]) % free.len());
+        assert_eq!(number(&row[4]), free.remove(number(&row[3])));
+        stream.extend(number(&row[1]).to_le_bytes());
+    }
+    stream.extend(ends.iter().map(|row| number(&row[1]) as u8));
+    let told: Vec<(u16, u8)> = ends
+        .iter()
+        .map(|row| (number(&row[0]) as u16, number(&row[2]) as u8))
+        .collect();
+    assert_eq!(told.len(), counts[1]);
+    let expected = reference::seeds::drawn(counts.map(|count| count as u32), &stream);
+    assert_eq!(told, expected);
+    assert_eq!(drawn_by_the_page(counts, &stream), expected);
 }
 
 /// The roots of a chain of a page, by the table alone.
