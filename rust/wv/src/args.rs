@@ -29,12 +29,14 @@ struct Torn {
 }
 
 impl Torn {
-    /// If the word is typed bytes; other words can follow.
-    fn of(option: String, word: &OsStr) -> Option<Torn> {
+    /// If the word is typed bytes, or should be; other words can follow. A message that
+    /// is no file is one.
+    fn of(option: &str, word: &OsStr) -> Option<Torn> {
         let bytes = word.as_encoded_bytes();
         let is_typed = bytes.starts_with(b"text:") || bytes.starts_with(b"hex:");
-        is_typed.then(|| Torn {
-            option,
+        let is_text = option == "--message " && !Path::new(word).exists();
+        (is_typed || is_text).then(|| Torn {
+            option: option.into(),
             typed: shown(word),
             words: vec![],
         })
@@ -49,14 +51,21 @@ impl Torn {
     fn advice(&self) -> String {
         let Torn { option, typed, .. } = self;
         let words: Vec<String> = self.words.iter().map(shown).collect();
-        let (rule, whole) = match typed.starts_with("text:") {
-            true => {
+        let (rule, whole) = match typed.split_once(':') {
+            Some(("hex", _)) => {
+                let whole = format!("{typed}{}", words.concat());
+                ("hexadecimal digits stand together", whole)
+            }
+            Some(("text", _)) => {
                 let whole = format!("'{typed} {}'", words.join(" "));
                 ("a text with spaces in it is quoted", whole)
             }
-            false => {
-                let whole = format!("{typed}{}", words.concat());
-                ("hexadecimal digits stand together", whole)
+            _ => {
+                let whole = format!("'text:{typed} {}'", words.join(" "));
+                (
+                    "a text is typed behind `text:`, and quoted if it has spaces",
+                    whole,
+                )
             }
         };
         let first = &words[0];
@@ -99,7 +108,15 @@ impl Args {
             return Ok(());
         }
         let wrong = match self.places.get(most) {
-            Some(word) => format!("`{}` is one argument too many", shown(word)),
+            Some(word) => {
+                let is_out = self.command.options.contains(&"out") && self.option("out").is_none();
+                let advice = if is_out {
+                    ": an output stands behind --out"
+                } else {
+                    ""
+                };
+                format!("`{}` is one argument too many{advice}", shown(word))
+            }
             None => {
                 let name = self.command.place_name(given % places);
                 format!("an argument is missing: {name}")
@@ -114,7 +131,7 @@ impl Args {
     /// word of it, too?
     fn take_place(&mut self, word: OsString, is_behind: bool) -> bool {
         self.places.push(word.clone());
-        match Torn::of(String::new(), &word) {
+        match Torn::of("", &word) {
             Some(torn) => {
                 self.torn.push(torn);
                 return true;
@@ -146,14 +163,14 @@ impl Args {
             };
         }
         let Some(option) = command.options.iter().find(is_it) else {
-            return Err(command.misused(&format!("no option `{name}`")));
+            return Err(command.misused(&format!("no option `{name}`{}", command.has())));
         };
         let next = || self.next_value(option, rest.next());
         let value = value.map_or_else(next, |value| Ok(value.to_os_string()))?;
         if self.option(option).is_some() && !command.repeated.contains(option) {
             return Err(command.misused(&format!("`{name}` stands there twice")));
         }
-        let torn = Torn::of(format!("{name} "), &value);
+        let torn = Torn::of(&format!("{name} "), &value);
         let is_typed = torn.is_some();
         self.torn.extend(torn);
         self.options.push((option, value));

@@ -24,6 +24,8 @@ pub struct Input {
     pub place: Place,
     /// `row.bin`, `standard input`, `fd:3`; `None` for what was typed.
     name: Option<String>,
+    /// Was it typed as a text?
+    is_text: bool,
 }
 
 /// For a file that cannot be opened. A name that no file has may be typed bytes.
@@ -37,11 +39,12 @@ fn not_opened(name: &str) -> impl Fn(io::Error) -> Failure + '_ {
 }
 
 impl Input {
-    fn typed(bytes: Vec<u8>) -> Input {
+    fn typed(bytes: Vec<u8>, is_text: bool) -> Input {
         Input {
             bytes,
             place: Place::Nothing,
             name: None,
+            is_text,
         }
     }
 
@@ -56,12 +59,14 @@ impl Input {
             bytes,
             place,
             name: Some(name),
+            is_text: false,
         })
     }
 
-    /// Does it come from a file, and not from the command line?
-    pub fn is_read(&self) -> bool {
-        self.name.is_some()
+    /// Can it be something else than the bytes that are wanted, a file or a text? What is
+    /// typed as digits is meant as it is.
+    pub fn can_be_other(&self) -> bool {
+        self.name.is_some() || self.is_text
     }
 
     /// For a message: what it is, and its name.
@@ -113,8 +118,8 @@ impl Inputs {
     /// The bytes of a file, of an open descriptor, or typed.
     pub fn get(&self, value: &OsStr) -> Result<Input, Failure> {
         match form(value)? {
-            Form::Hex(digits) => from_hex(digits).map(Input::typed),
-            Form::Text(typed) => Ok(Input::typed(typed.into())),
+            Form::Hex(digits) => from_hex(digits).map(|bytes| Input::typed(bytes, false)),
+            Form::Text(typed) => Ok(Input::typed(typed.into(), true)),
             Form::Descriptor(number) => self.descriptor(number),
             Form::File(path) => {
                 let name = shown(path);

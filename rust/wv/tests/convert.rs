@@ -73,11 +73,19 @@ fn refused_texts() {
         (
             "1 3\n2 1 1\n1 1\n\n\n2 1 0 1 2 EQ\n",
             23,
-            "and.txt: line 6\n",
+            "and.txt: line 6; write a gate of another kind as some of these\n",
         ),
-        ("100001 3\n", 24, "and.txt: line 1\n"),
-        ("\n1 514\n1 513\n", 24, "and.txt: line 3\n"),
-        ("1 3\n2 1 1\n0\n", 24, "and.txt: line 3\n"),
+        ("100001 3\n", 24, "and.txt: line 1; a circuit has 1 to 512"),
+        (
+            "\n1 514\n1 513\n",
+            24,
+            "and.txt: line 3; a circuit has 1 to 512",
+        ),
+        (
+            "1 3\n2 1 1\n0\n",
+            24,
+            "and.txt: line 3; a circuit has 1 to 512",
+        ),
     ];
     for (text, number, told) in known {
         let folder = folder("convert_refused", text);

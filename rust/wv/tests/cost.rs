@@ -152,7 +152,7 @@ fn what_is_refused() {
     folder.write("none", b"no circuit");
     folder
         .wv("cost c --bits 600")
-        .unwanted("no M up to 512 has 600 bits of soundness");
+        .unwanted("no M up to 512 has 600 bits of soundness: ask for fewer with --bits");
     folder.wv("cost none").refused(1, "none");
     folder.wv("cost c --bits many").mistaken("--bits many");
     folder.wv("cost").mistaken("an argument is missing");

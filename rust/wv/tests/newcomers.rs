@@ -151,7 +151,21 @@ fn no_row_and_no_y() {
     folder
         .wv(&format!("{PROVE} --out out --y digits"))
         .refused(6, y);
-    // What is typed is no file: its length is told alone.
+    // Bit 17 of a y of 17.
+    folder.write("other", &[0, 0, 2]);
+    folder
+        .wv("check covers16.circuit proof --y other --message text:a")
+        .refused(7, "it may be no packed y: `wv claim` packs one");
+    let typed = "--y 'text:covered=yes order=250'";
+    folder
+        .wv(&format!(
+            "check covers16.circuit proof {typed} --message text:a"
+        ))
+        .refused(
+            6,
+            "it is a text with values, no packed y: `wv claim` packs one",
+        );
+    // What is typed in digits is meant so: its length is told alone.
     let typed = folder.wv("evaluate covers16.circuit hex:66");
     typed.refused(6, "the witness has 1 byte, the circuit asks for 4");
     assert!(typed.err.ends_with("asks for 4\n"), "{typed:?}");
@@ -226,6 +240,17 @@ fn no_text_to_convert_and_nothing_to_upgrade() {
             .wv(&format!("convert {name} --out out"))
             .refused(22, &format!("{is} Bristol Fashion text: {done}"));
     }
+    folder.write("nand", b"1 3\n2 1 1\n1 1\n2 1 0 1 2 NAND\n");
+    folder.wv("convert nand --out out").refused(
+        23,
+        "nand: line 4; write a gate of another kind as some of these",
+    );
+    folder.write("wide", b"1 514\n1 513\n1 1\n2 1 0 1 513 AND\n");
+    folder.wv("convert wide --out out").refused(
+        24,
+        "wide: line 2; a circuit has 1 to 512 inputs, 1 to 256 outputs and at most 100000 gates: \
+         prove in parts",
+    );
     let known = [
         (
             "asked",
@@ -477,6 +502,26 @@ fn a_value_is_missing() {
     assert_eq!(folder.draws(), 0);
 }
 
+/// An output without `--out`, and an option that there is not.
+#[test]
+fn outputs_and_options() {
+    let folder = Folder::with_circuit("newcomers_options");
+    folder.write("asked", STATEMENT);
+    folder.wv("build asked built").mistaken(
+        "`built` is one argument too many: an output stands behind --out\nusage: wv build",
+    );
+    folder
+        .wv("build asked built --out out")
+        .mistaken("`built` is one argument too many\nusage: wv build");
+    folder
+        .wv("circuit asked built")
+        .mistaken("`built` is one argument too many\nusage: wv circuit");
+    folder
+        .wv("evaluate covers16.circuit row -o y")
+        .mistaken("no option `-o`: `wv evaluate` has --out, --statement, --raw, --help");
+    assert!(!folder.has("built") && !folder.has("out") && !folder.has("y"));
+}
+
 /// The words of a text without quotes, wherever they stand.
 #[test]
 fn a_text_without_quotes() {
@@ -492,6 +537,12 @@ fn a_text_without_quotes() {
     ] {
         folder.wv(&line).mistaken(message);
     }
+    folder
+        .wv(&format!("{check} --message order 4711"))
+        .mistaken(
+            "`4711` stands alone behind `--message order`: a text is typed behind `text:`, and \
+             quoted if it has spaces, as in --message 'text:order 4711'",
+        );
     // Two words are as good as a circuit and a proof: that they are no files is told.
     folder
         .wv(&format!("{check} --message text:order no 4711"))

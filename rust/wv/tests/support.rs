@@ -276,7 +276,8 @@ fn circuits_for_programs() {
     assert_eq!(
         refused.text(),
         "{\"refused\":1,\"message\":\"refused 1: the circuit's length is not what its header asks \
-         for: row\"}\n"
+         for: row: this is no circuit file: `wv build` makes one from a statement, `wv convert` \
+         from a Bristol Fashion text\"}\n"
     );
 }
 

@@ -12,7 +12,7 @@ pub struct Packed<'a> {
     pub name: String,
     pub bytes: &'a [u8],
     pub bits: u32,
-    /// What it should be, and how it is made, if it is a file.
+    /// What it should be, and how it is made, if it can be something else.
     pub made: Option<&'static str>,
 }
 
@@ -44,7 +44,8 @@ impl Packed<'_> {
         let used = bits % 8;
         let unused = bytes.last().filter(|_| used != 0)? >> used;
         let text = format!("{name} has bits set behind its {bits}, in its last byte");
-        (unused != 0).then_some(text)
+        let advice = self.made.map(|made| format!(": it may be no {made}"));
+        (unused != 0).then(|| text + &advice.unwrap_or_default())
     }
 }
 
@@ -91,6 +92,12 @@ mod tests {
         assert_eq!(packed(&[1, 2, 1], 16).length().unwrap(), long);
         let set = "--y has bits set behind its 17, in its last byte";
         assert_eq!(packed(&[1, 2, 2], 17).unused().unwrap(), set);
+        let made = Packed {
+            made: Some("packed y: so it is packed"),
+            ..packed(&[1, 2, 2], 17)
+        };
+        let advice = ": it may be no packed y: so it is packed";
+        assert_eq!(made.unused().unwrap(), format!("{set}{advice}"));
         assert_eq!(packed(&[1, 0xff], 16).unused(), None);
         assert_eq!(packed(&[], 3).unused(), None);
     }

@@ -171,7 +171,7 @@ impl Circuit {
             bytes: &input.bytes,
             bits: self.sizes.inputs,
             made: input
-                .is_read()
+                .can_be_other()
                 .then_some("packed row: `wv row` packs one from values"),
         }
     }
@@ -191,7 +191,7 @@ impl Circuit {
         let made = "packed y: `wv claim` packs one, `wv evaluate --raw` writes one, and digits \
                     are typed behind `hex:`";
         Packed {
-            made: input.is_read().then_some(made),
+            made: input.can_be_other().then_some(made),
             ..self.output(input.titled("--y"), &input.bytes)
         }
     }

@@ -9,6 +9,7 @@ use crate::names::counted;
 use crate::output::Target;
 use crate::report::Report;
 use wivulameno::circuit::{from_bristol, from_bristol_to_vec};
+use wivulameno::limits::{MAX_GATES, MAX_INPUTS, MAX_OUTPUTS};
 use wivulameno::Refusal;
 
 pub const CONVERT: Command = Command {
@@ -73,11 +74,17 @@ fn converted(input: &Input, text: &[u8]) -> Result<Vec<u8>, Failure> {
         let name = input.name_or("the typed text");
         let place = Place::of(text, refusal).told();
         let of_lines = matches!(refusal, Refusal::Text | Refusal::GateKind);
-        let advice = match of_lines && Tidy::of(text).text != text {
-            true => "; `--tidy` mends the ends of lines",
-            false => "",
+        let can_be_tidied = of_lines && Tidy::of(text).text != text;
+        let advice = match refusal {
+            _ if can_be_tidied => "; `--tidy` mends the ends of lines".into(),
+            Refusal::GateKind => "; write a gate of another kind as some of these".into(),
+            Refusal::TextLimits => format!(
+                "; a circuit has 1 to {MAX_INPUTS} inputs, 1 to {MAX_OUTPUTS} outputs and at most \
+                 {MAX_GATES} gates: prove in parts"
+            ),
+            _ => String::new(),
         };
-        let advice = other(Kind::of(&input.bytes)).unwrap_or(advice.into());
+        let advice = other(Kind::of(&input.bytes)).unwrap_or(advice);
         Failure::Refused(refusal, format!("{name}: {place}{advice}"))
     };
     from_bristol_to_vec(text).map_err(failure)

@@ -51,7 +51,9 @@ fn cost(args: &Args, report: &mut Report) -> Result<(), Failure> {
     let circuit = Circuit::read(args, args.place(0))?;
     let counts = good_counts(goal, |counts| longest(circuit.sizes, counts));
     if counts.is_empty() {
-        let text = format!("no M up to {MAX_INSTANCES} has {goal} bits of soundness");
+        let text = format!(
+            "no M up to {MAX_INSTANCES} has {goal} bits of soundness: ask for fewer with --bits"
+        );
         return Err(Failure::Unwanted(text));
     }
     let counts = with_paper(counts, goal);

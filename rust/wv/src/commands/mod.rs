@@ -136,6 +136,13 @@ impl Command {
         name.unwrap_or_default()
     }
 
+    /// The options that it has, for whoever gave another one.
+    pub fn has(&self) -> String {
+        let names = self.options.iter().chain(self.flags);
+        let names: Vec<String> = names.map(|name| format!("--{name}")).collect();
+        format!(": `wv {}` has {}, --help", self.name, names.join(", "))
+    }
+
     /// What stands behind an option, and what it is.
     pub fn expected(&self, option: &str) -> String {
         let (value, about) = (value_name(self, option), about(self, option));
