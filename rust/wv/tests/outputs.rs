@@ -378,6 +378,22 @@ fn a_folder_that_may_not_be_written() {
     fs::set_permissions(folder.path("shut"), Permissions::from_mode(0o755)).unwrap();
 }
 
+/// What cannot be read may be the page of a shelf, so it is not replaced.
+#[test]
+fn a_file_that_may_not_be_read() {
+    let folder = folder("unread");
+    folder.write("unread", b"old");
+    let mode = |mode| fs::set_permissions(folder.path("unread"), Permissions::from_mode(mode));
+    fs::set_permissions(folder.path("."), Permissions::from_mode(0o777)).unwrap();
+    mode(0o222).unwrap();
+    let ended = as_nobody(&folder, "evaluate covers16.circuit row --out unread");
+    mode(0o644).unwrap();
+    if let Some(ended) = ended {
+        ended.mistaken("unread: Permission denied");
+        assert_eq!(folder.read("unread"), b"old");
+    }
+}
+
 /// In a sticky folder nobody replaces the file of another user.
 #[test]
 fn a_sticky_folder() {
