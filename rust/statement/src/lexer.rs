@@ -164,7 +164,9 @@ fn number(word: &str) -> Result<Token, String> {
 /// What to say of a character that begins no token.
 fn stray(char: char) -> String {
     let advice = match char {
-        '-' => "no number is negative: what is taken off one side is added on the other",
+        '-' => {
+            "no number is negative: what is taken off one side is added on the other, and a name has `_`"
+        }
         '.' => "a number is whole, and a range is written `in (1 to 5)`",
         '*' => "there is no product: twice a number is the sum `a + a`",
         '/' | '%' => "there is no division: compare with a sum, as `a + a >= b`",

@@ -30,6 +30,11 @@ pub fn parse(text: &[u8]) -> Result<(Vec<Part>, Place), Fault> {
     Ok((parts, parser.place()))
 }
 
+/// The fault with what to do.
+fn advised(fault: Fault, advice: &str) -> Fault {
+    fault.place.fault(format!("{}: {advice}", fault.text))
+}
+
 struct Parser {
     tokens: Vec<(Token, Place)>,
     at: usize,
@@ -81,13 +86,14 @@ impl Parser {
             return Ok(Part::Let(name, self.value()?));
         }
         let fault = self.expected("`row`, `let` or `show`");
-        Err(match self.small_letters() {
-            Some(word) => {
-                let advice = format!("{}: the word is `{word}`, in small letters", fault.text);
-                fault.place.fault(advice)
+        let advice = match (self.small_letters(), self.next()) {
+            (Some(word), _) => format!("the word is `{word}`, in small letters"),
+            (_, Token::Name(name)) if name == "between" => {
+                "a range is written `in (1 to 5)`".into()
             }
-            None => fault,
-        })
+            _ => return Err(fault),
+        };
+        Err(advised(fault, &advice))
     }
 
     /// The word of the language that the next token is in other letters.
@@ -128,7 +134,10 @@ impl Parser {
 
     fn field(&mut self) -> Result<Field, Fault> {
         let name = self.name("the name of a field")?;
-        self.need(":")?;
+        if !self.take(":") {
+            let advice = format!("a field is written with its bits, as `{}: 16`", name.text);
+            return Err(advised(self.expected("`:`"), &advice));
+        }
         Ok(Field {
             name,
             width_place: self.place(),
@@ -236,6 +245,13 @@ impl Parser {
         let Some(comparison) = self.comparison() else {
             return Ok(left);
         };
+        if matches!(
+            (comparison, self.next()),
+            (Comparison::Less, Token::Fixed(">"))
+        ) {
+            let text = "two numbers that are not equal are `!=`";
+            return Err(self.place().fault(text));
+        }
         let right = self.sum()?;
         let (again, second) = (self.place(), self.comparison());
         if second.is_some() {
@@ -253,9 +269,8 @@ impl Parser {
     /// A list of numbers and ranges, behind `in`.
     fn member(&mut self, left: Value) -> Parsed {
         if !self.take("(") {
-            let fault = self.expected("`(`");
             let advice = "numbers and ranges stand in brackets, as `in (3, 5 to 9)`";
-            return Err(fault.place.fault(format!("{}: {advice}", fault.text)));
+            return Err(advised(self.expected("`(`"), advice));
         }
         let ranges = self.list(Parser::range)?;
         self.need(")")?;

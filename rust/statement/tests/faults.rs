@@ -50,7 +50,7 @@ fn words_and_signs() {
         ("row a: ^04 show a", "`04`: a number begins with no 0"),
         ("row a: 4 show b = a in (^00)", "`00`: a number begins with no 0"),
         ("row a: 4\nshow b = a < ^340282366920938463463374607431768211456", "`340282366920938463463374607431768211456` has more than 128 bits"),
-        ("row a: 4, b: 4 show c = a ^- b >= 3", "`-` cannot stand here: no number is negative: what is taken off one side is added on the other"),
+        ("row a: 4, b: 4 show c = a ^- b >= 3", "`-` cannot stand here: no number is negative: what is taken off one side is added on the other, and a name has `_`"),
         ("row a: 4 show b = ^! a == 3", "`!` cannot stand here: `not` stands before a condition, `!=` between two numbers"),
         ("row a: 4 show b = a == 3 ^&& a == 4", "`&` cannot stand here: write `and`"),
         ("row a: 4 show b = a == 3 ^|| a == 4", "`|` cannot stand here: write `or`"),
@@ -111,7 +111,10 @@ fn parts() {
             "row ^in: 4 show in",
             "the name of a field is expected, not `in`",
         ),
-        ("row a ^16 show a", "`:` is expected, not `16`"),
+        (
+            "row a ^16 show a",
+            "`:` is expected, not `16`: a field is written with its bits, as `a: 16`",
+        ),
         (
             "row a: ^b show a",
             "the number of bits of the field is expected, not `b`",
@@ -160,6 +163,22 @@ fn other_forms() {
         (
             "row a: 4\nshow c = a >= 3 ^AND a <= 5",
             "`row`, `let` or `show` is expected, not `AND`: the word is `and`, in small letters",
+        ),
+        (
+            "row a: 4\nshow c = a ^between 1 and 5",
+            "`row`, `let` or `show` is expected, not `between`: a range is written `in (1 to 5)`",
+        ),
+        (
+            "row a: 4\nshow c = a <^> 5",
+            "two numbers that are not equal are `!=`",
+        ),
+        (
+            "row a: 4, b ^= 5",
+            "`:` is expected, not `=`: a field is written with its bits, as `b: 16`",
+        ),
+        (
+            "row best^-before: 16",
+            "`-` cannot stand here: no number is negative: what is taken off one side is added on the other, and a name has `_`",
         ),
         (
             "^Row a: 4",

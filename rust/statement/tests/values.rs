@@ -105,7 +105,7 @@ fn faults() {
         (row("stock="), 1, 7, "`stock` is a number, not the end of the text"),
         (row("stock"), 1, 6, "`=` is expected, not the end of the text"),
         (row("show=5"), 1, 1, "a name is expected, not `show`"),
-        (row("stock=-5"), 1, 7, "`-` cannot stand here: no number is negative: what is taken off one side is added on the other"),
+        (row("stock=-5"), 1, 7, "`-` cannot stand here: no number is negative: what is taken off one side is added on the other, and a name has `_`"),
         (row("key=340282366920938463463374607431768211456"), 1, 5, "`340282366920938463463374607431768211456` has more than 128 bits"),
         (y("flag=1\nfine=2"), 2, 6, "`fine` is yes or no, not `2`"),
         (y("fine=true"), 1, 6, "`fine` is yes or no, not `true`"),
