@@ -34,7 +34,8 @@ impl Torn {
     fn of(option: &str, word: &OsStr) -> Option<Torn> {
         let bytes = word.as_encoded_bytes();
         let is_typed = bytes.starts_with(b"text:") || bytes.starts_with(b"hex:");
-        let is_text = option == "--message " && !Path::new(word).exists();
+        let is_open = bytes == b"-" || bytes.starts_with(b"fd:");
+        let is_text = option == "--message " && !is_open && !Path::new(word).exists();
         (is_typed || is_text).then(|| Torn {
             option: option.into(),
             typed: shown(word),
@@ -42,9 +43,10 @@ impl Torn {
         })
     }
 
-    /// Is one of the words behind it no file?
-    fn is_likely(&self) -> bool {
-        self.words.iter().any(|word| !Path::new(word).exists())
+    /// Is one of the words behind it no file, and are there enough places without them?
+    fn is_likely(&self, given: usize, needed: usize) -> bool {
+        let is_file = |word: &OsString| Path::new(word).exists();
+        given - self.words.len() >= needed && !self.words.iter().all(is_file)
     }
 
     /// What to do if the words behind it are a part of it.
@@ -122,8 +124,8 @@ impl Args {
                 format!("an argument is missing: {name}")
             }
         };
-        let torn = self.torn.iter().find(|torn| torn.is_likely());
-        let wrong = torn.filter(|_| given > places).map_or(wrong, Torn::advice);
+        let torn = self.torn.iter().find(|torn| torn.is_likely(given, places));
+        let wrong = torn.map_or(wrong, Torn::advice);
         Err(self.command.misused(&wrong))
     }
 
@@ -273,7 +275,10 @@ impl Args {
     /// The bytes that an argument stands for.
     pub fn input(&self, value: &OsStr) -> Result<Input, Failure> {
         let read = self.inputs.get(value);
-        let is_word = |torn: &&Torn| torn.words.iter().any(|word| word == value);
+        let (given, needed) = (self.places.len(), self.command.places);
+        let is_word = |torn: &&Torn| {
+            torn.is_likely(given, needed) && torn.words.iter().any(|word| word == value)
+        };
         match self.torn.iter().find(is_word) {
             Some(torn) if read.is_err() => Err(self.command.misused(&torn.advice())),
             _ => read,

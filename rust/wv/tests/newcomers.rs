@@ -562,6 +562,14 @@ fn a_text_without_quotes() {
     folder
         .wv("check --message text:order covers16.circuit row covers16.circuit --y hex:f50100")
         .mistaken("an argument is missing: PROOF");
+    // A name with a slip in it there is no word of the text.
+    for message in ["text:order", "-", "fd:0", "text:a"] {
+        let ended = folder.wv(&format!(
+            "check --y hex:f50100 --message {message} covers16.circiut row"
+        ));
+        ended.mistaken("covers16.circiut: No such file");
+        assert!(!ended.err.contains("stands alone"), "{ended:?}");
+    }
     assert!(!folder.has("proof") && !folder.has("y"));
     assert_eq!(folder.draws(), 0);
 }
