@@ -18,9 +18,11 @@ use Rattle.bits.specs.Bytes.{leAt, leBytes}
 use Rattle.bits.proofs.Numbers.{eq-or-ne, ext-bits, fromBits-cong, fromBits-lt, lt-or-le, odd-bitVal, testBit-fromBits, testBit-high, testBit-zero}
 use Rattle.bits.proofs.Packing.{bitAt-byte}
 use Rattle.words.specs.Words.{every, place, chosen}
-use Rattle.words.specs.Steps.{at, fill, turned, columnWords, transposedRows, storedColumn}
+use Rattle.words.specs.Steps.{at, fill, turned}
+use Rattle.blocks.specs.Steps.{columnWords, transposedRows, storedColumn}
 use Rattle.words.proofs.Fill.{fill-at, fill-cong, fill-join, fill-length, fill-none, fill-other, fill-turn}
-use Rattle.words.proofs.Turns.{blocks, blocks-bit, blocks-lt, column-bits, column-end, column-turned, leAt-blocks}
+use Rattle.words.proofs.Turns.{blocks, blocks-bit, blocks-lt, leAt-blocks}
+use Rattle.blocks.proofs.Columns.{column-bits, column-end, column-turned}
 use Rattle.planes.specs.Steps.{tapeWords, tapeAt, broadcastWord, cleared, clearedTapes, loadedWords, rowsIn, loadedGroups, loadedTapes, storedWords, storedGroups, storedRows, putBits, putParty}
 use Rattle.planes.specs.declared.Layout.{Layout}
 

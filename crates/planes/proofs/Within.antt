@@ -13,9 +13,11 @@ use Rattle.bits.proofs.Numbers.{fromBits-cong, lt-or-le, testBit-fromBits}
 use Rattle.bits.proofs.Packing.{bitAt-byte}
 use Rattle.bits.proofs.Rows.{row-getD, row-length}
 use Rattle.words.specs.Words.{every, place, chosen}
-use Rattle.words.specs.Steps.{at, fill, transposed, gathered, scattered, turned, rowWords, transposedRows, storedColumn}
+use Rattle.words.specs.Steps.{at, fill, transposed, gathered, scattered, turned}
+use Rattle.blocks.specs.Steps.{rowWords, transposedRows, storedColumn}
 use Rattle.words.proofs.Fill.{fill-cong, fill-join, fill-read}
-use Rattle.words.proofs.Turns.{blocks-bit, column-turned, leAt-blocks, place-within, row-bits, row-none, turned-word}
+use Rattle.words.proofs.Turns.{blocks-bit, leAt-blocks, place-within, turned-word}
+use Rattle.blocks.proofs.Columns.{column-turned, row-bits, row-none}
 use Rattle.planes.specs.Steps.{tapeAt, broadcastWord, correctionsAt, rowsAt, tape, clearedTapes, loadedWords, rowsIn, loadedGroups, loadedRows, storedWords, storedBlock, putBits, putParty}
 use Rattle.planes.specs.declared.Layout.{Layout}
 use Rattle.planes.proofs.Turning.{groups-other, load-turn, party-put, put-bytes-turn, put-turn, store-more, store-turn, tapes-loaded, tapes-turn}

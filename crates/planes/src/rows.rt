@@ -7,9 +7,9 @@ use crate::Layout;
 use crate::places::rows_at;
 use crate::places::tape_at;
 use crate::tapes::rows_in;
-use words::blocks::read_columns;
-use words::blocks::store_column;
-use words::blocks::transpose_rows;
+use blocks::read_columns;
+use blocks::store_column;
+use blocks::transpose_rows;
 use words::transpose::turn;
 use words::transpose::turn_within;
 

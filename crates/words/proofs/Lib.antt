@@ -3,6 +3,5 @@ pub mod Columns
 pub mod Folds
 pub mod Gate
 pub mod Swaps
-pub mod Exchanges
 pub mod Turns
 pub mod Theorem

@@ -5,7 +5,6 @@ ghost use Rattle.bits.specs.Bits.{bitVal, odd};
 ghost use Rattle.words.specs.Words.{parity, every, place, broadcastWord, chosen};
 ghost use Rattle.words.specs.Steps.{AndColumns};
 
-pub mod blocks;
 pub mod transpose;
 
 // A byte as a word.

@@ -38,7 +38,7 @@ fn join8(a: u8, b: u8, c: u8, d: u8, e: u8, f: u8, g: u8, h: u8) -> u64
 }
 
 // The byte of s at j, and every step-th after it, 8 in all, as a word.
-pub(crate) fn gather8(s: &[u8], j: usize, step: usize) -> u64
+pub fn gather8(s: &[u8], j: usize, step: usize) -> u64
     requires { ⌜ j + 7 * step < length (now s) ⌝ }
     ensures { λ r. ⌜ r ≡ gathered 8 (now (s .entry)) j step ⌝ }
 {

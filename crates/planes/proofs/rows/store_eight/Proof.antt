@@ -4,7 +4,7 @@ use native.Mathlib.Omega.{arith}
 use mathlib.Core.Path.{_≡_, refl, ap, _∙_}
 use Prim.Native.Nat.{ℕ, _-_, _≤_}
 use lib.ListN.{length}
-use Rattle.words.specs.Steps.{transposedRows}
+use Rattle.blocks.specs.Steps.{transposedRows}
 use Rattle.planes.specs.Steps.{storedWords}
 use Rattle.planes.proofs.Turning.{store-column, store-none}
 use Rattle.planes.proofs.rows.store_eight.Statement.{statement}

@@ -5,7 +5,7 @@ use native.Mathlib.Omega.{arith}
 use mathlib.Core.Path.{_≡_, refl, ap, _∙_}
 use Prim.Native.Nat.{ℕ, _+_, _-_, _*_, _≤_}
 use lib.ListN.{length}
-use Rattle.words.specs.Steps.{transposedRows}
+use Rattle.blocks.specs.Steps.{transposedRows}
 use Rattle.planes.specs.Steps.{loadedWords}
 use Rattle.planes.proofs.Turning.{load-none}
 use Rattle.planes.proofs.Within.{rows-column, rows-length}

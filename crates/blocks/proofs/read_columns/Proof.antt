@@ -1,9 +1,9 @@
--- `words::blocks::read_columns` meets its contract: eight words gathered.
+-- `blocks::read_columns` meets its contract: eight words gathered.
 -- Assumes nothing.
 use borrow.Author.Needs.{needs}
-use Rattle.words.proofs.Turns.{columns-read}
-use Rattle.words.proofs.blocks.read_columns.Statement.{statement}
-use Rattle.words.proofs.blocks.read_columns.Tie as tie
+use Rattle.blocks.proofs.Columns.{columns-read}
+use Rattle.blocks.proofs.read_columns.Statement.{statement}
+use Rattle.blocks.proofs.read_columns.Tie as tie
 
 gather8-requires : tie.Need-gather8-requires
 gather8-requires c κs = search needs

@@ -1,13 +1,14 @@
--- `words::blocks::store_column` meets its contract. The invariant: i bytes are stored.
+-- `blocks::store_column` meets its contract. The invariant: i bytes are stored.
 -- Assumes nothing.
 use native.Mathlib.Omega.{arith}
 use mathlib.Core.Path.{_≡_, refl, sym, ap, _∙_}
 use Prim.Native.Nat.{ℕ, _-_, _≤_}
 use lib.ListN.{length, length-set}
-use Rattle.words.specs.Steps.{storedColumn}
-use Rattle.words.proofs.Turns.{place-within, column-none, column-turn, times-eight}
-use Rattle.words.proofs.blocks.store_column.Statement.{statement}
-use Rattle.words.proofs.blocks.store_column.Tie as tie
+use Rattle.blocks.specs.Steps.{storedColumn}
+use Rattle.words.proofs.Turns.{place-within, times-eight}
+use Rattle.blocks.proofs.Columns.{column-none, column-turn}
+use Rattle.blocks.proofs.store_column.Statement.{statement}
+use Rattle.blocks.proofs.store_column.Tie as tie
 
 abbrev Inv-loop : tie.InvT-loop
 Inv-loop b memory₀ j step n w d i₀ memory i =

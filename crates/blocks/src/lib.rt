@@ -3,8 +3,8 @@
 ghost use mathlib.Core.Path.{_≡_};
 ghost use Prim.Native.Nat.{_+_, _*_, _≤_, _<_};
 ghost use lib.ListN.{length};
-ghost use Rattle.words.specs.Steps.{rowWords, columnWords, exchanged, transposedRows, storedColumn};
-use crate::transpose::gather8;
+ghost use Rattle.blocks.specs.Steps.{rowWords, columnWords, exchanged, transposedRows, storedColumn};
+use words::transpose::gather8;
 
 // Eight bytes of s, from j on, as a word, and each step after it, n in all; zeros for the words that are left of 8.
 pub fn read_rows(s: &[u8], j: usize, step: usize, n: usize) -> [u64; 8]

@@ -1,12 +1,13 @@
--- `words::blocks::read_rows` meets its contract. The invariant: p words are read.
+-- `blocks::read_rows` meets its contract. The invariant: p words are read.
 -- Assumes nothing.
 use native.Mathlib.Omega.{arith}
 use mathlib.Core.Path.{_≡_, refl, ap, _∙_}
 use Prim.Native.Nat.{ℕ, _-_, _≤_}
-use Rattle.words.specs.Steps.{rowWords}
-use Rattle.words.proofs.Turns.{place-within, rows-none, rows-turn}
-use Rattle.words.proofs.blocks.read_rows.Statement.{statement}
-use Rattle.words.proofs.blocks.read_rows.Tie as tie
+use Rattle.blocks.specs.Steps.{rowWords}
+use Rattle.words.proofs.Turns.{place-within}
+use Rattle.blocks.proofs.Columns.{rows-none, rows-turn}
+use Rattle.blocks.proofs.read_rows.Statement.{statement}
+use Rattle.blocks.proofs.read_rows.Tie as tie
 
 abbrev Inv-loop : tie.InvT-loop
 Inv-loop s j step n r₀ p₀ r p = (p ≤ n) × (r ≡ rowWords p s j step)

@@ -20,8 +20,9 @@ use Rattle.bits.proofs.Ops.{testBit-shl-below, testBit-shl-from}
 use Rattle.bits.proofs.Tests.{and-true-left, and-true-right}
 use Rattle.bits.proofs.Tabulate.{getD-tabulate, length-tabulate}
 use Rattle.bits.proofs.Xor.{taut}
-use Rattle.words.specs.Steps.{at, exchangedPair, exchanged, transposedRows}
+use Rattle.words.specs.Steps.{at}
+use Rattle.blocks.specs.Steps.{exchangedPair, exchanged, transposedRows}
 use Rattle.words.proofs.Swaps.{all, all-at, above}
 
 -- the bits that two words exchange
 abbrev differing : ℕ → ℕ → ℕ → ℕ → ℕ

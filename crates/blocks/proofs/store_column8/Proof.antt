@@ -1,13 +1,14 @@
--- `words::blocks::store_column8` meets its contract: eight stores are a fill of eight places.
+-- `blocks::store_column8` meets its contract: eight stores are a fill of eight places.
 -- Assumes nothing.
 use borrow.Author.Needs.{needs}
 use native.Mathlib.Omega.{arith}
 use Prim.Native.Nat.{_*_, _/_, _%_, _^_}
 use lib.ListN.{length-set}
-use Rattle.words.specs.Steps.{at, storedColumn}
+use Rattle.words.specs.Steps.{at}
+use Rattle.blocks.specs.Steps.{storedColumn}
 use Rattle.words.proofs.Turns.{eight-fills}
-use Rattle.words.proofs.blocks.store_column8.Statement.{statement}
-use Rattle.words.proofs.blocks.store_column8.Tie as tie
+use Rattle.blocks.proofs.store_column8.Statement.{statement}
+use Rattle.blocks.proofs.store_column8.Tie as tie
 
 mul-d : tie.Need-mul-d
 mul-d c = search needs

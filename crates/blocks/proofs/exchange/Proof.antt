@@ -1,10 +1,10 @@
--- `words::blocks::exchange` meets its contract: the definition is what the code does.
+-- `blocks::exchange` meets its contract: the definition is what the code does.
 -- Assumes nothing.
 use borrow.Author.Needs.{needs}
 use mathlib.Core.Path.{refl}
-use Rattle.words.specs.Steps.{exchangedPair, exchanged}
-use Rattle.words.proofs.blocks.exchange.Statement.{statement}
-use Rattle.words.proofs.blocks.exchange.Tie as tie
+use Rattle.blocks.specs.Steps.{exchangedPair, exchanged}
+use Rattle.blocks.proofs.exchange.Statement.{statement}
+use Rattle.blocks.proofs.exchange.Tie as tie
 
 array-read-t0 : tie.Need-array-read-t0
 array-read-t0 c = search needs

@@ -1,13 +1,13 @@
--- `words::blocks::transpose_rows` meets its contract: three exchanges.
+-- `blocks::transpose_rows` meets its contract: three exchanges.
 -- Assumes nothing.
-use Rattle.words.proofs.Exchanges.{three-exchanges}
+use Rattle.blocks.proofs.Exchanges.{three-exchanges}
 use native.Mathlib.Omega.{arith}
 use borrow.Author.Needs.{needs}
 use lib.ListN.{getD}
 use mir.Syntax.{w64}
 use mir.Val.{Fits}
-use Rattle.words.proofs.blocks.transpose_rows.Statement.{statement}
-use Rattle.words.proofs.blocks.transpose_rows.Tie as tie
+use Rattle.blocks.proofs.transpose_rows.Statement.{statement}
+use Rattle.blocks.proofs.transpose_rows.Tie as tie
 
 exchange-requires : tie.Need-exchange-requires
 exchange-requires c κs = search needs
