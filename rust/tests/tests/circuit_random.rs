@@ -134,6 +134,7 @@ fn damaged_files() {
 #[test]
 fn random_bytes() {
     let mut random = Random::new(23);
+    let mut outcomes = Outcomes::default();
     for _ in 0..2_000 {
         let len = random.below(128);
         let mut bytes = random.bytes(len);
@@ -141,7 +142,8 @@ fn random_bytes() {
         for (place, byte) in bytes.iter_mut().enumerate() {
             *byte = if place % 4 == 0 { *byte % 4 } else { 0 };
         }
-        let _ = compare_read(&mut random, &bytes);
-        let _ = compare_evaluate(&mut random, &bytes, &[0], 1);
+        outcomes.add_answer(&compare_read(&mut random, &bytes));
+        outcomes.add_answer(&compare_evaluate(&mut random, &bytes, &[0], 1));
     }
+    outcomes.expect_some(&[1, 2], 100);
 }

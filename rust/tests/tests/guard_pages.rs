@@ -640,6 +640,7 @@ fn a_crossing_is_a_crash() {
             .expect("it runs");
         let crash = (crossing != "none").then_some(11);
         assert_eq!(ended.status.signal(), crash, "{crossing}");
+        assert_eq!(ended.status.success(), crash.is_none(), "{crossing}");
     }
 }
 

@@ -19,6 +19,9 @@ const SLOTS: u16 = 3;
 const FIRST: [Event; 8] = [Stock, Stock, Draw, Stock, Draw, Stock, Draw, Stock];
 const THEN: [Event; 3] = [Draw, Stock, Draw];
 
+/// More steps than any of these histories has.
+const MOST_STEPS: usize = 1000;
+
 /// What the host knows, which no cut takes from it.
 #[derive(Clone, Default)]
 struct Host {
@@ -93,6 +96,7 @@ impl Host {
 fn cuts_of(disk: &CutDisk, host: &Host, events: &[Event]) -> Vec<(CutDisk, Host)> {
     let mut found = vec![];
     for made in 0.. {
+        assert!(made < MOST_STEPS, "it never ends well");
         let (disk, mut host) = (disk.copy(Plan::CutAfter(made)), host.clone());
         match host.play(&disk, events) {
             Ok(()) => break,
@@ -147,7 +151,9 @@ fn one_cut_anywhere() {
 fn two_cuts_anywhere() {
     let firsts = cuts_of(&CutDisk::new(Plan::AllGoWell), &Host::default(), &FIRST);
     for (disk, host) in firsts {
-        for (disk, mut host) in cuts_of(&disk, &host, &THEN) {
+        let seconds = cuts_of(&disk, &host, &THEN);
+        assert!(seconds.len() > 50, "{} states", seconds.len());
+        for (disk, mut host) in seconds {
             host.finish(&disk);
         }
     }
@@ -158,6 +164,7 @@ fn two_cuts_anywhere() {
 #[test]
 fn one_error_anywhere() {
     for step in 0.. {
+        assert!(step < MOST_STEPS, "it never ends well");
         let (disk, mut host) = (CutDisk::new(Plan::FailAt(step)), Host::default());
         let trouble = host.play(&disk, &FIRST);
         if trouble.is_ok() {
@@ -175,7 +182,7 @@ fn a_failed_write_stops_the_shelf() {
     let mut host = Host::default();
     host.play(&disk, &[Stock, Stock]).expect("no trouble");
     let mut failed = 0;
-    for step in 0.. {
+    for step in 0..MOST_STEPS {
         let disk = disk.copy(Plan::FailAt(step));
         let Ok(mut shelf) = Shelf::open_in(disk.clone()) else {
             continue;
@@ -387,12 +394,17 @@ fn a_page_from_before_a_stocking_is_put_back() {
     host.play(&disk, &[Stock]).expect("no trouble");
     let before = disk.bytes(Name::Page).expect("a page");
     host.play(&disk, &[Stock]).expect("no trouble");
+    let mut given = 0;
     for (disk, mut host) in cuts_of(&disk, &host, &[Draw]) {
         disk.put_back(Name::Page, &before);
-        let _ = host.play(&disk, &[Draw]);
+        match host.play(&disk, &[Draw]) {
+            Ok(()) => given += host.given.len(),
+            Err(trouble) => assert_eq!(trouble.refusal(), Some(Refusal::AnotherCount), "{trouble}"),
+        }
         host.no_root_twice();
         put_back_each_page(&disk, &host);
     }
+    assert!(given > 3, "{given} given");
 }
 
 /// Stockings, draws, cuts, and any page that the disk ever had put back in place
