@@ -7,9 +7,10 @@ mod common;
 use common::{Ended, Folder};
 use std::fs;
 
-/// The same statement each time: with the same root it would be the same proof.
-const PROVE: &str =
-    "prove covers16.circuit row --shelf page --log log --message text:a --out proof";
+/// The same statement and the same salt each time: with the same root it would be the
+/// same proof.
+const PROVE: &str = "prove covers16.circuit row --shelf page --log log --message text:a \
+                     --salt text:the_same_salt_of_32_bytes_in_all --out proof";
 
 /// A shelf of 20 slots and three roots: so many that its order is its own.
 fn depot(name: &str) -> Folder {

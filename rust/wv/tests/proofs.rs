@@ -85,13 +85,17 @@ fn proofs_through_pipes() {
     folder.wv_reading(check, &made.out).says(accepted);
 }
 
+/// With one root and one salt both would be the same proof.
 #[test]
 fn two_proofs_take_two_roots() {
     let folder = Folder::with_shelf("two_proofs");
-    prove_small(&folder);
-    let first = folder.read("proof");
-    prove_small(&folder);
-    assert_ne!(folder.read("proof"), first);
+    let salt = "--salt text:the_same_salt_of_32_bytes_in_all";
+    let [first, second] = [(); 2].map(|()| {
+        let made = folder.wv(&format!("{PROVE} {SMALL} {ORDER} {salt}"));
+        assert_eq!(made.status, 0, "{made:?}");
+        folder.read("proof")
+    });
+    assert_ne!(first, second);
     ready(&folder, 1);
 }
 
