@@ -681,4 +681,86 @@ fn no_root_is_left() {
     let all = masters.chunks(16).map(<[u8]>::to_vec);
     let all: Vec<Vec<u8>> = all.chain(secrets).collect();
     assert_eq!(found(&all, &stack), 0, "masters");
+    // Leaf 8 of nine is alone in its half: the other half is one node.
+    let mut nodes = vec![0; 16];
+    let stack = below(|| seeds::cover(9, &[8, 0], &salt, &root, &mut nodes).expect("a cover"));
+    let secrets = [root, masters[8 * 16..].to_vec()];
+    assert_eq!(found(&secrets, &stack), 0, "cover");
+}
+
+/// A tree that is expanded or opened leaves no master and no leaf.
+#[test]
+fn no_leaf_is_left() {
+    let mut random = Random::new(0x582);
+    let [salt, master] = [32, 16].map(|len| random.bytes(len));
+    let (mut leaves, mut siblings) = (vec![0; 16 * 8], vec![0; 16 * 3]);
+    let stack = below(|| seeds::expand(7, 8, &salt, &master, &mut leaves).expect("leaves"));
+    let mut secrets: Vec<Vec<u8>> = leaves.chunks(16).map(<[u8]>::to_vec).collect();
+    secrets.push(master.clone());
+    assert_eq!(found(&secrets, &stack), 0, "expand");
+    let stack = below(|| seeds::open(7, 8, 5, &salt, &master, &mut siblings).expect("siblings"));
+    assert_eq!(found(&[master, secrets[5].clone()], &stack), 0, "open");
+}
+
+/// The call overwrites more of the stack than any call takes.
+fn burns(name: &str, call: impl FnOnce() + Send) {
+    let used = used(&below(call));
+    assert!(used > MOST, "{name} burns {used} bytes");
+}
+
+/// Every function of the crate that is lent a witness, tapes, a root, a master or a page
+/// burns the stack, whether or not something was left there.
+#[test]
+fn calls_with_a_secret_burn() {
+    let mut random = Random::new(0x583);
+    let setting = Setting::of_sizes(&mut random, [9, 3, 12], 4);
+    let corrections = setting.prepare().by_reference().expect("prepared");
+    let calls = [
+        ("prepare", setting.prepare()),
+        ("run", setting.run(&corrections[0])),
+        ("show", setting.show(1, setting.whole())),
+    ];
+    for (name, call) in calls {
+        burns(name, || assert!(call.by_library().is_ok()));
+    }
+    let (circuit, witness) = (&setting.circuit, &setting.witness);
+    burns("evaluate", || {
+        assert_eq!(circuit::evaluate(circuit, witness, &mut [0]), Ok(()));
+    });
+    let call = Prove::of(&mut random, &setting, [3, 1], 5);
+    let mut proof = vec![0; call.proof_len];
+    burns("prove", || {
+        let statement = Statement {
+            circuit,
+            y: &call.y,
+            message: &call.message,
+        };
+        let (counts, work) = (
+            Counts { m: 3, tau: 1, n: 4 },
+            &mut vec![0; call.work_len][..],
+        );
+        let (proof, work) = (&mut proof, &mut Work::lent(work));
+        let made = prove(
+            statement, witness, &call.root, &call.salt, counts, proof, work,
+        );
+        assert!(made.is_ok());
+    });
+    let (salt, root) = ([5; 32], [6; 16]);
+    burns("expand", || {
+        assert_eq!(seeds::expand(0, 2, &salt, &root, &mut [0; 32]), Ok(()));
+    });
+    burns("open", || {
+        assert_eq!(seeds::open(0, 2, 1, &salt, &root, &mut [0; 16]), Ok(()));
+    });
+    burns("masters", || {
+        assert_eq!(seeds::masters(2, &salt, &root, &mut [0; 32]), Ok(()));
+    });
+    burns("cover", || {
+        assert_eq!(seeds::cover(2, &[1, 0], &salt, &root, &mut [0; 16]), Ok(()));
+    });
+    let mut page = tests::pages::page(&[], &[1, 2], 0);
+    burns("stock", || {
+        assert_eq!(shelf::stock(&mut page, &root), Ok(()))
+    });
+    burns("draw", || assert_eq!(shelf::draw(&mut page, 0), Ok(root)));
 }
