@@ -47,3 +47,39 @@ impl From<Status> for CStatus {
         }
     }
 }
+
+#[cfg(test)]
+mod tests {
+    use super::*;
+
+    /// Each standing has the number of its name, and tells what is missing.
+    #[test]
+    fn pages_by_their_names() {
+        let named = [
+            (Standing::Present, "PRESENT", 0),
+            (Standing::Earlier { stockings: 7 }, "EARLIER", 7),
+            (Standing::Behind { draws: 8 }, "BEHIND", 8),
+            (Standing::Ahead { draws: 9 }, "AHEAD", 9),
+            (Standing::SetBack, "SET_BACK", 0),
+            (Standing::Replaced, "REPLACED", 0),
+            (Standing::Foreign, "FOREIGN", 0),
+            (Standing::Unknown, "UNKNOWN", 0),
+        ];
+        for (standing, name, missing) in named {
+            let status = CStatus::from(Status {
+                slots: 4,
+                ready: 3,
+                draws: 5,
+                count: 6,
+                standing,
+                unfinished: true,
+            });
+            assert_eq!(
+                (PAGES[status.page as usize], status.missing),
+                (name, missing)
+            );
+            assert_eq!((status.slots, status.ready, status.unfinished), (4, 3, 1));
+            assert_eq!((status.draws, status.count), (5, 6));
+        }
+    }
+}

@@ -123,7 +123,7 @@ fn a_cut_while_the_mark_is_written() {
     let (disk, pages) = used();
     disk.put_back(Name::Log, &shortened(&log(&disk), 1));
     let mut marked = 0;
-    for made in 0.. {
+    for made in 0..1000 {
         let cut = disk.copy(Plan::CutAfter(made));
         let answer = Shelf::open_in(cut.clone()).and_then(|mut shelf| shelf.draw());
         for after in cut.after_cut() {
@@ -224,10 +224,9 @@ fn another_shelfs_log() {
 fn a_page_changed_by_other_hands() {
     let (disk, _) = used();
     let (present, before) = (page(&disk), log(&disk));
-    let place = present.iter().position(|&byte| byte == 2).expect("a root");
     let root = (12..present.len()).find(|&place| present[place..].starts_with(&[2; 16]));
     let mut changed = present.clone();
-    changed[root.unwrap_or(place)] ^= 1;
+    changed[root.expect("a root")] ^= 1;
     disk.put_back(Name::Page, &changed);
     assert_eq!(standing(&disk), Standing::Unknown);
     assert_stands(&disk, Standing::Unknown);
@@ -249,6 +248,7 @@ fn a_page_changed_by_other_hands() {
 fn looking_changes_nothing() {
     let disk = new_disk(SLOTS);
     stock(&disk, 1);
+    let [mut finished, mut unfinished] = [0; 2];
     for made in 0..20 {
         let cut = disk.copy(Plan::CutAfter(made));
         let _ = Shelf::open_in(cut.clone()).and_then(|mut shelf| shelf.draw());
@@ -259,16 +259,49 @@ fn looking_changes_nothing() {
             assert_eq!(after.steps(), steps);
             let opened = open(&after).status().expect("a status");
             assert!(!opened.unfinished);
-            let unfinished = seen.unfinished;
+            match seen.unfinished {
+                true => unfinished += 1,
+                false => finished += 1,
+            }
             assert_eq!(
                 seen,
                 wivulameno::store::Status {
-                    unfinished,
+                    unfinished: seen.unfinished,
                     ..opened
                 }
             );
         }
     }
+    assert!(finished > 3 && unfinished > 3, "{finished}, {unfinished}");
+}
+
+/// What a draw would end with, by the page's own numbers: no root ready comes before a
+/// count that can grow no more.
+#[test]
+fn what_a_draw_would_end_with() {
+    let trouble = |ready, draws, standing| {
+        let status = wivulameno::store::Status {
+            slots: 3,
+            ready,
+            draws,
+            count: draws.into(),
+            standing,
+            unfinished: false,
+        };
+        status.trouble().map(|trouble| trouble.refusal())
+    };
+    let (last, behind) = (u32::MAX, Standing::Behind { draws: 1 });
+    assert_eq!(trouble(1, last - 1, Standing::Present), None);
+    assert_eq!(
+        trouble(1, last, Standing::Present),
+        Some(Some(Refusal::Spent))
+    );
+    assert_eq!(
+        trouble(0, last, Standing::Present),
+        Some(Some(Refusal::Empty))
+    );
+    assert_eq!(trouble(0, last, behind), Some(Some(Refusal::AnotherCount)));
+    assert_eq!(trouble(1, last, Standing::Unknown), Some(None));
 }
 
 /// Two shelves cannot share a log.

@@ -276,6 +276,18 @@ mod tests {
         assert!(image.contains("a&lt;b") && image.contains("a test &amp; more"));
     }
 
+    /// The quickest proof is one of the first circuit, the slowest one of the second.
+    #[test]
+    fn each_circuit_has_its_colour() {
+        let image = svg(&some_data(), "a test");
+        let circles = image.lines().filter(|line| line.starts_with("<circle"));
+        let mut circles: Vec<&str> = circles.collect();
+        circles.sort_by(|one, other| value(one, "cx").total_cmp(&value(other, "cx")));
+        let [first, last] = [circles[0], circles[circles.len() - 1]];
+        assert!(first.contains(COLOURS[0]), "{first}");
+        assert!(last.contains(COLOURS[1]), "{last}");
+    }
+
     /// The labels of points, as rectangles.
     fn labels_of(image: &str) -> Vec<labels::Rect> {
         let lines = image.lines().filter(|line| {
