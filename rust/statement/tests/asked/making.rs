@@ -114,7 +114,7 @@ impl Maker<'_> {
 pub fn asked(random: &mut Random) -> Asked {
     let fields = random.from_to(1, 5);
     let width = |random: &mut Random| match random.below(8) {
-        0 => random.from_to(1, 100) as u32,
+        0 => random.from_to(1, 128) as u32,
         1 => random.from_to(1, 32) as u32,
         _ => random.from_to(1, 6) as u32,
     };
