@@ -373,7 +373,7 @@ static void test_prove(uint32_t n)
     if (declared_jumps == 0)
         declared_jumps = jumps;
     if (answer == 0 && sought_at != 0 && jumps == declared_jumps
-        && jumps <= JUMPS_MOST) {
+        && jumps > 0 && jumps <= JUMPS_MOST) {
         printf("ok   prove, %u jump(s) for refusal 10\n", jumps);
     } else {
         printf("FAIL prove: answer %lu, h* at %u, %u jumps\n",
@@ -407,6 +407,8 @@ int main(int argc, char **argv)
     }
     if (argc == 2 && strcmp(argv[1], "control") == 0)
         return control();
+    if (argc < 3 || argc % 2 == 0)
+        return 2;
     for (i = 1; i + 1 < argc; i += 2) {
         test_circuit(argv[i], argv[i + 1]);
         test_prove(2);

@@ -42,3 +42,16 @@ fn every_command_works() {
         }
     }
 }
+
+/// The last line of the README's check is the one that it says.
+#[test]
+fn the_last_line() {
+    let (_, told) = PAGES[0].split_once("The last line is `").expect("it");
+    let (told, _) = told.split_once('`').expect("its end");
+    let folder = Folder::new("last_line");
+    let examples = Path::new(env!("CARGO_MANIFEST_DIR")).join("../../examples");
+    symlink(examples, folder.path("examples")).expect("a link");
+    let script = scripts(PAGES[0]).concat();
+    let ended = folder.sh(&format!("set -e\n{script}"));
+    assert_eq!(ended.text().lines().last(), Some(told), "{ended:?}");
+}
