@@ -20,7 +20,6 @@ mod verifying;
 use bits::clear;
 use circuit::ReadAnswer;
 use circuit::Sizes;
-use circuit::reading::read;
 use cover::height;
 use cover::masters_tree;
 use cover::regrow;
@@ -31,6 +30,7 @@ use masters::header_salt;
 use mpc::lending::work_bytes;
 use proof::HEADER_BYTES;
 use proof::nodes::row_count;
+use reading::read;
 use refusal::Refusal;
 use verifying::recompute;
 

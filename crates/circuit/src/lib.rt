@@ -1,8 +1,5 @@
-// The circuit file: reading it, and evaluating the circuit it holds.
-pub mod evaluation;
-pub mod reading;
+// The circuit file: its fields and gate records, and the answers of reading and evaluating it.
 pub mod records;
-mod tests;
 
 use refusal::Refusal;
 
@@ -43,7 +40,7 @@ pub struct Sizes {
 }
 
 // What the walk along the chain comes to: a good end, or a fault and the slot that holds the offending link (0 for the head).
-pub(crate) enum Walk {
+pub enum Walk {
     Ends,
     Fault(Refusal, usize),
 }

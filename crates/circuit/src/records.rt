@@ -22,7 +22,7 @@ pub fn field(s: &[u8], bytes: usize, k: usize) -> u32
 }
 
 // The record of a slot of a file with that many outputs, with fields of that many bytes.
-pub(crate) fn record_with(s: &[u8], bytes: usize, outputs: usize, slot: usize) -> Record
+pub fn record_with(s: &[u8], bytes: usize, outputs: usize, slot: usize) -> Record
     requires { ⌜ InsideWith bytes (now s) outputs slot ⌝ }
     ensures { λ r. ⌜ r ≡ recordWith (field bytes (now (s .entry))) slot ⌝ }
 {
@@ -90,7 +90,7 @@ pub fn record_place(outputs: usize, j: usize) -> usize
 }
 
 // 1 for an AND gate, 0 for another.
-pub(crate) fn and_one(gate: Gate) -> usize
+pub fn and_one(gate: Gate) -> usize
     ensures { λ r. ⌜ r ≡ andOne gate ⌝ }
 {
     match gate {

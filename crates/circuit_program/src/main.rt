@@ -1,9 +1,9 @@
 // Reads a circuit from standard input and prints `ok I O G A`, or `no K` with the refusal's number; after 19, 20 and 21 the slot too.
 use circuit::ReadAnswer;
 use circuit::Sizes;
-use circuit::reading::read;
 use libc::STDIN_FILENO;
 use libc::STDOUT_FILENO;
+use reading::read;
 
 // Prints a space and a number.
 fn print_number(n: u64) {

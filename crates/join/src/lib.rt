@@ -16,8 +16,8 @@ use circuit::MAX_OUTPUTS;
 use circuit::ReadAnswer;
 use circuit::Sizes;
 use circuit::WIDTH;
-use circuit::reading::read;
 use circuit::records::field;
+use reading::read;
 use refusal::Refusal;
 
 // What joining two circuits answers: the length written, or a refusal.

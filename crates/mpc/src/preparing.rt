@@ -20,10 +20,10 @@ use crate::tests::holds_rows;
 use crate::tests::unused_rows;
 use circuit::ReadAnswer;
 use circuit::Sizes;
-use circuit::reading::read;
 use masks::chain::make_corrections;
 use planes::places::corrections_at;
 use planes::places::rows_at;
+use reading::read;
 use refusal::Refusal;
 use walk::layout;
 

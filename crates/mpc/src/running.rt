@@ -20,9 +20,9 @@ use crate::tests::holds_rows;
 use crate::tests::unused_rows;
 use circuit::ReadAnswer;
 use circuit::Sizes;
-use circuit::reading::read;
 use packed::running::give_rows;
 use packed::running::run_held;
+use reading::read;
 use refusal::Refusal;
 
 // Runs the circuit in a work memory.

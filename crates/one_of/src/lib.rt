@@ -22,8 +22,8 @@ use circuit::MAX_GATES;
 use circuit::ReadAnswer;
 use circuit::Sizes;
 use circuit::WIDTH;
-use circuit::reading::read;
 use circuit::records::field;
+use reading::read;
 use refusal::Refusal;
 
 // The most entries of a list.

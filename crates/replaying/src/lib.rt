@@ -17,7 +17,6 @@ ghost use Rattle.mpc.specs.Answers.{outcome};
 ghost use Rattle.mpc.specs.Steps.{Known, Working, memoryBytes, ShowingFits};
 use circuit::ReadAnswer;
 use circuit::Sizes;
-use circuit::reading::read;
 use mpc::Answer;
 use mpc::holding::hold;
 use mpc::lending::clear_after;
@@ -29,6 +28,7 @@ use mpc::tests::holds_rows;
 use mpc::tests::unused_rows;
 use packed::running::give_rows;
 use packed::running::replay_held;
+use reading::read;
 use refusal::Refusal;
 
 // Fills the broadcast rows of n parties where good; else leaves them as they were.

@@ -18,8 +18,8 @@ use checking::entering::Entry;
 use checking::entering::Shape;
 use checking::entering::test_lent;
 use circuit::ReadAnswer;
-use circuit::reading::read;
 use mpc::tests::both;
+use reading::read;
 use refusal::Refusal;
 use refusal::number;
 

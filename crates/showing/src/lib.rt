@@ -20,7 +20,6 @@ use crate::cuts::shown_bits;
 use bits::clear;
 use circuit::ReadAnswer;
 use circuit::Sizes;
-use circuit::reading::read;
 use mpc::Answer;
 use mpc::holding::give_corrections;
 use mpc::lending::clear_after;
@@ -32,6 +31,7 @@ use mpc::tests::holds_rows;
 use mpc::tests::unused_rows;
 use packed::running::pack_row;
 use packed::running::run_held;
+use reading::read;
 use refusal::Refusal;
 use walk::layout;
 

@@ -12,8 +12,8 @@ ghost use Rattle.building.specs.Files.{bytesOf};
 ghost use Rattle.upgrade.specs.Upgrade.{oldWidth, oldFields, upgraded, upgradeOp};
 use circuit::ReadAnswer;
 use circuit::WIDTH;
-use circuit::reading::read_with;
 use circuit::records::field;
+use reading::read_with;
 use refusal::Refusal;
 
 // The old form: the bytes of a field, and the limit on G.

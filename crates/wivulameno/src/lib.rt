@@ -51,7 +51,7 @@ pub extern "C" fn wv_shake256(data: &[u8], out: &mut [u8]) -> u32
 pub extern "C" fn wv_read(circuit: &[u8], sizes: &mut [u32; 4]) -> u32
     ensures { λ r. ⌜ (r ≡ status (readOp (now (circuit .entry)))) × (now (sizes .exit) ≡ values (readOp (now (circuit .entry))) (now (sizes .entry))) ⌝ }
 {
-    let a = circuit::reading::read(circuit);
+    let a = reading::read(circuit);
     match a {
         circuit::ReadAnswer::Legal(z) => {
             *sizes = [
@@ -71,7 +71,7 @@ pub extern "C" fn wv_read(circuit: &[u8], sizes: &mut [u32; 4]) -> u32
 pub extern "C" fn wv_fault_slot(circuit: &[u8]) -> u32
     ensures { λ r. ⌜ r ≡ slot (readOp (now (circuit .entry))) ⌝ }
 {
-    let a = circuit::reading::read(circuit);
+    let a = reading::read(circuit);
     match a {
         circuit::ReadAnswer::Legal(_) => 0,
         circuit::ReadAnswer::Refused(_, at) => at as u32,
@@ -192,7 +192,7 @@ pub extern "C" fn wv_one_of(
 pub extern "C" fn wv_evaluate(circuit: &[u8], witness: &[u8], y: &mut [u8]) -> u32
     ensures { λ r. ⌜ (r ≡ status (evaluateOp (now (circuit .entry)) (now (witness .entry)) (now (y .entry)) .answer)) × (now (y .exit) ∷ [] ≡ evaluateOp (now (circuit .entry)) (now (witness .entry)) (now (y .entry)) .left) ⌝ }
 {
-    let a = circuit::evaluation::evaluate(circuit, witness, y);
+    let a = evaluation::evaluate(circuit, witness, y);
     match a {
         circuit::EvaluateAnswer::Done => 0,
         circuit::EvaluateAnswer::Refused(k) => refusal::number(k),
