@@ -20,12 +20,12 @@ use Rattle.bits.specs.Counting.{count}
 use Rattle.circuit.proofs.Visits.{chain-theorem}
 use Rattle.circuit.proofs.Walking.{well-ends, chain-walks}
 use Rattle.building.proofs.Built.{built}
-use Rattle.bristol.specs.Rules.{Text, Reading, says, written, readable, lastWire, outputWires, readText}
-use Rattle.bristol.specs.Conversion.{asGate, asCircuit, firstSlot, textFile}
+use Rattle.bristol_lines.specs.Rules.{Text, Reading, says, written, readable, lastWire, outputWires, readText}
+use Rattle.bristol_lines.specs.Conversion.{asGate, asCircuit, firstSlot, textFile}
 use Rattle.bristol.specs.Operations.{conversion, convertOp}
 use Rattle.bristol.specs.Theorem.{Converted}
-use Rattle.bristol.proofs.Accepted.{Accepted, text-accepted}
-use Rattle.bristol.proofs.Chained.{linked-walks, linked-gates, linked-good, fits-reads}
+use Rattle.bristol_lines.proofs.Accepted.{Accepted, text-accepted}
+use Rattle.bristol_lines.proofs.Chained.{linked-walks, linked-gates, linked-good, fits-reads}
 use Rattle.bristol.proofs.Filed.{file-inputs, file-outputs, file-gates, file-head, file-length, file-output, last-small}
 use Rattle.bristol.proofs.Meant.{meant}
 use Rattle.bristol.proofs.Slots.{all-linked, head-small}

@@ -21,10 +21,10 @@ use Rattle.building.specs.Steps.{fourBytes}
 use Rattle.building.proofs.Bytes.{bytes-field}
 use Rattle.building.proofs.Built as building
 use Rattle.building.proofs.Places.{laid-inputs, laid-outputs, laid-gates, laid-head, laid-count, laid-output, laid-kind, laid-a, laid-b, laid-next}
-use Rattle.bristol.specs.Rules.{GateLine, Text, writes, written, lastWire}
-use Rattle.bristol.specs.Conversion.{firstSlot, recordOf, recordFor, partsOf, textFile}
-use Rattle.bristol.specs.Steps.{fourOf}
-use Rattle.bristol.proofs.Accepted.{Accepted}
+use Rattle.bristol_lines.specs.Rules.{GateLine, Text, writes, written, lastWire}
+use Rattle.bristol_lines.specs.Conversion.{firstSlot, recordOf, recordFor, partsOf, textFile}
+use Rattle.bristol_lines.specs.Steps.{fourOf}
+use Rattle.bristol_lines.proofs.Accepted.{Accepted}
 use Rattle.bristol.proofs.Parts.{fourAt, four-more, bytes-each, bytes-fours}
 use Rattle.bristol.proofs.Stores.{parts-length}
 

@@ -1,11 +1,6 @@
-pub mod Accepted
-pub mod Chained
 pub mod Converts
 pub mod Filed
-pub mod Heads
-pub mod Lined
 pub mod Meant
-pub mod Names
 pub mod Parts
 pub mod Slots
 pub mod Stored

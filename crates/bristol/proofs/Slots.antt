@@ -14,10 +14,10 @@ use Rattle.circuit.specs.Fields as form
 use Rattle.circuit.specs.File.{inputsOf, nextOf}
 use Rattle.circuit.specs.Steps.{kindOf, wireA, wireB, gateAt, goodRecord}
 use Rattle.building.specs.Files.{Four, SmallFour}
-use Rattle.bristol.specs.Rules.{GateLine, xor, and, inv, Text, writes, written, readable, writable, fitsBelow}
-use Rattle.bristol.specs.Conversion.{asGate, slotOf, firstSlot, recordOf, recordFor, partsOf, textFile}
-use Rattle.bristol.proofs.Accepted.{Accepted, Fits}
-use Rattle.bristol.proofs.Chained.{Stands, Linked, written-more}
+use Rattle.bristol_lines.specs.Rules.{GateLine, xor, and, inv, Text, writes, written, readable, writable, fitsBelow}
+use Rattle.bristol_lines.specs.Conversion.{asGate, slotOf, firstSlot, recordOf, recordFor, partsOf, textFile}
+use Rattle.bristol_lines.proofs.Accepted.{Accepted, Fits}
+use Rattle.bristol_lines.proofs.Chained.{Stands, Linked, written-more}
 use Rattle.bristol.proofs.Filed.{for-line, file-inputs, file-gates, slot-kind, slot-a, slot-b, slot-next}
 
 -- what a slot holds

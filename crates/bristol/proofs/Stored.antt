@@ -22,11 +22,11 @@ use Rattle.circuit.specs.Steps.{recordSize, outputPlace, recordPlace}
 use Rattle.circuit.specs.File.{width, gatesOf, headOf, chainFrom}
 use Rattle.circuit.proofs.Visits.{chain-theorem}
 use Rattle.bristol_text.specs.Text.{Line}
-use Rattle.bristol.specs.Rules.{GateLine, xor, and, inv, Text, refused, says, isKnown, kindOn, gateOn, writes, written, readable, writable, fitsBelow, gateElse22, gateLines}
-use Rattle.bristol.specs.Conversion.{slotOf, firstSlot, recordOf, recordFor, textFile}
-use Rattle.bristol.specs.Steps.{fourOf, recordBytes, stored, gateBefore, gatesFrom}
-use Rattle.bristol.proofs.Accepted.{Fits, Accepted, after}
-use Rattle.bristol.proofs.Chained.{Linked, written-more}
+use Rattle.bristol_lines.specs.Rules.{GateLine, xor, and, inv, Text, refused, says, isKnown, kindOn, gateOn, writes, written, readable, writable, fitsBelow, gateElse22, gateLines}
+use Rattle.bristol_lines.specs.Conversion.{slotOf, firstSlot, recordOf, recordFor, textFile}
+use Rattle.bristol_lines.specs.Steps.{fourOf, recordBytes, stored, gateBefore, gatesFrom}
+use Rattle.bristol_lines.proofs.Accepted.{Fits, Accepted, after}
+use Rattle.bristol_lines.proofs.Chained.{Linked, written-more}
 use Rattle.bristol.proofs.Converts.{chain-good, head}
 use Rattle.bristol.proofs.Filed.{headerPart, outputPart, recordPart, four-length, file-gates, file-length, file-parts, header-length, output-length}
 use Rattle.bristol.proofs.Slots.{all-linked}

@@ -6,9 +6,9 @@ use Rattle.circuit.specs.Circuit as paper
 use Rattle.circuit.specs.Chain.{walkFrom}
 use Rattle.circuit.specs.Fields as file
 use Rattle.building.specs.Files.{among, laid, bytesOf, fileOf}
-use Rattle.bristol.specs.Conversion.{asGate, asCircuit, slotOf, firstSlot, recordOf, recordFor, partsOf, textFile}
+use Rattle.bristol_lines.specs.Conversion.{asGate, asCircuit, slotOf, firstSlot, recordOf, recordFor, partsOf, textFile}
 use Rattle.bristol_text.specs.Text.{onFirst, pieces, allButLast, theLast, asLines, notEmpty, lines, tokens, isDigit, allDigits, isNumber, valueAfter, valueOf, allNumbers, sum}
-use Rattle.bristol.specs.Rules.{wireTo, valuesAfter, lastWire, outputWires, meaning, isHeader, numbersOn, isCounts, isGroups, groupSum, kindNamed, kindOn, isKnown, begins, gateNamed, gateOn, writes, written, readable, writable, fitsBelow, gateElse22, gateLines, outputLine, inputLine, countLine, readText}
+use Rattle.bristol_lines.specs.Rules.{wireTo, valuesAfter, lastWire, outputWires, meaning, isHeader, numbersOn, isCounts, isGroups, groupSum, kindNamed, kindOn, isKnown, begins, gateNamed, gateOn, writes, written, readable, writable, fitsBelow, gateElse22, gateLines, outputLine, inputLine, countLine, readText}
 use Rattle.bristol.specs.Cases.{Cases}
 
 pub cases : Cases

@@ -20,19 +20,19 @@ use Rattle.building.specs.Steps.{fourBytes}
 use Rattle.building.proofs.Built.{built, not-built}
 use Rattle.bristol_text.specs.Text.{Line, lines}
 use Rattle.bristol_text.specs.declared.Cursor.{Cursor}
-use Rattle.bristol.specs.Rules.{GateLine, Text, Reading, refused, says, isKnown, kindOn, gateOn, writes, fitsBelow, lastWire, gateElse22, gateLines}
-use Rattle.bristol.specs.Conversion.{slotOf, firstSlot, textFile}
+use Rattle.bristol_lines.specs.Rules.{GateLine, Text, Reading, refused, says, isKnown, kindOn, gateOn, writes, fitsBelow, lastWire, gateElse22, gateLines}
+use Rattle.bristol_lines.specs.Conversion.{slotOf, firstSlot, textFile}
 use Rattle.bristol.specs.Operations.{conversion}
-use Rattle.bristol.specs.Steps.{recordBytes, Begun, HeaderTold, lineOf, gateOf, readAs, gateRead, firstGate, GateAt, Few, gatesAt, refusalOf, gateBefore, gatesFrom, Going, Output, Room, Started, stored, filed}
-use Rattle.bristol.specs.declared.Gate.{Gate}
-use Rattle.bristol.specs.declared.GateRead.{GateRead}
-use Rattle.bristol.specs.declared.GateRead.the-variants.{Read, Unknown, Malformed}
-use Rattle.bristol.specs.declared.Header.{Header}
-use Rattle.bristol.specs.declared.Header.the-variants as header
-use Rattle.bristol.specs.declared.Sizes.{Sizes}
-use Rattle.bristol.proofs.Accepted.{Accepted, More, gates-accepted, below, accepted}
+use Rattle.bristol_lines.specs.Steps.{recordBytes, Begun, HeaderTold, lineOf, gateOf, readAs, gateRead, firstGate, GateAt, Few, gatesAt, refusalOf, gateBefore, gatesFrom, Going, Output, Room, Started, stored, filed}
+use Rattle.bristol_lines.specs.declared.Gate.{Gate}
+use Rattle.bristol_lines.specs.declared.GateRead.{GateRead}
+use Rattle.bristol_lines.specs.declared.GateRead.the-variants.{Read, Unknown, Malformed}
+use Rattle.bristol_lines.specs.declared.Header.{Header}
+use Rattle.bristol_lines.specs.declared.Header.the-variants as header
+use Rattle.bristol_lines.specs.declared.Sizes.{Sizes}
+use Rattle.bristol_lines.proofs.Accepted.{Accepted, More, gates-accepted, below, accepted}
 use Rattle.bristol.proofs.Filed.{headerPart, outputPart, file-length}
-use Rattle.bristol.proofs.Lined.{line-of-gate}
+use Rattle.bristol_lines.proofs.Lined.{line-of-gate}
 use Rattle.bristol.proofs.Stored.{fits-writes, all-stored, gates-from}
 
 -- the first of good gate lines, of which one is left at least

@@ -6,9 +6,9 @@ use mathlib.Core.List.{List, [], _∷_, _++_}
 use Prim.Native.Nat.{ℕ}
 use lib.Dec.{ltb}
 use Rattle.circuit.specs.File as file
-use Rattle.bristol.specs.Conversion.{asCircuit, textFile}
+use Rattle.bristol_lines.specs.Conversion.{asCircuit, textFile}
 use Rattle.bristol_text.specs.Text.{LF}
-use Rattle.bristol.specs.Rules.{and, Text, refused, says, meaning, readText}
+use Rattle.bristol_lines.specs.Rules.{and, Text, refused, says, meaning, readText}
 
 -- "1 3"
 abbrev pub counts : List ℕ

@@ -4,8 +4,8 @@ use mathlib.Core.List.{List, [], _∷_}
 use Prim.Native.Nat.{ℕ}
 use Rattle.refusal.specs.Outcome.{Outcome, refuses}
 use Rattle.circuit.specs.Building.{builds}
-use Rattle.bristol.specs.Rules.{Reading, refused, says, readText}
-use Rattle.bristol.specs.Conversion.{textFile}
+use Rattle.bristol_lines.specs.Rules.{Reading, refused, says, readText}
+use Rattle.bristol_lines.specs.Conversion.{textFile}
 
 -- a refusal, or the file in the lent output
 unfoldable pub conversion : Reading → List ℕ → Outcome

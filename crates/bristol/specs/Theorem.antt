@@ -10,8 +10,8 @@ use Rattle.refusal.specs.Outcome.{success, Outcome}
 use Rattle.circuit.specs.Building.{front}
 use Rattle.circuit.specs.Circuit.{evaluate}
 use Rattle.circuit.specs.File.{readCircuit, legal}
-use Rattle.bristol.specs.Rules.{Text, says, meaning, readText}
-use Rattle.bristol.specs.Conversion.{asCircuit, textFile}
+use Rattle.bristol_lines.specs.Rules.{Text, says, meaning, readText}
+use Rattle.bristol_lines.specs.Conversion.{asCircuit, textFile}
 use Rattle.bristol.specs.Operations.{convertOp}
 
 -- Theorem, converted: the circuit of a text evaluates as the text does; the file of an accepted text reads as that circuit, and is written

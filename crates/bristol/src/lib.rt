@@ -1,103 +1,12 @@
-// Bristol Fashion text: reading it, and converting it to a circuit file.
-ghost use mathlib.Core.Path.{_≡_};
-ghost use mathlib.Core.Bool.{_&&_};
-
+// Bristol Fashion text: the walk over its lines, and its conversion to a circuit file.
 pub mod conversion;
-mod gates;
-mod heading;
 mod walk;
 mod writing;
 
-use bristol_text::Cursor;
 use refusal::Refusal;
 
 // What converting a text answers: the length written, or a refusal.
 pub enum Answer {
     Written(usize),
     Refused(Refusal),
-}
-
-// The numbers I, O and G of a text.
-pub(crate) struct Sizes {
-    pub inputs: usize,
-    pub outputs: usize,
-    pub gates: usize,
-}
-
-// The two numbers of line 1.
-pub(crate) enum Counts {
-    Of(usize, usize),
-    Malformed,
-}
-
-// The sum of the sizes on a line of groups.
-pub(crate) enum Groups {
-    Sum(usize),
-    Malformed,
-}
-
-// The sum on a text's next line, and the place after it.
-pub(crate) enum GroupLine {
-    Sum(usize, Cursor),
-    Malformed,
-}
-
-// What the header lines answer: the sizes, and the place after them.
-pub(crate) enum Header {
-    Good(Sizes, Cursor),
-    Refused(Refusal),
-}
-
-// What follows the last space of a gate line.
-pub(crate) enum Kind {
-    Xor,
-    And,
-    Inv,
-    Other,
-}
-
-// A gate: the wires that it reads and, last, the wire that it writes.
-pub(crate) enum Gate {
-    Xor(usize, usize, usize),
-    And(usize, usize, usize),
-    Inv(usize, usize),
-}
-
-// What a gate line holds.
-pub(crate) enum GateRead {
-    Read(Gate),
-    Unknown,
-    Malformed,
-}
-
-// A text's next line as a gate line, and the place after it.
-pub(crate) struct NextGate {
-    pub read: GateRead,
-    pub next: Cursor,
-}
-
-// What is found of a gate line's kind, or of its form.
-pub(crate) enum Finding {
-    Good,
-    Unknown,
-    Malformed,
-}
-
-// What a gate line answers: the wire that it writes and the place after it.
-pub(crate) enum LineCheck {
-    Writes(usize, Cursor),
-    Refused(Refusal),
-}
-
-// What the gate lines answer.
-pub(crate) enum Check {
-    Good,
-    Refused(Refusal),
-}
-
-// Both of two tests.
-pub(crate) fn both(a: bool, b: bool) -> bool
-    ensures { λ r. ⌜ r ≡ a && b ⌝ }
-{
-    if a { b } else { false }
 }

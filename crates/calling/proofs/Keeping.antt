@@ -8,18 +8,18 @@ use Prim.Native.Nat.{ℕ, _<_}
 use native.Mathlib.Omega.{arith}
 use lib.ListN.{length}
 use Rattle.schedule.specs.Schedule.{Outcome, goesOn, finished}
-use Rattle.checking.specs.declared.entering.Shape.{Shape}
+use Rattle.proof_tests.specs.declared.Shape.{Shape}
 use Rattle.shared.specs.declared.Places.{Places}
 use Rattle.shared.specs.declared.Job.{Job}
 use Rattle.shared.specs.declared.entering.Looked.{Looked}
 use Rattle.shared.specs.declared.entering.Looked.the-variants as looked
-use Rattle.shared.specs.declared.serving.Served.{Served}
+use Rattle.shared.specs.declared.Served.{Served}
 use Rattle.shared.specs.Service.{allInside, entryAt, serviceAt}
 use Rattle.shared.specs.StateSteps.{refusalOf}
 use Rattle.shared.specs.Steps.{lookedOf, outcomeOf, Looking, ReadyAt, instanceAt}
 use Rattle.shared.proofs.Onward as onward
 use Rattle.shared.proofs.Onward.{kept-service}
-use Rattle.shared.proofs.Served.{service-refused, service-ready, ready-at}
+use Rattle.shared.proofs.Services.{service-refused, service-ready, ready-at}
 use Rattle.calling.specs.declared.Kept.{Kept}
 use Rattle.calling.specs.Steps.{Keeps}
 

@@ -19,7 +19,7 @@ use Rattle.schedule.specs.Steps.{nextCaller}
 use Rattle.schedule.proofs.Flags.{nobody-next, somebody-next, next-waits}
 use Rattle.shared.specs.declared.Places.{Places}
 use Rattle.shared.specs.declared.Job.{Job}
-use Rattle.shared.specs.declared.serving.Served.{Served}
+use Rattle.shared.specs.declared.Served.{Served}
 use Rattle.shared.specs.Service.{serviceAt}
 use Rattle.shared.specs.StateSteps.{nowhere, slotOf, stateOf, refusalOf}
 use Rattle.shared.specs.Operations as operations

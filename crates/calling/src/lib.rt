@@ -13,23 +13,23 @@ ghost use Rattle.shared.specs.Operations.{callRefusal, called, verdictsOf, work
 ghost use Rattle.shared.specs.Steps.{outcomeOf};
 ghost use Rattle.calling.specs.Steps.{Keeps, Replies};
 use bits::clear;
-use checking::entering::Shape;
 use circuit::Sizes;
 use mpc::tests::both;
 use proof::Counts;
+use proof_tests::Shape;
 use refusal::Refusal;
 use refusal::number;
 use schedule::next_caller;
+use serving::finished;
+use serving::serve_ready;
 use shared::Job;
 use shared::Places;
+use shared::Served;
 use shared::Shared;
 use shared::entering::Looked;
 use shared::entering::SHARED_WORK;
 use shared::entering::all_inside;
 use shared::entering::look;
-use shared::serving::Served;
-use shared::serving::finished;
-use shared::serving::serve_ready;
 
 // What a call answers: its refusal; or how many instances were checked, and each caller's verdict, 0 for accepted and 255 for none in
 // this call. And the state that it leaves.

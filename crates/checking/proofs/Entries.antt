@@ -15,11 +15,11 @@ use Rattle.proof.specs.Protocol.{statementOf, challenged}
 use Rattle.proof.specs.File.{headerM, headerTau, headerN, headerHstar, headerSalt}
 use Rattle.proof.specs.Check.{checkLegal}
 use Rattle.proof.specs.Steps.{asksIn}
-use Rattle.checking.specs.declared.entering.Shape.{Shape}
-use Rattle.checking.specs.declared.entering.Entry.{Entry}
-use Rattle.checking.specs.declared.entering.Entry.the-variants.{Refused, Taken}
-use Rattle.checking.specs.Steps.{judged, legalTests, Ready, entered, Took}
-use Rattle.checking.proofs.Outcomes.{check-tests, tests-refuse, tests-accept}
+use Rattle.proof_tests.specs.declared.Shape.{Shape}
+use Rattle.proof_tests.specs.declared.Entry.{Entry}
+use Rattle.proof_tests.specs.declared.Entry.the-variants.{Refused, Taken}
+use Rattle.proof_tests.specs.Steps.{judged, legalTests, Ready, entered, Took}
+use Rattle.proof_tests.proofs.Outcomes.{check-tests, tests-refuse, tests-accept}
 
 module _ (s y message proof : List ℕ) (r : Entry) (e : entered r ≡ legalTests s y message proof (circuitOf s) (done [])) where
   -- they refuse

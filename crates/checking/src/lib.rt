@@ -9,29 +9,21 @@ ghost use Rattle.mpc.specs.Steps.{Known};
 ghost use Rattle.proof.specs.Check.{checkLegal, checkOp};
 ghost use Rattle.proof.specs.Steps.{asksIn};
 ghost use Rattle.checking.specs.Answers.{outcome};
-ghost use Rattle.checking.specs.Steps.{judged, Tested};
-
-pub mod entering;
-mod masters;
-pub mod stepping;
-mod unused_bits;
-mod verifying;
-
+ghost use Rattle.proof_tests.specs.Steps.{judged, Tested};
 use bits::clear;
 use circuit::ReadAnswer;
 use circuit::Sizes;
 use cover::height;
-use cover::masters_tree;
-use cover::regrow;
-use entering::Entry;
-use entering::Shape;
-use entering::test_lent;
-use masters::header_salt;
+use growing::regrow;
 use mpc::lending::work_bytes;
 use proof::HEADER_BYTES;
 use proof::nodes::row_count;
+use proof_tests::Entry;
+use proof_tests::Shape;
+use proof_tests::test_lent;
 use reading::read;
 use refusal::Refusal;
+use verifying::proof_tree;
 use verifying::recompute;
 
 // What check answers.
@@ -62,7 +54,7 @@ fn verify(
     let mut nodes = [0u8; 16384];
     let e = 16 * row_count(m);
     regrow(
-        masters_tree(header_salt(proof)),
+        proof_tree(proof),
         height(m),
         marks,
         &proof[HEADER_BYTES..first],

@@ -4,7 +4,3 @@ pub mod Covering
 pub mod Least
 pub mod Rebuilding
 pub mod Masters
-pub mod Marking
-pub mod Writing
-pub mod Growing
-pub mod Following

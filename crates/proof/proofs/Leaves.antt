@@ -14,7 +14,7 @@ use Rattle.cover.specs.Cover.{those, opened, cover}
 use Rattle.cover.specs.Masters.{height, coverBytes}
 use Rattle.cover.specs.Steps.{hiddenBy, marksOf, coverBy}
 use Rattle.cover.proofs.Least.{least-height}
-use Rattle.cover.proofs.Marking.{cover-marked}
+use Rattle.growing.proofs.Marking.{cover-marked}
 use Rattle.cover.proofs.Masters.{cover-bytes-same, cover-same}
 use Rattle.choice.specs.Challenge.{maxInstances}
 use Rattle.instance.specs.Instance.{isChosen}

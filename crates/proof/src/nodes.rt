@@ -10,8 +10,8 @@ use crate::Counts;
 use bits::row;
 use cover::height;
 use cover::leaves;
-use cover::mark;
-use cover::opened_before;
+use growing::mark;
+use growing::opened_before;
 
 // The rows of the tree over m masters.
 pub fn row_count(m: u32) -> usize

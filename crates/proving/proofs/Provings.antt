@@ -30,7 +30,7 @@ use Rattle.proof.specs.File.{proofRoom}
 use Rattle.proof.proofs.Works.{output-bytes}
 use Rattle.proof.specs.Protocol.{statementOf}
 use Rattle.proof.specs.Prove.{proofOf, witnesses, written, proveLegal, proveOp}
-use Rattle.proving.specs.Steps.{Tested}
+use Rattle.rounds.specs.Steps.{Tested}
 use Rattle.proving.specs.Answers.{outcome}
 use Rattle.proving.specs.declared.Answer.{Answer}
 use Rattle.proving.specs.declared.Answer.the-variants.{Written, Refused}

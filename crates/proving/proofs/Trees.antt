@@ -12,8 +12,8 @@ use Rattle.bits.proofs.Tabulate.{tabulate-cong}
 use Rattle.circuit.specs.Circuit.{Circuit}
 use Rattle.cover.specs.Masters.{height, childOf, mastersContext, masterOf, coverOf}
 use Rattle.cover.specs.Steps.{nodesOf}
-use Rattle.cover.proofs.Growing.{length-grown, gather-cover, grow-master}
-use Rattle.cover.proofs.Marking.{cover-marked}
+use Rattle.growing.proofs.Growing.{length-grown, gather-cover, grow-master}
+use Rattle.growing.proofs.Marking.{cover-marked}
 use Rattle.instance.specs.Instance.{Asked, masterCommitments, masterOnline, stretchOf}
 use Rattle.proof.specs.Protocol.{hstarOf, firstMessage, challenged, responseOf}
 use Rattle.proof.specs.File.{headerOf, hides, proofBytes}
@@ -21,7 +21,7 @@ use Rattle.proof.specs.Prove.{proofOf}
 use Rattle.proof.specs.Steps.{masterIn}
 use Rattle.proof.proofs.Leaves.{leaves-at}
 use Rattle.proof.proofs.Written.{length-proof}
-use Rattle.proving.specs.Steps.{openedRows, proofFrom}
+use Rattle.rounds.specs.Steps.{openedRows, proofFrom}
 
 -- masters that agree below M
 module _ (c : Circuit) (M n : ℕ) (salt witness : List ℕ) (f g : ℕ → List ℕ) (same : (j : ℕ) → j < M → f j ≡ g j) where

@@ -16,7 +16,6 @@ ghost use Rattle.proof.specs.File.{proofRoom};
 ghost use Rattle.proof.specs.Prove.{witnesses, proveLegal, proveOp};
 ghost use Rattle.proving.specs.Answers.{outcome};
 
-mod responding;
 mod writing;
 
 use bits::clear;

@@ -4,25 +4,24 @@ ghost use mathlib.Core.List.{_++_};
 ghost use Prim.Native.Nat.{suc, _*_, _^_, _<_};
 ghost use lib.ListN.{length, drop};
 ghost use Rattle.circuit.specs.File.{circuitOf};
-ghost use Rattle.mpc.specs.Steps.{Known};
 ghost use Rattle.cover.specs.Masters.{height as «height-of»};
 ghost use Rattle.instance.specs.Steps.{Lent};
 ghost use Rattle.proof.specs.File.{headerBytes, headerOf};
 ghost use Rattle.proof.specs.Protocol.{statementOf};
 ghost use Rattle.proof.specs.Prove.{proofOf};
-ghost use Rattle.proving.specs.Steps.{proofFrom, Tested};
-use crate::responding::answer;
-use crate::responding::first;
+ghost use Rattle.rounds.specs.Steps.{proofFrom, Tested};
 use bits::copy;
 use circuit::Sizes;
-use cover::grow;
 use cover::height;
 use cover::masters_tree;
+use growing::grow;
 use hashing::salt_in;
 use proof::Counts;
 use proof::HEADER_BYTES;
 use proof::asking::draw_challenge;
 use proof::nodes::row_count;
+use rounds::answer;
+use rounds::first;
 
 // The header: M, τ, n, zero, h*, salt.
 pub(crate) fn head(m: u32, tau: u32, n: u32, hstar: &[u8], salt: &[u8], out: &mut [u8])

@@ -18,8 +18,8 @@ use Rattle.cover.specs.Masters.{height, childOf, mastersContext, masterOf, cove
 use Rattle.cover.specs.Steps.{marksOf, openedBy, coverBy, nodesOf}
 use Rattle.cover.proofs.Search.{and-second, length-others}
 use Rattle.cover.proofs.Least.{least-height, height-low}
-use Rattle.cover.proofs.Marking.{cover-marked, length-marks}
-use Rattle.cover.proofs.Growing.{length-grown, gather-cover, masters-part}
+use Rattle.growing.proofs.Marking.{cover-marked, length-marks}
+use Rattle.growing.proofs.Growing.{length-grown, gather-cover, masters-part}
 use Rattle.seeds.specs.Operations.{isTreeSize}
 
 -- a tree over up to 512 masters

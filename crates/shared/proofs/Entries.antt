@@ -26,11 +26,11 @@ use Rattle.circuit.specs.declared.Sizes.{Sizes}
 use Rattle.instance.specs.Instance.{Asked}
 use Rattle.proof.specs.File.{headerM, headerN, headerHstar, goodHeader, proofBytes}
 use Rattle.proof.specs.Check.{checkLegal}
-use Rattle.checking.specs.declared.entering.Shape.{Shape}
-use Rattle.checking.specs.declared.entering.Entry.{Entry}
-use Rattle.checking.specs.declared.entering.Entry.the-variants.{Refused, Taken}
-use Rattle.checking.specs.Steps.{allUnused, allOutputs, recomputed, tested, judged, legalTests, Ready, entered, Took}
-use Rattle.checking.proofs.Outcomes.{check-tests, tests-refuse, tests-accept}
+use Rattle.proof_tests.specs.declared.Shape.{Shape}
+use Rattle.proof_tests.specs.declared.Entry.{Entry}
+use Rattle.proof_tests.specs.declared.Entry.the-variants.{Refused, Taken}
+use Rattle.proof_tests.specs.Steps.{allUnused, allOutputs, recomputed, tested, judged, legalTests, Ready, entered, Took}
+use Rattle.proof_tests.proofs.Outcomes.{check-tests, tests-refuse, tests-accept}
 use Rattle.shared.specs.declared.Place.{Place}
 use Rattle.shared.specs.declared.Places.{Places}
 use Rattle.shared.specs.Service.{inside, allInside, at, number, butLate, onEntry, entryOf, entryAt, asks}

@@ -29,12 +29,12 @@ use Rattle.circuit.specs.Operations.{workBytes}
 use Rattle.mpc.proofs.Succeeding.{work-enough}
 use Rattle.proof.specs.Check.{every, checkLegal, checkOp}
 use Rattle.proof.proofs.Passing.{every-at}
-use Rattle.checking.specs.declared.stepping.Running.{Running}
-use Rattle.checking.specs.RunningDigests.{started, more, hstarIn}
-use Rattle.checking.specs.Steps.{allUnused, outputAt, commitmentsAt, onlineAt, recomputed, tested, judged, legalTests}
-use Rattle.checking.proofs.Headers.{header-counts}
-use Rattle.checking.proofs.Outcomes.{check-tests}
-use Rattle.checking.proofs.Stepped.{running, running-none, running-more, running-room, running-end}
+use Rattle.stepping.specs.declared.Running.{Running}
+use Rattle.stepping.specs.RunningDigests.{started, more, hstarIn}
+use Rattle.proof_tests.specs.Steps.{allUnused, outputAt, commitmentsAt, onlineAt, recomputed, tested, judged, legalTests}
+use Rattle.proof_tests.proofs.Headers.{header-counts}
+use Rattle.proof_tests.proofs.Outcomes.{check-tests}
+use Rattle.stepping.proofs.Stepped.{running, running-none, running-more, running-room, running-end}
 use Rattle.schedule.specs.Schedule.{Outcome, goesOn, finished}
 use Rattle.schedule.specs.Alone.{byOutcome, alone}
 use Rattle.shared.specs.declared.Places.{Places}

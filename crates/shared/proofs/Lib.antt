@@ -5,4 +5,4 @@ pub mod Told
 pub mod Theorem
 pub mod Entries
 pub mod Slots
-pub mod Served
+pub mod Services

@@ -13,8 +13,8 @@ use Rattle.circuit.specs.File.{circuitOf}
 use Rattle.instance.specs.Instance.{Asked}
 use Rattle.instance.specs.Opened.{stretchCommitments, stretchOnline, stretchOutput}
 use Rattle.proof.specs.File.{headerM, headerN, headerHstar, contextAt, masterAt, stretchAt}
-use Rattle.checking.specs.declared.stepping.Running.{Running}
-use Rattle.checking.specs.RunningDigests.{more, hstarIn}
+use Rattle.stepping.specs.declared.Running.{Running}
+use Rattle.stepping.specs.RunningDigests.{more, hstarIn}
 use Rattle.schedule.specs.Schedule.{Outcome, goesOn, finished}
 use Rattle.shared.specs.declared.Places.{Places}
 use Rattle.shared.specs.declared.Job.{Job}

@@ -16,8 +16,8 @@ use Rattle.schedule.specs.Schedule.{Slot, idle, waiting, isWaiting, State, empt
 use Rattle.schedule.specs.History.{isFree, afterEntry}
 use Rattle.schedule.specs.Callers.{lastServed}
 use Rattle.schedule.specs.Steps.{flagged}
-use Rattle.checking.specs.declared.stepping.Running.{Running}
-use Rattle.checking.specs.RunningDigests.{started}
+use Rattle.stepping.specs.declared.Running.{Running}
+use Rattle.stepping.specs.RunningDigests.{started}
 use Rattle.shared.specs.declared.Places.{Places}
 use Rattle.shared.specs.declared.Job.{Job}
 use Rattle.shared.specs.declared.Shared.{Shared}

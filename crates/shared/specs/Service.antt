@@ -17,8 +17,8 @@ use Rattle.instance.specs.Opened.{stretchCommitments, stretchOnline, stretchOut
 use Rattle.proof.specs.Protocol.{statementOf, challenged}
 use Rattle.proof.specs.File.{headerM, headerTau, headerN, headerHstar, headerSalt, contextAt, masterAt, stretchAt}
 use Rattle.proof.specs.Check.{checkLegal}
-use Rattle.checking.specs.declared.stepping.Running.{Running}
-use Rattle.checking.specs.RunningDigests.{started, more, hstarIn}
+use Rattle.stepping.specs.declared.Running.{Running}
+use Rattle.stepping.specs.RunningDigests.{started, more, hstarIn}
 use Rattle.schedule.specs.Schedule.{Outcome, goesOn, finished}
 use Rattle.shared.specs.declared.Place.{Place}
 use Rattle.shared.specs.declared.Places.{Places}

@@ -7,12 +7,12 @@ use mathlib.Core.Option.{Option, none, some}
 use Prim.Native.Nat.{ℕ, _<_}
 use lib.ListN.{length}
 use Rattle.schedule.specs.Schedule.{State, waiting, put, Outcome, goesOn, finished}
-use Rattle.checking.specs.declared.entering.Shape.{Shape}
-use Rattle.checking.specs.Steps.{inTable, inMarks}
-use Rattle.checking.specs.Steps as steps
+use Rattle.proof_tests.specs.declared.Shape.{Shape}
+use Rattle.proof_tests.specs.Steps.{inTable, inMarks}
+use Rattle.proof_tests.specs.Steps as steps
 use Rattle.shared.specs.declared.Places.{Places}
 use Rattle.shared.specs.declared.Job.{Job}
-use Rattle.shared.specs.declared.serving.Served.{Served}
+use Rattle.shared.specs.declared.Served.{Served}
 use Rattle.shared.specs.declared.entering.Looked.{Looked}
 use Rattle.shared.specs.declared.entering.Looked.the-variants.{Refused, Ready}
 use Rattle.shared.specs.Service.{at, allInside, instanceOf}

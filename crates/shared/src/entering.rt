@@ -1,24 +1,18 @@
-// The entry of a proof: where its inputs lie, and the tests that it must pass.
+// The tests of an entry: where the inputs of the proof lie, and the bytes at them.
 ghost use mathlib.Core.Path.{_≡_};
 ghost use mathlib.Core.Bool.{true};
-ghost use mathlib.Core.Option.{none, some};
+ghost use mathlib.Core.Option.{some};
 ghost use Prim.Native.Nat.{_+_, _≤_, _<_};
-ghost use lib.ListN.{length, set, replicate};
-ghost use Rattle.shared.specs.Service.{inside as «inside-def», allInside, at, entryAt, unlessRefused, jobAt};
-ghost use Rattle.shared.specs.StateSteps.{stateOf, refusalOf};
-ghost use Rattle.shared.specs.Operations.{enterRefusal, entered, workAfterEntry};
-ghost use Rattle.shared.specs.Steps.{lookedOf, Looking, seated};
-use crate::Job;
+ghost use lib.ListN.{length};
+ghost use Rattle.shared.specs.Service.{inside as «inside-def», allInside, at, entryAt};
+ghost use Rattle.shared.specs.Steps.{lookedOf, Looking};
 use crate::Place;
 use crate::Places;
-use crate::Shared;
-use crate::job_at;
-use bits::clear;
-use checking::entering::Entry;
-use checking::entering::Shape;
-use checking::entering::test_lent;
 use circuit::ReadAnswer;
 use mpc::tests::both;
+use proof_tests::Entry;
+use proof_tests::Shape;
+use proof_tests::test_lent;
 use reading::read;
 use refusal::Refusal;
 use refusal::number;
@@ -30,13 +24,6 @@ pub const SHARED_WORK: usize = 6436864;
 pub enum Looked {
     Refused(u32),
     Ready(Shape),
-}
-
-// What an entry answers, and the state that it leaves.
-pub struct Entered {
-    pub refused: bool,
-    pub number: u32,
-    pub state: Shared,
 }
 
 // Whether a place lies wholly inside the buffer.
@@ -62,7 +49,7 @@ pub fn all_inside(buffer: &[u8], p: Places) -> bool
 }
 
 // The bytes at a place.
-pub(crate) fn part(buffer: &[u8], p: Place) -> &[u8]
+pub fn part(buffer: &[u8], p: Place) -> &[u8]
     requires { ⌜ p .start + p .len ≤ length (now buffer) ⌝ }
     ensures { λ r. ⌜ now r ≡ at (now (buffer .entry)) p ⌝ }
 {
@@ -92,93 +79,4 @@ pub fn look(buffer: &[u8], p: Places, table: &mut [u8], marks: &mut [u8]) -> Loo
             }
         }
     }
-}
-
-// The flags with that of caller i set, and the jobs with that of caller i put anew. An array that is a parameter tells its length.
-fn set_flag(flags: [bool; 16], i: usize) -> [bool; 16]
-    requires { ⌜ i < 16 ⌝ }
-    ensures { λ r. ⌜ (r ≡ set flags i true) × (length flags ≡ 16) ⌝ }
-{
-    let mut all = flags;
-    all[i] = true;
-    all
-}
-
-fn put_job(jobs: [Job; 16], i: usize, j: Job) -> [Job; 16]
-    requires { ⌜ i < 16 ⌝ }
-    ensures { λ r. ⌜ (r ≡ set jobs i j) × (length jobs ≡ 16) ⌝ }
-{
-    let mut all = jobs;
-    all[i] = j;
-    all
-}
-
-// A refused entry.
-fn refused(s: Shared, number: u32) -> Entered
-    ensures { λ r. ⌜ (refusalOf (r .refused) (r .number) ≡ some number) × (r .state ≡ s) ⌝ }
-{
-    Entered {
-        refused: true,
-        number,
-        state: s,
-    }
-}
-
-// The entry of a proof that passes all tests.
-fn seat(s: Shared, i: usize, job: Job) -> Entered
-    requires { ⌜ i < 16 ⌝ }
-    ensures { λ r. ⌜ (refusalOf (r .refused) (r .number) ≡ none) × (stateOf (r .state) ≡ seated (stateOf s) i job) ⌝ }
-{
-    let begin = s.begin;
-    let flags = s.waiting;
-    let jobs = s.jobs;
-    let all = set_flag(flags, i);
-    let put = put_job(jobs, i, job);
-    Entered {
-        refused: false,
-        number: 0,
-        state: Shared {
-            begin,
-            waiting: all,
-            jobs: put,
-        },
-    }
-}
-
-// An entry that passes the tests before the bytes: the work buffer is cleared, the bytes are tested, and the proof is put in its slot.
-fn enter_at(s: Shared, i: usize, places: Places, buffer: &[u8], work: &mut [u8]) -> Entered
-    requires { ⌜ (i < 16) × (allInside (now buffer) places ≡ true) ⌝ }
-    ensures { λ r. ⌜ (refusalOf (r .refused) (r .number) ≡ entryAt (now (buffer .entry)) places) × (stateOf (r .state) ≡ unlessRefused (entryAt (now (buffer .entry)) places) (λ _. stateOf s) (seated (stateOf s) i (jobAt places))) ⌝ }
-    ensures { λ _. ⌜ now (work .exit) ≡ replicate (length (now (work .entry))) 0 ⌝ }
-{
-    clear(work);
-    let mut table = [0u8; 512];
-    let mut marks = [0u8; 1024];
-    let looked = look(buffer, places, &mut table, &mut marks);
-    match looked {
-        Looked::Refused(k) => refused(s, k),
-        Looked::Ready(_shape) => seat(s, i, job_at(places)),
-    }
-}
-
-// A caller enters with a proof whose inputs lie at these places of the buffer. The work buffer is left all zero, but for a refusal up to
-// its test.
-pub fn enter(s: Shared, caller: u32, places: Places, buffer: &[u8], work: &mut [u8]) -> Entered
-    ensures { λ r. ⌜ (refusalOf (r .refused) (r .number) ≡ enterRefusal caller places (now (buffer .entry)) (now (work .entry)) (stateOf s)) × ((stateOf (r .state) ≡ entered caller places (now (buffer .entry)) (now (work .entry)) (stateOf s)) × (now (work .exit) ≡ workAfterEntry caller places (now (buffer .entry)) (now (work .entry)) (stateOf s))) ⌝ }
-{
-    if 15 < caller {
-        return refused(s, number(Refusal::CallerNumber));
-    }
-    let i = caller as usize;
-    let flags = s.waiting;
-    if flags[i] {
-        return refused(s, number(Refusal::AlreadyWaiting));
-    }
-    if !all_inside(buffer, places) {
-        return refused(s, number(Refusal::BufferLength));
-    }
-    if work.len() < SHARED_WORK {
-        return refused(s, number(Refusal::BufferLength));
-    }
-    enter_at(s, i, places, buffer, work)
 }

@@ -5,10 +5,9 @@ ghost use Rattle.shared.specs.Service.{jobAt};
 ghost use Rattle.shared.specs.StateSteps.{stateOf};
 
 pub mod entering;
-pub mod serving;
 
-use checking::stepping::Running;
-use checking::stepping::start_digests;
+use stepping::Running;
+use stepping::start_digests;
 
 // Where an input lies in the lent buffer.
 pub struct Place {
@@ -31,6 +30,13 @@ pub struct Job {
     pub digests: Running,
 }
 
+// What a service gives: the proof as it goes on, or its verdict.
+pub struct Served {
+    pub done: bool,
+    pub verdict: u32,
+    pub job: Job,
+}
+
 // The state of the checker: the caller to begin with, 0 at first and then one above the last served, who waits, and their proofs.
 pub struct Shared {
     pub begin: u8,
@@ -39,7 +45,7 @@ pub struct Shared {
 }
 
 // A proof that enters: no instance is taken in.
-fn job_at(places: Places) -> Job
+pub fn job_at(places: Places) -> Job
     ensures { λ r. ⌜ r ≡ jobAt places ⌝ }
 {
     Job {

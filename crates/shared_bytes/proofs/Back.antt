@@ -26,9 +26,9 @@ use Rattle.schedule.specs.Callers.{lastServed}
 use Rattle.shared.specs.declared.Place.{Place}
 use Rattle.shared.specs.declared.Places.{Places}
 use Rattle.shared.specs.declared.Job.{Job}
-use Rattle.shared_bytes.specs.Bytes.{placeAt, placesAt, spongeAt, jobIn, slotIn, decodeState, placeBytes, placesBytes, spongeBytes, jobBytes, slotBytes, encodeState}
+use Rattle.state_bytes.specs.Bytes.{placeAt, placesAt, spongeAt, jobIn, slotIn, decodeState, placeBytes, placesBytes, spongeBytes, jobBytes, slotBytes, encodeState}
 use Rattle.shared_bytes.specs.Theorem.{PlaceFits, PlacesFit, SpongeFits, JobFits, SlotFits, StateFits}
-use Rattle.shared_bytes.proofs.Written.{length-place, length-places, length-sponge, length-both, two-places, three-places}
+use Rattle.state_bytes.proofs.Written.{length-place, length-places, length-sponge, length-both, two-places, three-places}
 
 -- the bytes v stand in s from place k on
 abbrev pub Holds : List ℕ → ℕ → List ℕ → Type 0

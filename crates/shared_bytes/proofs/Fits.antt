@@ -27,9 +27,9 @@ use Rattle.circuit.specs.File.{circuitOf}
 use Rattle.instance.specs.Instance.{Asked}
 use Rattle.instance.specs.Opened.{stretchCommitments, stretchOnline, stretchOutput}
 use Rattle.proof.specs.File.{headerM, headerN, headerHstar, contextAt, masterAt, stretchAt}
-use Rattle.checking.specs.declared.stepping.Running.{Running}
-use Rattle.checking.specs.RunningDigests.{started, more, hstarIn}
-use Rattle.checking.proofs.Hashed.{commitments-bytes, online-bytes, stretch-bytes}
+use Rattle.stepping.specs.declared.Running.{Running}
+use Rattle.stepping.specs.RunningDigests.{started, more, hstarIn}
+use Rattle.proof_tests.proofs.Hashed.{commitments-bytes, online-bytes, stretch-bytes}
 use Rattle.schedule.specs.Schedule.{Slot, idle, waiting, isWaiting, State, Service, empty, put, Outcome, goesOn, finished, leaves, workOn, afterService, serviceOf, next, waits, unlessNone, serve}
 use Rattle.schedule.specs.History.{isFree, afterEntry}
 use Rattle.schedule.proofs.Chain.{Tidy, entry-case, empty-tidy, serve-follows}
@@ -38,7 +38,7 @@ use Rattle.shared.specs.declared.Places.{Places}
 use Rattle.shared.specs.declared.Job.{Job}
 use Rattle.shared.specs.Service.{at, entryAt, settled, settledBoth, asks, unlessRefused, afterInstance, nextInstance, instanceOf, serviceAt, jobAt}
 use Rattle.shared.specs.Operations.{enterRefusal, entered, callRefusal, called}
-use Rattle.shared_bytes.specs.Bytes.{placeAt, placesAt, spongeAt, jobIn, slotIn, decodeState}
+use Rattle.state_bytes.specs.Bytes.{placeAt, placesAt, spongeAt, jobIn, slotIn, decodeState}
 use Rattle.shared_bytes.specs.Theorem.{PlaceFits, PlacesFit, SpongeFits, JobFits, SlotFits, StateFits}
 
 -- ---- what bytes say fits

@@ -1,5 +1,3 @@
-pub mod Filled
-pub mod Written
 pub mod Operations
 pub mod Back
 pub mod Fits

@@ -14,7 +14,7 @@ use Rattle.shared.specs.declared.Shared.{Shared}
 use Rattle.shared.specs.Service.{unlessRefused}
 use Rattle.shared.specs.StateSteps.{stateOf, refusalOf}
 use Rattle.shared.specs.Operations.{enterRefusal, entered, workAfterEntry, callRefusal, called, verdictsOf, workAfterCall}
-use Rattle.shared_bytes.specs.Bytes.{decodeState, encodeState}
+use Rattle.state_bytes.specs.Bytes.{decodeState, encodeState}
 use Rattle.shared_bytes.specs.Operations.{startOp, placesOf, enterOp, callOp}
 use Rattle.shared_bytes.specs.Answers.{enterPaper, checkPaper}
 use Rattle.shared_bytes.specs.declared.EnterAnswer.the-variants as enterAnswer

@@ -9,7 +9,7 @@ use Rattle.schedule.specs.History.{afterEntry}
 use Rattle.shared.specs.declared.Job.{Job}
 use Rattle.shared.specs.Service.{unlessRefused, serviceAt, jobAt}
 use Rattle.shared.specs.Operations.{enterRefusal, entered, callRefusal, called, Lent, enter, call, stateAfter}
-use Rattle.shared_bytes.specs.Bytes.{decodeState, encodeState}
+use Rattle.state_bytes.specs.Bytes.{decodeState, encodeState}
 use Rattle.shared_bytes.specs.Operations.{startOp, placesOf, enterOp, callOp}
 use Rattle.shared_bytes.specs.Theorem.{StateFits, LentFits, stateLeft, numbersOf, bytesAfter, BytesKeepState}
 use Rattle.shared_bytes.proofs.Back.{state-back, state-long}

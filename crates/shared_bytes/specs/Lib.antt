@@ -1,5 +1,3 @@
-pub mod Bytes
 pub mod Operations
 pub mod Answers
 pub mod Theorem
-pub mod Steps

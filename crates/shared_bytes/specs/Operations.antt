@@ -10,7 +10,7 @@ use Rattle.shared.specs.declared.Places.{Places}
 use Rattle.shared.specs.declared.Job.{Job}
 use Rattle.shared.specs.Service.{unlessRefused}
 use Rattle.shared.specs.Operations.{enterRefusal, entered, workAfterEntry, callRefusal, called, verdictsOf, workAfterCall}
-use Rattle.shared_bytes.specs.Bytes.{decodeState, encodeState}
+use Rattle.state_bytes.specs.Bytes.{decodeState, encodeState}
 
 -- the empty state, in the lent bytes
 unfoldable pub startOp : Outcome

@@ -14,7 +14,7 @@ use Rattle.shared.specs.declared.Place.{Place}
 use Rattle.shared.specs.declared.Places.{Places}
 use Rattle.shared.specs.declared.Job.{Job}
 use Rattle.shared.specs.Operations.{Lent, enter, call, stateAfter}
-use Rattle.shared_bytes.specs.Bytes.{stateLength, decodeState, encodeState}
+use Rattle.state_bytes.specs.Bytes.{stateLength, decodeState, encodeState}
 use Rattle.shared_bytes.specs.Operations.{startOp, enterOp, callOp}
 
 -- numbers that fit their fields

@@ -7,7 +7,7 @@ use Prim.Native.Nat.{ℕ, zero, suc, _+_, _≤_}
 use native.Mathlib.Omega.{arith}
 use lib.ListN.{take}
 use Rattle.refusal.specs.Outcome.{refusal, success}
-use Rattle.shelf.specs.Page.{readyHead, drawsOf, rootOf}
+use Rattle.shelf_page.specs.Page.{readyHead, drawsOf, rootOf}
 use Rattle.shelf.specs.Operations.{pageLeft, drawOp}
 use Rattle.shelf.specs.History.{Event, stock, draw, back, Host, present, next, counted, start, step, run, IsHistory, HistoryCounts}
 use Rattle.shelf.proofs.Simulation.{draws-u32, history-cons, step-place}

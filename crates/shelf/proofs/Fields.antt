@@ -10,7 +10,7 @@ use lib.Seq.{sets, length-sets, getD-take, getD-drop, ext-getD}
 use Rattle.bits.specs.Bytes.{leAt, leBytes}
 use Rattle.bits.proofs.Numbers.{lt-or-le}
 use Rattle.bits.proofs.Little.{leAt-sets, leAt-sets-other, length-leBytes, getD-sets-other}
-use Rattle.shelf.specs.Page.{sizeOf, readyHead, spareHead, zeroField, drawsOf, slotAt, nextOf, rootOf}
+use Rattle.shelf_page.specs.Page.{sizeOf, readyHead, spareHead, zeroField, drawsOf, slotAt, nextOf, rootOf}
 use Rattle.shelf.specs.Operations.{putSlot, putHeads}
 use Rattle.shelf.proofs.Bytes.{part-put}
 

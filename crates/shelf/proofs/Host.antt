@@ -11,7 +11,7 @@ use borrow.Author.Tests.{le-leb, lt-leb}
 use lib.ListN.{length, getD}
 use Rattle.bits.proofs.Numbers.{eq-or-ne}
 use Rattle.refusal.specs.Outcome.{Answer, refusalAt, refusal, success, refuses}
-use Rattle.shelf.specs.Page.{sizeOf, readyHead, spareHead, drawsOf, rootOf, sound}
+use Rattle.shelf_page.specs.Page.{sizeOf, readyHead, spareHead, drawsOf, rootOf, sound}
 use Rattle.shelf.specs.Operations.{pageLeft, stockOp, drawOp}
 use Rattle.shelf.specs.History.{Event, stock, draw, back, Host, present, next, counted, start, step, run, IsHistory}
 use Rattle.shelf.proofs.Operations.{stock-6, stock-17, stock-accepted, draw-15, draw-16, draw-18, draw-accepted}

@@ -1,8 +1,5 @@
-pub mod Walks
 pub mod Bytes
-pub mod Soundness
 pub mod Operations
-pub mod Slots
 pub mod Fields
 pub mod Moves
 pub mod Simulation

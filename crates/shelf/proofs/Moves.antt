@@ -12,10 +12,10 @@ use Rattle.bits.specs.Bytes.{leBytes}
 use Rattle.bits.proofs.Numbers.{lt-or-le, eq-or-ne}
 use Rattle.bits.specs.Counting.{count}
 use Rattle.bits.proofs.Counting.{count-same, count-other, count-cons}
-use Rattle.shelf.specs.Page.{sizeOf, readyHead, spareHead, drawsOf, slotAt, nextOf, rootOf, zeroRoot, readySlots, spareSlots, sound, readyRoots}
-use Rattle.shelf.specs.Meaning.{Leads, HasChains}
+use Rattle.shelf_page.specs.Page.{sizeOf, readyHead, spareHead, drawsOf, slotAt, nextOf, rootOf, zeroRoot, readySlots, spareSlots, sound, readyRoots}
+use Rattle.shelf_page.specs.Meaning.{Leads, HasChains}
 use Rattle.shelf.specs.Operations.{putSlot, putHeads, stocked, drawn}
-use Rattle.shelf.proofs.Slots.{absent, leads-frame, leads-zero, sound-chains, chains-sound, chains-length}
+use Rattle.shelf_page.proofs.Slots.{absent, leads-frame, leads-zero, sound-chains, chains-sound, chains-length}
 use Rattle.shelf.proofs.Fields.{Moved, moved, moved-draws, moved-counted, counted-draws}
 
 -- roots of slots that did not move

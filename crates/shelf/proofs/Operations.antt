@@ -16,10 +16,10 @@ use Rattle.refusal.specs.declared.Refusal.{Refusal}
 use Rattle.refusal.specs.Refusal.{numberOf}
 use Rattle.refusal.specs.Outcome.{Outcome, refuses, done}
 use Rattle.shelf.specs.declared.Drawn.{Drawn}
-use Rattle.shelf.specs.declared.Shelf.{Shelf}
-use Rattle.shelf.specs.Page.{slotAt, readyHead, spareHead, drawsOf, nextOf, rootOf, zeroRoot, sound}
+use Rattle.shelf_page.specs.declared.Shelf.{Shelf}
+use Rattle.shelf_page.specs.Page.{slotAt, readyHead, spareHead, drawsOf, nextOf, rootOf, zeroRoot, sound}
 use Rattle.shelf.specs.Operations.{putSlot, putHeads, stocked, drawn, stockOp, drawOp, outcome, rootOut, gives}
-use Rattle.shelf.proofs.Soundness.{shelfOf}
+use Rattle.shelf_page.proofs.Soundness.{shelfOf}
 
 module _ (p root : List ℕ) where
   pub stock-14 : sound p ≡ false → stockOp p root ≡ refuses 14 (p ∷ [])

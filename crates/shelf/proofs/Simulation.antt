@@ -11,12 +11,12 @@ use lib.ListN.{length, getD, length-map}
 use Rattle.bits.proofs.Numbers.{lt-or-le, eq-or-ne}
 use Rattle.bits.proofs.Little.{leAt-lt}
 use Rattle.refusal.specs.Outcome.{refusal, success}
-use Rattle.shelf.specs.Page.{readyHead, spareHead, drawsOf, rootOf, readySlots, spareSlots, sound, readyRoots}
+use Rattle.shelf_page.specs.Page.{readyHead, spareHead, drawsOf, rootOf, readySlots, spareSlots, sound, readyRoots}
 use Rattle.shelf.specs.Operations.{pageLeft, drawn, stockOp, drawOp}
 use Rattle.shelf.specs.Plain.{Named, Plain, roots, plainStock, noDraw, frontDrawn, plainDraw}
 use Rattle.shelf.specs.History.{Event, stock, draw, back, Host, present, next, counted, step, run, plainStep, plainRun, IsHistory, Agrees}
 use Rattle.shelf.proofs.Operations.{stock-6, stock-17, stock-accepted, draw-15, draw-16, draw-18, draw-accepted}
-use Rattle.shelf.proofs.Slots.{sound-chains}
+use Rattle.shelf_page.proofs.Slots.{sound-chains}
 use Rattle.shelf.proofs.Moves.{after-stock, after-draw, full, no-ready, none-from}
 
 -- the plain shelf, case by case

@@ -10,7 +10,7 @@ use lib.ListN.{length, getD}
 use Rattle.bits.proofs.Numbers.{eq-or-ne}
 use Rattle.bits.specs.Counting.{count}
 use Rattle.bits.proofs.Counting.{count-nil, count-same, count-other}
-use Rattle.shelf.specs.Page.{sizeOf, drawsOf, readyRoots, sound}
+use Rattle.shelf_page.specs.Page.{sizeOf, drawsOf, readyRoots, sound}
 use Rattle.shelf.specs.Plain.{Named, Plain, names, roots}
 use Rattle.shelf.specs.History.{Event, IsStart}
 

@@ -9,7 +9,7 @@ use lib.Dec.{leb}
 use lib.ListN.{length, getD, take}
 use Rattle.bits.specs.Counting.{count}
 use Rattle.refusal.specs.Outcome.{Answer, refusalAt, success}
-use Rattle.shelf.specs.Page.{sizeOf, drawsOf, readyRoots, sound}
+use Rattle.shelf_page.specs.Page.{sizeOf, drawsOf, readyRoots, sound}
 use Rattle.shelf.specs.Operations.{pageLeft, stockOp, drawOp}
 use Rattle.shelf.specs.Plain.{Plain, names, roots, plainStock, plainDraw}
 

@@ -1,5 +1,3 @@
-pub mod Page
-pub mod Meaning
 pub mod Operations
 pub mod Plain
 pub mod History

@@ -13,7 +13,7 @@ use Rattle.refusal.specs.Refusal.{numberOf}
 use Rattle.refusal.specs.Outcome.{Answer, refusalAt, refusal, success, Outcome, done, unless}
 use Rattle.shelf.specs.declared.Answer as declared
 use Rattle.shelf.specs.declared.Answer.the-variants.{Accepted, Refused}
-use Rattle.shelf.specs.Page.{readyHead, spareHead, drawsOf, slotAt, nextOf, rootOf, zeroRoot, sound}
+use Rattle.shelf_page.specs.Page.{readyHead, spareHead, drawsOf, slotAt, nextOf, rootOf, zeroRoot, sound}
 
 -- the answer of stock and of draw in the paper's terms, where a success has these values: of stock none, of draw the root's bytes
 abbrev pub paper : declared.Answer → List ℕ → Answer

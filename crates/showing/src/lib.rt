@@ -1,27 +1,20 @@
 // Showing a run with one party hidden, cut after some of its gates.
-mod cuts;
-
 ghost use mathlib.Core.Path.{_≡_};
-ghost use mathlib.Core.Bool.{cond, _&&_};
-ghost use mathlib.Core.List.{[], _∷_, _++_};
-ghost use Prim.Native.Nat.{suc, _+_, _*_, _≤_, _<_};
-ghost use lib.Dec.{eqb, ltb};
-ghost use lib.ListN.{length, take, drop, replicate};
-ghost use Rattle.bits.specs.Bits.{tabulate, oct, pack};
+ghost use mathlib.Core.Bool.{_&&_};
+ghost use mathlib.Core.List.{[], _∷_};
+ghost use Prim.Native.Nat.{_+_, _*_, _≤_, _<_};
+ghost use lib.Dec.{eqb};
+ghost use lib.ListN.{length};
+ghost use Rattle.bits.specs.Bits.{oct};
 ghost use Rattle.circuit.specs.File.{maxInputs, maxOutputs, maxGates, circuitOf};
-ghost use Rattle.plain.specs.Showing.{maskedInputs, shownBits, showing};
-ghost use Rattle.planes.specs.Steps.{Room};
-ghost use Rattle.walk.specs.Steps.{layoutOf};
-ghost use Rattle.packed.specs.Steps.{broadcastBytes, tapesHeld, correctionsHeld, ranMemory, sentBit};
+ghost use Rattle.plain.specs.Showing.{maskedInputs, showing};
+ghost use Rattle.packed.specs.Steps.{tapesHeld, ranMemory};
 ghost use Rattle.mpc.specs.Operations.{partsOf, showLegal, showOp};
 ghost use Rattle.mpc.specs.Answers.{outcome};
-ghost use Rattle.mpc.specs.Steps.{Known, Working, Placed, memoryBytes, ShowLent, ShowingFits};
-use crate::cuts::shown_bits;
-use bits::clear;
+ghost use Rattle.mpc.specs.Steps.{Known, Working, memoryBytes, ShowLent, ShowingFits};
 use circuit::ReadAnswer;
 use circuit::Sizes;
 use mpc::Answer;
-use mpc::holding::give_corrections;
 use mpc::lending::clear_after;
 use mpc::lending::work_bytes;
 use mpc::preparing::prepare_held;
@@ -29,38 +22,12 @@ use mpc::tests::both;
 use mpc::tests::holds;
 use mpc::tests::holds_rows;
 use mpc::tests::unused_rows;
-use packed::running::pack_row;
 use packed::running::run_held;
 use reading::read;
 use refusal::Refusal;
-use walk::layout;
-
-// Copies the tapes with row p all zero.
-fn hide_row(tapes: &[u8], len: usize, p: usize, out: &mut [u8])
-    requires { ⌜ (length (now out) ≡ length (now tapes)) × (p * len + len ≤ length (now tapes)) ⌝ }
-    ensures { λ _. ⌜ now (out .exit) ≡ take (p * len) (now (tapes .entry)) ++ replicate len 0 ++ drop (p * len + len) (now (tapes .entry)) ⌝ }
-{
-    let mut k = 0;
-    while k < tapes.len() {
-        out[k] = tapes[k];
-        k += 1;
-    }
-    let a = p * len;
-    let e = a + len;
-    clear(&mut out[a..e]);
-}
-
-// Shows the corrections that stand in the memory, or zeros where they are the hidden party's.
-fn show_corrections(z: Sizes, n: usize, p: usize, memory: &[u8], out: &mut [u8])
-    requires { ⌜ Placed z n (now memory) × ((p < n) × (length (now out) ≡ oct (z .ands))) ⌝ }
-    ensures { λ _. ⌜ now (out .exit) ≡ cond (eqb (suc p) n) (replicate (oct (z .ands)) 0) (correctionsHeld z (now (memory .entry))) ⌝ }
-{
-    if p + 1 == n {
-        clear(out);
-    } else {
-        give_corrections(z, n, memory, out);
-    }
-}
+use shown_parts::hide_row;
+use shown_parts::show_corrections;
+use shown_parts::show_row;
 
 // Runs the circuit on a witness, with the tapes and the corrections that stand in the memory; its outputs are not shown.
 fn run_honest(s: &[u8], z: Sizes, n: usize, witness: &[u8], masked: &mut [u8], memory: &mut [u8])
@@ -71,17 +38,6 @@ fn run_honest(s: &[u8], z: Sizes, n: usize, witness: &[u8], masked: &mut [u8], m
     let mut y = [0u8; 32];
     let size = bits::oct(z.outputs);
     run_held(s, z, n, witness, masked, &mut y[..size], memory);
-}
-
-// Shows the bits of party p's row of broadcasts that the cut shows.
-fn show_row(s: &[u8], z: Sizes, p: usize, cut: usize, memory: &[u8], row: &mut [u8])
-    requires { ⌜ Known (now s) z × (Room (layoutOf z) (now memory) × ((p < 64) × ((cut ≤ z .gates) × (length (now row) ≡ broadcastBytes z)))) ⌝ }
-    ensures { λ _. ⌜ now (row .exit) ≡ pack (tabulate (8 * broadcastBytes z) (λ t. ltb t (shownBits (circuitOf (now (s .entry))) cut) && sentBit (layoutOf z) (now (memory .entry)) p t)) ⌝ }
-{
-    let l = layout(z);
-    let head = circuit::records::head(s);
-    let shown = shown_bits(s, z, head, cut);
-    pack_row(memory, l, p, shown, row);
 }
 
 // Runs the circuit in a work memory and fills the cut's four parts.

@@ -163,9 +163,9 @@ fn a_word_elsewhere_is_no_definition() {
         assert_eq!(seen(&format!("`bits/specs/Bits`: `{name}`")), [name]);
     }
     // in another module; called there; in a comment there
-    for name in ["convert", "read_header", "Converts"] {
-        let path = format!("bristol::heading::{name}");
-        let stands = name == "read_header";
+    for name in ["convert", "write_file", "Converts"] {
+        let path = format!("bristol::writing::{name}");
+        let stands = name == "write_file";
         assert_eq!(seen(&format!("`{path}`")).is_empty(), stands, "{path}");
     }
     assert_eq!(seen("`bristol::convert`"), ["bristol::convert"]);

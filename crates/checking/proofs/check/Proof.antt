@@ -7,7 +7,7 @@ use borrow.Author.Needs.{needs}
 use lib.ListN.{replicate}
 use Rattle.mpc.proofs.Opened.{opened, opened-legal}
 use Rattle.mpc.proofs.Lent.{known-few}
-use Rattle.checking.proofs.Outcomes.{check-refused, check-short, check-left}
+use Rattle.proof_tests.proofs.Outcomes.{check-refused, check-short, check-left}
 use Rattle.checking.proofs.check.Statement.{statement}
 use Rattle.checking.proofs.check.Tie as tie
 

@@ -7,7 +7,7 @@ use Prim.Native.Nat.{ℕ}
 use native.Mathlib.Omega.{arith}
 use lib.ListN.{length, take}
 use lib.Seq.{length-take-le}
-use Rattle.checking.specs.Steps.{Tested, inTable}
+use Rattle.proof_tests.specs.Steps.{Tested, inTable}
 use Rattle.checking.proofs.Entries.{lent-refused, lent-taken, lent-room, lent-judged}
 use Rattle.checking.proofs.check_lent.Statement.{statement}
 use Rattle.checking.proofs.check_lent.Tie as tie

@@ -6,10 +6,10 @@ use mathlib.Core.Bool.{true}
 use native.Mathlib.Omega.{arith}
 use borrow.Author.Needs.{needs}
 use Rattle.refusal.specs.declared.Refusal.the-variants as refusals
-use Rattle.shelf.specs.declared.Shelf.{Shelf}
-use Rattle.shelf.specs.Page.{nextOf, sound, rootOf, readyHead}
-use Rattle.shelf.proofs.Walks.{next-read}
-use Rattle.shelf.proofs.Soundness.{shelfOf, opened, broken, ready-slot, spare-end}
+use Rattle.shelf_page.specs.declared.Shelf.{Shelf}
+use Rattle.shelf_page.specs.Page.{nextOf, sound, rootOf, readyHead}
+use Rattle.shelf_page.proofs.Walks.{next-read}
+use Rattle.shelf_page.proofs.Soundness.{shelfOf, opened, broken, ready-slot, spare-end}
 use Rattle.shelf.proofs.Operations.{draw-14, draw-15, draw-16, draw-18, draw-accepted, draw-refused, draw-given, draw-done, root-read}
 use Rattle.shelf.proofs.draw.Statement.{statement}
 use Rattle.shelf.proofs.draw.Tie as tie

@@ -8,10 +8,10 @@ use Prim.Native.Nat.{ℕ}
 use native.Mathlib.Omega.{arith}
 use borrow.Author.Needs.{needs}
 use Rattle.refusal.specs.Outcome.{done}
-use Rattle.shelf.specs.declared.Shelf.{Shelf}
-use Rattle.shelf.specs.Page.{nextOf, sound}
-use Rattle.shelf.proofs.Walks.{next-read}
-use Rattle.shelf.proofs.Soundness.{shelfOf, opened, broken, spare-slot}
+use Rattle.shelf_page.specs.declared.Shelf.{Shelf}
+use Rattle.shelf_page.specs.Page.{nextOf, sound}
+use Rattle.shelf_page.proofs.Walks.{next-read}
+use Rattle.shelf_page.proofs.Soundness.{shelfOf, opened, broken, spare-slot}
 use Rattle.shelf.proofs.Operations.{stock-14, stock-6, stock-17, stock-accepted, stock-done}
 use Rattle.shelf.proofs.stock.Statement.{statement}
 use Rattle.shelf.proofs.stock.Tie as tie

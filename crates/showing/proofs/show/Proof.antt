@@ -4,7 +4,7 @@ use mathlib.Core.Path.{refl}
 use borrow.Author.Needs.{needs}
 use Rattle.mpc.proofs.Opened.{opened}
 use Rattle.mpc.proofs.Lent.{known-few, work-long}
-use Rattle.showing.proofs.Shows.{show-refused, show-short, show-left}
+use Rattle.shown_parts.proofs.Shows.{show-refused, show-short, show-left}
 use Rattle.showing.proofs.show.Statement.{statement}
 use Rattle.showing.proofs.show.Tie as tie
 

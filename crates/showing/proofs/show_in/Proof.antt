@@ -6,7 +6,7 @@ use native.Mathlib.Omega.{arith}
 use Rattle.bits.proofs.Rows.{row-fits}
 use Rattle.mpc.proofs.Opened.{ands-low}
 use Rattle.mpc.proofs.Places.{memory-held, placed, working-kept}
-use Rattle.showing.proofs.Shows.{corrections-made, masked-made, row-made, hidden-made, show-made}
+use Rattle.shown_parts.proofs.Shows.{corrections-made, masked-made, row-made, hidden-made, show-made}
 use Rattle.showing.proofs.show_in.Statement.{statement}
 use Rattle.showing.proofs.show_in.Tie as tie
 

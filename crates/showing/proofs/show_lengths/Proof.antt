@@ -1,7 +1,7 @@
 -- `showing::show_lengths` meets its contract.
 -- Assumes nothing.
 use native.Mathlib.Omega.{arith}
-use Rattle.showing.proofs.Shows.{lengths-made}
+use Rattle.shown_parts.proofs.Shows.{lengths-made}
 use Rattle.showing.proofs.show_lengths.Statement.{statement}
 use Rattle.showing.proofs.show_lengths.Tie as tie
 

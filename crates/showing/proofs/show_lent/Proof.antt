@@ -3,7 +3,7 @@
 use mathlib.Core.Path.{refl}
 use native.Mathlib.Omega.{arith}
 use Rattle.mpc.proofs.Opened.{counted, ands-low}
-use Rattle.showing.proofs.Shows.{show-parties, show-index, show-length, show-unused, show-done, indices-tested, inputs-tested, parts-tested}
+use Rattle.shown_parts.proofs.Shows.{show-parties, show-index, show-length, show-unused, show-done, indices-tested, inputs-tested, parts-tested}
 use Rattle.showing.proofs.show_lent.Statement.{statement}
 use Rattle.showing.proofs.show_lent.Tie as tie
 

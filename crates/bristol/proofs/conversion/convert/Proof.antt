@@ -2,7 +2,7 @@
 -- Assumes nothing.
 use borrow.Author.Needs.{needs}
 use mathlib.Core.Path.{sym, ap, _∙_}
-use Rattle.bristol.specs.Rules.{Reading}
+use Rattle.bristol_lines.specs.Rules.{Reading}
 use Rattle.bristol.specs.Operations.{conversion, convertOp}
 use Rattle.bristol.proofs.Writes.{header-refused, header-good}
 use Rattle.bristol.proofs.conversion.convert.Statement.{statement}

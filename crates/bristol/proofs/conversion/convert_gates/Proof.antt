@@ -2,7 +2,7 @@
 -- Assumes nothing.
 use borrow.Author.Needs.{needs}
 use mathlib.Core.Path.{sym, ap, _∙_}
-use Rattle.bristol.specs.Steps.{verdict}
+use Rattle.bristol_lines.specs.Steps.{verdict}
 use Rattle.bristol.proofs.Writes.{convert-refused}
 use Rattle.bristol.proofs.conversion.convert_gates.Statement.{statement}
 use Rattle.bristol.proofs.conversion.convert_gates.Tie as tie

@@ -5,7 +5,7 @@ use native.Mathlib.Omega.{arith}
 use mathlib.Core.Path.{sym}
 use Prim.Native.Nat.{ℕ}
 use lib.ListN.{length-replicate}
-use Rattle.bristol.proofs.Lined.{Walked, walked-none, walked-refused, writes-inside, walked-more, walked-over, walked-all, told-refused, told-writes}
+use Rattle.bristol_lines.proofs.Lined.{Walked, walked-none, walked-refused, writes-inside, walked-more, walked-over, walked-all, told-refused, told-writes}
 use Rattle.circuit.specs.Steps.{wireBytes}
 use Rattle.circuit.proofs.Slots.{zero-bits}
 use Rattle.bristol.proofs.walk.check_gates.Statement.{statement}

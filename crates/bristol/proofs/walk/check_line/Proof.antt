@@ -2,7 +2,7 @@
 -- Assumes nothing.
 use borrow.Author.Needs.{needs}
 use mathlib.Core.Path.{sym, ap, _∙_}
-use Rattle.bristol.specs.Steps.{lineRefusal}
+use Rattle.bristol_lines.specs.Steps.{lineRefusal}
 use Rattle.bristol.proofs.walk.check_line.Statement.{statement}
 use Rattle.bristol.proofs.walk.check_line.Tie as tie
 

@@ -11,7 +11,7 @@ use Rattle.bits.specs.Bytes.{leBytes}
 use Rattle.circuit.specs.File.{width}
 use Rattle.circuit.specs.Steps.{outputPlace}
 use Rattle.building.specs.Steps.{fourBytes}
-use Rattle.bristol.specs.Steps.{stored}
+use Rattle.bristol_lines.specs.Steps.{stored}
 use Rattle.bristol.proofs.Writes.{going-start, never-unknown, never-malformed, next-line, filed-none, filed-some, room-sets}
 use Rattle.bristol.proofs.writing.write_file.Statement.{statement}
 use Rattle.bristol.proofs.writing.write_file.Tie as tie

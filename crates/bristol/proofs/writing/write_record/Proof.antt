@@ -2,7 +2,7 @@
 -- Assumes nothing.
 use borrow.Author.Needs.{needs}
 use mathlib.Core.Path.{refl, _∙_}
-use Rattle.bristol.specs.Conversion.{recordOf}
+use Rattle.bristol_lines.specs.Conversion.{recordOf}
 use Rattle.bristol.proofs.writing.write_record.Statement.{statement}
 use Rattle.bristol.proofs.writing.write_record.Tie as tie
 

@@ -7,7 +7,7 @@ use mathlib.Core.List.{_∷_}
 use Prim.Native.Nat.{ℕ, _+_, _-_}
 use lib.ListN.{drop}
 use Rattle.bristol_text.specs.Text.{lines}
-use Rattle.bristol.specs.Steps.{lineOf, gatesFrom, stored}
+use Rattle.bristol_lines.specs.Steps.{lineOf, gatesFrom, stored}
 use Rattle.bristol.proofs.Writes.{Held, held-start, held-more, held-all, never-unknown, never-malformed, next-line, room-same}
 use Rattle.bristol.proofs.writing.write_records.Statement.{statement}
 use Rattle.bristol.proofs.writing.write_records.Tie as tie

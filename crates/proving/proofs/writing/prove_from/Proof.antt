@@ -5,8 +5,8 @@ use native.Mathlib.Omega.{arith}
 use borrow.Author.Needs.{needs}
 use Rattle.bits.proofs.Copies.{prefix-length}
 use Rattle.instance.proofs.Sent.{front-inside, front-back, front-taken}
-use Rattle.proving.proofs.Buffers.{head-inside, head-part, head-fits, few-instances, onlines-fit, onlines-part, length-first, first-drawable, ready-inside, answer-asks, proof-made, size-made, buffer-kept}
-use Rattle.proving.proofs.Firsts.{lent-kept}
+use Rattle.rounds.proofs.Buffers.{head-inside, head-part, head-fits, few-instances, onlines-fit, onlines-part, length-first, first-drawable, ready-inside, answer-asks, proof-made, size-made, buffer-kept}
+use Rattle.rounds.proofs.Firsts.{lent-kept}
 use Rattle.proving.proofs.writing.prove_from.Statement.{statement}
 use Rattle.proving.proofs.writing.prove_from.Tie as tie
 

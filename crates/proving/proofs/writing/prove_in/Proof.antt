@@ -14,7 +14,7 @@ use Rattle.seeds.proofs.Instances.{counts-fit}
 use Rattle.instance.proofs.Sent.{front-inside, front-back, front-taken}
 use Rattle.proof.specs.Protocol.{statementOf}
 use Rattle.proof.specs.Prove.{proofOf}
-use Rattle.proving.specs.Steps.{Tested}
+use Rattle.rounds.specs.Steps.{Tested}
 use Rattle.proof.proofs.Leaves.{masters-low}
 use Rattle.proving.proofs.Trees.{rows-grown, proof-grown}
 use Rattle.proving.proofs.writing.prove_in.Statement.{statement}

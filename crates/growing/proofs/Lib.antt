@@ -1,0 +1,4 @@
+pub mod Marking
+pub mod Writing
+pub mod Growing
+pub mod Following

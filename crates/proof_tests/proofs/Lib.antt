@@ -1,0 +1,5 @@
+pub mod Hashed
+pub mod Verified
+pub mod Headers
+pub mod Checks
+pub mod Outcomes

@@ -1,0 +1,3 @@
+pub mod Walks
+pub mod Soundness
+pub mod Slots
