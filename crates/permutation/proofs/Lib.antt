@@ -2,5 +2,5 @@ pub mod Agree
 mod Constants
 pub mod Lanes
 pub mod Offsets
-mod Rounds
+pub mod Rounds
 pub mod Strings

@@ -203,7 +203,7 @@ const ROUND_CONSTANTS: [u64; 24] = [
 
 // The entry of the round ir. By literal indices the compiler keeps the table as data; ROUND_CONSTANTS[ir] is laid on the stack anew
 // in every round.
-fn round_constant(ir: usize) -> u64
+pub fn round_constant(ir: usize) -> u64
     requires { ⌜ ir < 24 ⌝ }
     ensures { λ r. ⌜ r ≡ roundConstant ir ⌝ }
 {

@@ -10,7 +10,8 @@ const WORDS: usize = MAX_STACK / 8 + 64;
 /// Overwrites with zeros what a call has left on the stack below the caller's frame,
 /// [`MAX_STACK`] bytes and a little more. Every function of this crate that is lent a
 /// witness, tapes, a root, a master or a shelf page does so before it returns, but for
-/// [`replay`](crate::mpc::replay), whose tapes were shown. A host that hashes a secret
+/// [`replay`](crate::mpc::replay), whose tapes were shown, and those of
+/// [`store`](crate::store), which hash the page once more after it. A host that hashes a secret
 /// with [`sha3_256`](crate::sha3_256) or a SHAKE calls it after that, from the same
 /// function.
 #[inline(never)]
