@@ -63,6 +63,12 @@ extern "C" {
 #define WV_VERSION "0.1.0"
 
 /*
+ * The version of the archive that is linked, as 65536 times its major number, 256
+ * times its minor number and its patch number. It belongs to the header with these.
+ */
+uint32_t wv_version(void);
+
+/*
  * What a function returns. A number means the same in all; there is no 4.
  */
 enum wv_answer {

@@ -597,6 +597,8 @@ int main(void)
     sprintf(version, "%d.%d.%d", WV_VERSION_MAJOR, WV_VERSION_MINOR,
             WV_VERSION_PATCH);
     equal("the version", (size_t)strcmp(version, WV_VERSION), 0);
+    equal("the version of the archive", wv_version(),
+          65536 * WV_VERSION_MAJOR + 256 * WV_VERSION_MINOR + WV_VERSION_PATCH);
     proof_lengths();
     numbers_out_of_limits();
     page_lengths();

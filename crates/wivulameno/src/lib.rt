@@ -1,5 +1,6 @@
 // The C interface, built as the static library libwivulameno.a; its header is include/wivulameno.h.
-// Each function returns 0 for success, or the number of a refusal; only wv_fault_slot and wv_upgrade_slot a slot. No logic of its own.
+// Each function returns 0 for success, or the number of a refusal; only wv_fault_slot and wv_upgrade_slot a slot, and
+// wv_version the version. No logic of its own.
 ghost use mathlib.Core.Path.{_≡_};
 ghost use mathlib.Core.Bool.{cond};
 ghost use mathlib.Core.List.{[], _∷_};
@@ -18,6 +19,14 @@ ghost use Rattle.shelf.specs.Operations.{stockOp, drawOp};
 ghost use Rattle.seeds.specs.Operations.{expandOp, openOp, mastersOp, coverOp, challengeOp};
 ghost use Rattle.wivulameno.specs.Interface.{status, values, slot, lengthTold};
 ghost use Rattle.keccak.specs.Sponge.{«sha3-256», «shake128», «shake256»};
+
+// The version of this library, 65536 times its major number, 256 times its minor number and its patch number: 0.1.0.
+#[no_mangle]
+pub extern "C" fn wv_version() -> u32
+    ensures { λ r. ⌜ r ≡ 256 ⌝ }
+{
+    256
+}
 
 // SHA3-256 of the data, into 32 lent bytes.
 #[no_mangle]

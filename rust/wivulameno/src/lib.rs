@@ -85,6 +85,14 @@ use limits::DIGEST_LEN;
 /// The version of this crate, which is that of the C headers and of `wv`.
 pub const VERSION: &str = env!("CARGO_PKG_VERSION");
 
+/// The version of the proved library that is linked: its major, minor and patch
+/// number.
+pub fn library_version() -> [u32; 3] {
+    // SAFETY: the function takes nothing.
+    let version = unsafe { ffi::wv_version() };
+    [version / 65536, version / 256 % 256, version % 256]
+}
+
 /// The program in Rust of `docs/embedding.md`, as it stands there.
 #[cfg(doctest)]
 #[doc = include_str!("../../../docs/embedding.md")]

@@ -87,4 +87,6 @@ fn the_version() {
     assert_eq!(defines["WV_VERSION"], format!("\"{version}\""));
     let parts = ["MAJOR", "MINOR", "PATCH"].map(|part| defines[&*format!("WV_VERSION_{part}")]);
     assert_eq!(parts.join("."), version);
+    let linked = wivulameno::library_version().map(|part| part.to_string());
+    assert_eq!(linked.join("."), version);
 }
