@@ -33,8 +33,9 @@
  * a call leaves below the caller's frame on the stack (seeds of hidden parties,
  * say) the library cannot take away. A host whose stack may be read by others
  * later burns it after each call that is lent a secret: a witness, tapes (but those
- * of wv_replay, which were shown), a root, a master, a page. It calls, from the same function and at once, one that is not
- * inlined and overwrites WV_MAX_STACK bytes of the stack; no call takes more.
+ * of wv_replay, which were shown), a root, a master, a page. It calls, from the same
+ * function and at once, one that is not inlined and overwrites WV_MAX_STACK bytes of
+ * the stack; no call takes more.
  * The thread needs room for that and for its own frames.
  * libgcrypt does the same. With gcc or clang:
  *

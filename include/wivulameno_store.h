@@ -12,7 +12,8 @@
  *   - a root that wv_store_draw gave is counted in the log, on disk, and is given
  *     by no later call;
  *   - a call that is cut off costs one root at most;
- *   - an old page that is put back is refused with 15.
+ *   - an old page that is put back, with fewer draws than the log counts, is refused:
+ *     with 15, or with WV_STORE_REPLACED.
  *
  * It rests on the host for these:
  *
@@ -180,7 +181,8 @@ uint32_t wv_store_status(wv_store *store, struct wv_store_status *status);
 
 /*
  * The same of a shelf that is not opened here. Only reads, takes no lock, and can
- * be called beside a process that has the shelf open.
+ * be called beside a process that has the shelf open: WV_STORE_BUSY if that one
+ * writes all the while.
  */
 uint32_t wv_store_look(const char *page, const char *log,
                        struct wv_store_status *status);
