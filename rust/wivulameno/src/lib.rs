@@ -53,8 +53,8 @@
 //! is not null, its length, and no overlap of what is written with anything else.
 //! A refused call leaves every lent byte as it was, but for a [`Work`] buffer.
 //!
-//! After each call that is lent a secret the crate burns the stack
-//! ([`burn_stack`]), and the library leaves its work buffer all zero. The buffers that
+//! After each call that is lent a secret, but for those of [`store`], the crate burns
+//! the stack ([`burn_stack`]), and the library leaves its work buffer all zero. The buffers that
 //! the caller fills with a witness, a root or tapes are the caller's to clear.
 //!
 //! The library is built for x86-64 Linux. [`store::Disk`] relies on Unix to keep a

@@ -143,7 +143,9 @@ impl Refusal {
             }
             Refusal::Length => "an input or a buffer does not have the length that is asked for",
             Refusal::UnusedBits => "a bit that must be zero is not",
-            Refusal::Counts => "the number of instances, of chosen ones or of parties is not allowed",
+            Refusal::Counts => {
+                "the number of instances, of chosen ones or of parties, or a quota, is not allowed"
+            }
             Refusal::Party => {
                 "there is no such party or leaf, no leaf is hidden, or the cut is behind the last gate"
             }

@@ -249,7 +249,7 @@ fn no_text_to_convert_and_nothing_to_upgrade() {
     folder.wv("convert wide --out out").refused(
         24,
         "wide: line 2; a circuit has 1 to 512 inputs, 1 to 256 outputs and at most 100000 gates: \
-         prove in parts",
+         what has more is proved in parts",
     );
     let known = [
         (

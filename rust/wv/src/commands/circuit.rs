@@ -126,7 +126,7 @@ fn torn(bytes: &[u8]) -> Option<String> {
         ];
         format!(
             "it has {inputs}, {outputs} and {gates}, and a circuit has 1 to {MAX_INPUTS}, 1 to \
-             {MAX_OUTPUTS} and at most {MAX_GATES}: prove in parts"
+             {MAX_OUTPUTS} and at most {MAX_GATES}: what has more is proved in parts"
         )
     })
 }

@@ -80,7 +80,7 @@ fn converted(input: &Input, text: &[u8]) -> Result<Vec<u8>, Failure> {
             Refusal::GateKind => "; write a gate of another kind as some of these".into(),
             Refusal::TextLimits => format!(
                 "; a circuit has 1 to {MAX_INPUTS} inputs, 1 to {MAX_OUTPUTS} outputs and at most \
-                 {MAX_GATES} gates: prove in parts"
+                 {MAX_GATES} gates: what has more is proved in parts"
             ),
             _ => String::new(),
         };
