@@ -7,7 +7,7 @@ use mathlib.Core.Logic.{⊎-elim, _≢_}
 use Prim.Native.Nat.{ℕ, zero, suc, _+_, _*_, _/_, _%_, _^_, _≤_, _<_}
 use native.Mathlib.Omega.{arith}
 use lib.Bits.{bitXor}
-use lib.ListN.{length, getD, set, length-set}
+use lib.ListN.{length, getD, set, replicate, length-set}
 use lib.Pow.{pow-pos}
 use lib.Seq.{ext-getD}
 use native.Mathlib.Numerals.{add-one}
@@ -21,7 +21,7 @@ use Rattle.permutation.specs.Steps.{roundConstant}
 use Rattle.permutation.proofs.Agree.{chi-cong, iota-cong, pi-cong, rho-cong}
 use Rattle.permutation.proofs.Lanes.{Lanes64, iota-lanes}
 use Rattle.permutation.proofs.Rounds.{after, rounds-none, rounds-more}
-use Rattle.four.specs.Steps.{stateOf, each, putState, stepped, roundedBy, plane}
+use Rattle.four.specs.Steps.{stateOf, each, putState, joined, stepped, roundedBy, plane}
 
 -- the four steps one after the other
 pub stepped-is : (a t r p s : List ℕ) → t ≡ lanes (θ (laneArray a)) → r ≡ lanes (ρ (laneArray t)) → p ≡ lanes (π (laneArray r))
@@ -52,10 +52,10 @@ whole a e =
     let all : parts (plane 3 a) (plane 2 a ++ plane 0 a) (plane 1 a ++ plane 4 a) ≡ tabulate 25 (λ i. getD a i 0) = refl in
     all ∙ ap (λ (n : ℕ). tabulate n (λ i. getD a i 0)) (sym e) ∙ tabulate-getD a 0
 
-pub joined : (a p q r : List ℕ) (c : ℕ) → p ≡ plane 3 (stepped a) → q ≡ plane 2 (stepped a) ++ plane 0 (stepped a)
+pub parts-joined : (a p q r : List ℕ) (c : ℕ) → p ≡ plane 3 (stepped a) → q ≡ plane 2 (stepped a) ++ plane 0 (stepped a)
     → r ≡ plane 1 (stepped a) ++ plane 4 (stepped a) → set (parts p q r) 0 (bitXor (getD (parts p q r) 0 0) c) ≡ roundedBy c a
 unfolding roundedBy
-joined a p q r c ep eq er =
+parts-joined a p q r c ep eq er =
     let b : List ℕ = stepped a in
     ap (λ (l : List ℕ). set l 0 (bitXor (getD l 0 0) c))
     (ap (λ (x : List ℕ). parts x q r) ep ∙ ap (λ (x : List ℕ). parts (plane 3 b) x r) eq ∙ ap (parts (plane 3 b) (plane 2 b ++ plane 0 b)) er
@@ -90,6 +90,55 @@ put-same k b s i hk hi e = fill-at (λ t. 4 * t + k) (λ t. getD b t 0) s 25 i h
 put-length : (k : ℕ) (b s : List ℕ) → length (putState k b s) ≡ length s
 unfolding putState
 put-length k b s = fill-length _ _ s 25
+
+-- the state that is put, and another state
+state-same : (k : ℕ) (b s : List ℕ) → k < 4 → length b ≡ 25 → length s ≡ 100 → stateOf k (putState k b s) ≡ b
+unfolding stateOf
+state-same k b s h e l =
+    tabulate-cong 25 _ (λ i. getD b i 0) (λ i q. put-same k b s i h q l) ∙ ap (λ (n : ℕ). tabulate n (λ i. getD b i 0)) (sym e) ∙ tabulate-getD b 0
+
+state-other : (k : ℕ) (b s : List ℕ) (j : ℕ) → k < 4 → j < 4 → j ≢ k → stateOf j (putState k b s) ≡ stateOf j s
+unfolding stateOf
+state-other k b s j h l n = tabulate-cong 25 _ (λ i. getD s (4 * i + j) 0) (λ i q. put-other k b s i j h l n)
+
+-- the states of four that are joined
+module _ (a b c d : List ℕ) (la : length a ≡ 25) (lb : length b ≡ 25) (lc : length c ≡ 25) (ld : length d ≡ 25) where
+  none : List ℕ
+  none = replicate 100 0
+
+  size-0 : length none ≡ 100
+  unfolding none
+  size-0 = refl
+
+  size-1 : length (putState 0 a none) ≡ 100
+  size-1 = put-length 0 a none ∙ size-0
+
+  size-2 : length (putState 1 b (putState 0 a none)) ≡ 100
+  size-2 = put-length 1 b _ ∙ size-1
+
+  size-3 : length (putState 2 c (putState 1 b (putState 0 a none))) ≡ 100
+  size-3 = put-length 2 c _ ∙ size-2
+
+  pub joined-0 : stateOf 0 (joined a b c d) ≡ a
+  unfolding joined none
+  joined-0 =
+      state-other 3 d _ 0 (omega arith) (omega arith) (λ e. omega arith) ∙ state-other 2 c _ 0 (omega arith) (omega arith) (λ e. omega arith)
+      ∙ state-other 1 b _ 0 (omega arith) (omega arith) (λ e. omega arith) ∙ state-same 0 a none (omega arith) la size-0
+
+  pub joined-1 : stateOf 1 (joined a b c d) ≡ b
+  unfolding joined none
+  joined-1 =
+      state-other 3 d _ 1 (omega arith) (omega arith) (λ e. omega arith) ∙ state-other 2 c _ 1 (omega arith) (omega arith) (λ e. omega arith)
+      ∙ state-same 1 b (putState 0 a none) (omega arith) lb size-1
+
+  pub joined-2 : stateOf 2 (joined a b c d) ≡ c
+  unfolding joined none
+  joined-2 =
+      state-other 3 d _ 2 (omega arith) (omega arith) (λ e. omega arith) ∙ state-same 2 c (putState 1 b (putState 0 a none)) (omega arith) lc size-2
+
+  pub joined-3 : stateOf 3 (joined a b c d) ≡ d
+  unfolding joined none
+  joined-3 = state-same 3 d (putState 2 c (putState 1 b (putState 0 a none))) (omega arith) ld size-3
 
 -- f of the first k states, the others as they were
 unfoldable pub eachBelow : (List ℕ → List ℕ) → ℕ → List ℕ → List ℕ
@@ -150,7 +199,7 @@ unfolding each
 each-length f s = length-tabulate 100 (λ j. getD (f (stateOf (j % 4) s)) (j / 4) 0)
 
 -- a state of f of each
-each-state : (f : List ℕ → List ℕ) (s : List ℕ) (k : ℕ) → k < 4 → length (f (stateOf k s)) ≡ 25 → stateOf k (each f s) ≡ f (stateOf k s)
+pub each-state : (f : List ℕ → List ℕ) (s : List ℕ) (k : ℕ) → k < 4 → length (f (stateOf k s)) ≡ 25 → stateOf k (each f s) ≡ f (stateOf k s)
 unfolding stateOf each
 each-state f s k h e =
     let g : ℕ → ℕ = λ j. getD (f (stateOf (j % 4) s)) (j / 4) 0 in

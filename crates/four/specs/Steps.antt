@@ -4,7 +4,7 @@
 use mathlib.Core.List.{List}
 use Prim.Native.Nat.{ℕ, _+_, _*_, _/_, _%_, _^_, _<_}
 use lib.Bits.{bitXor}
-use lib.ListN.{getD, set}
+use lib.ListN.{getD, set, replicate}
 use Rattle.bits.specs.Bits.{tabulate}
 use Rattle.words.specs.Steps.{fill}
 use Rattle.permutation.specs.Permutation.{θ, ρ, π, χ, lanes, laneArray}
@@ -24,6 +24,10 @@ each f s = tabulate 100 (λ j. getD (f (stateOf (j % 4) s)) (j / 4) 0)
 -- b as state k
 unfoldable pub putState : ℕ → List ℕ → List ℕ → List ℕ
 putState k b s = fill (λ i. 4 * i + k) (λ i. getD b i 0) 25 s
+
+-- a, b, c and d as states 0 to 3
+unfoldable pub joined : List ℕ → List ℕ → List ℕ → List ℕ → List ℕ
+joined a b c d = putState 3 d (putState 2 c (putState 1 b (putState 0 a (replicate 100 0))))
 
 -- the lanes after the steps θ, ρ, π, χ
 unfoldable pub stepped : List ℕ → List ℕ

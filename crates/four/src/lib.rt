@@ -4,7 +4,7 @@ ghost use mathlib.Core.List.{_++_};
 ghost use Prim.Native.Nat.{_<_};
 ghost use lib.ListN.{length};
 ghost use Rattle.permutation.specs.Permutation.{Rnd, rounds, lanes, laneArray};
-ghost use Rattle.four.specs.Steps.{Lanes64, stateOf, each, putState, stepped, roundedBy, plane};
+ghost use Rattle.four.specs.Steps.{Lanes64, stateOf, each, putState, joined, stepped, roundedBy, plane};
 use permutation::chi;
 use permutation::pi;
 use permutation::rho;
@@ -12,7 +12,7 @@ use permutation::round_constant;
 use permutation::theta;
 
 // State k.
-fn state(s: &[u64; 100], k: usize) -> [u64; 25]
+pub fn state(s: &[u64; 100], k: usize) -> [u64; 25]
     requires { ⌜ k < 4 ⌝ }
     ensures { λ r. ⌜ r ≡ stateOf k (now (s .entry)) ⌝ }
 {
@@ -75,6 +75,18 @@ fn put(s: &mut [u64; 100], k: usize, b: [u64; 25])
     s[88 + k] = b[22];
     s[92 + k] = b[23];
     s[96 + k] = b[24];
+}
+
+// Four states as one.
+pub fn join(a: [u64; 25], b: [u64; 25], c: [u64; 25], d: [u64; 25]) -> [u64; 100]
+    ensures { λ r. ⌜ r ≡ joined a b c d ⌝ }
+{
+    let mut s = [0u64; 100];
+    put(&mut s, 0, a);
+    put(&mut s, 1, b);
+    put(&mut s, 2, c);
+    put(&mut s, 3, d);
+    s
 }
 
 // Plane 3 of the state after the step mappings before ι, in the order of FIPS 202.

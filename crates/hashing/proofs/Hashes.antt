@@ -5,8 +5,11 @@ use mathlib.Core.Path.{_≡_, sym, ap, _∙_}
 use mathlib.Core.List.{List, [], _∷_, _++_}
 use Prim.Native.Nat.{ℕ, zero, suc, _<_}
 use Rattle.keccak.specs.declared.sponge.Sponge.{Sponge}
-use Rattle.keccak.specs.Steps.{empty, absorbByte, absorbs}
+use Rattle.keccak.specs.Sponge.{shake128}
+use Rattle.keccak.specs.Steps.{empty, absorbByte, absorbs, closed, squeezes}
 use Rattle.keccak.proofs.Absorbing.{Bytes}
+use Rattle.keccak.proofs.Blocks.{closed-bytes}
+use Rattle.keccak.proofs.Squeezing.{shake128-steps}
 use Rattle.keccak.proofs.Steps.{absorbs-append, absorbs-room}
 
 -- two strings of bytes make one
@@ -42,3 +45,11 @@ module _ (rate : ℕ) where
   -- there is room for the next byte
   pub took-room : {M : List ℕ} {s : Sponge} → 0 < rate → Took rate M s → s .fill < rate
   took-room {M} some k = rw (k .all) (absorbs-room rate some M empty (empty-room rate some))
+
+-- what the closed sponge of a message in three parts behind its tag gives out
+pub closed-shake128 : (tag : ℕ) (salt head body : List ℕ) (d : ℕ) → tag < 256 → Bytes salt → Bytes head → Bytes body
+    → squeezes 168 d (closed 168 0x1f (absorbs 168 empty (tag ∷ (salt ++ head ++ body)))) ≡ shake128 (tag ∷ (salt ++ head ++ body)) d
+closed-shake128 tag salt head body d t a b c =
+    let A : List ℕ = (tag ∷ []) ++ salt in
+    closed-bytes 168 0x1f d (absorbs 168 empty ((A ++ head) ++ body)) (omega arith)
+    ∙ shake128-steps ((A ++ head) ++ body) d (bytes-append (A ++ head) body (bytes-append A head (bytes-append (tag ∷ []) salt (bytes-one tag t) a) b) c)

@@ -5,6 +5,7 @@ ghost use mathlib.Core.Path.{_≡_};
 ghost use mathlib.Core.List.{[], _∷_, _++_};
 ghost use Prim.Native.Nat.{_<_};
 ghost use lib.ListN.{length};
+ghost use Rattle.keccak.specs.Steps.{empty, absorbs, closed};
 ghost use Rattle.keccak.specs.Sponge.{shake128 as «shake128-of», sha3-256 as «sha3-of»};
 ghost use Rattle.hashing.specs.Inputs.{commitmentsInput, onlineInput, allCommitmentsInput, allOnlineInput};
 ghost use Rattle.hashing.specs.Digest.{transcriptOf, taken, given};
@@ -31,17 +32,24 @@ pub fn salt_in(bytes: &[u8]) -> [u8; 32]
     salt
 }
 
-// SHAKE128 of the tag, the salt, the head and the body, as long as the lent output.
-pub fn shake128(tag: u8, salt: &[u8], head: &[u8], body: &[u8], out: &mut [u8])
-    ensures { λ _. ⌜ now (out .exit) ≡ «shake128-of» (tag ∷ (now (salt .entry) ++ now (head .entry) ++ now (body .entry))) (length (now (out .entry))) ⌝ }
+// The sponge of SHAKE128 that has taken in the tag, the salt, the head and the body, closed.
+pub fn close128(tag: u8, salt: &[u8], head: &[u8], body: &[u8]) -> Sponge
+    ensures { λ r. ⌜ r ≡ closed 168 0x1f (absorbs 168 empty (tag ∷ (now (salt .entry) ++ now (head .entry) ++ now (body .entry)))) ⌝ }
 {
     let s = Sponge::new()
         .absorb_byte(SHAKE128_RATE, tag)
         .absorb(SHAKE128_RATE, salt)
         .absorb(SHAKE128_RATE, head)
         .absorb(SHAKE128_RATE, body);
-    let _ = s.pad(SHAKE128_RATE, SHAKE_FIRST)
-        .squeeze(SHAKE128_RATE, out);
+    s.close(SHAKE128_RATE, SHAKE_FIRST)
+}
+
+// SHAKE128 of the tag, the salt, the head and the body, as long as the lent output.
+pub fn shake128(tag: u8, salt: &[u8], head: &[u8], body: &[u8], out: &mut [u8])
+    ensures { λ _. ⌜ now (out .exit) ≡ «shake128-of» (tag ∷ (now (salt .entry) ++ now (head .entry) ++ now (body .entry))) (length (now (out .entry))) ⌝ }
+{
+    let s = close128(tag, salt, head, body);
+    let _ = s.squeeze(SHAKE128_RATE, out);
 }
 
 // SHA3-256 of the tag 1, the salt and four parts: a commitment.

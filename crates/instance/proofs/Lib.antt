@@ -1,5 +1,6 @@
 pub mod Trees
 pub mod Written
+pub mod Together
 pub mod Seeded
 pub mod Tapes
 pub mod Hashed

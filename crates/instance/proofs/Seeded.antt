@@ -31,9 +31,9 @@ use Rattle.party.specs.Derive.{seedRow}
 use Rattle.party.specs.Derive as derive
 use Rattle.party.proofs.Clearing.{length-tape}
 use Rattle.instance.specs.Instance.{leavesOf, seedsOf, seedsBut, masterSeeds, masterTapes, seedOf, tapesOf}
-use Rattle.instance.specs.Steps.{Tree, Lent, seedsHeld, tapesBut}
+use Rattle.instance.specs.Steps.{Tree, Lent, seedsHeld, seedBut, tapeBut, tapesBut}
 use Rattle.instance.proofs.Trees.{tree-sizes}
-use Rattle.instance.proofs.Written.{sets-here, part-ahead, row-read, row-ahead, rows-length, row-kept, either-length}
+use Rattle.instance.proofs.Written.{sets-here, part-ahead, row-part, rows-length, row-kept, either-length}
 
 -- the sizes of a tree of height h
 module _ (n h : ℕ) (tree : Tree n h) where
@@ -49,81 +49,63 @@ module _ (n h : ℕ) (tree : Tree n h) where
 
 -- the seeds of all parties but p
 module _ (p : ℕ) (j : Context) (leaves : List ℕ) where
-  -- party i's
-  abbrev pub seedBut : ℕ → List ℕ
-  seedBut i = cond (eqb i p) (replicate 32 0) (seedRow j i (rowOf leaves 16 i))
-
-  pub seed-size : (i : ℕ) → length (seedBut i) ≡ 32
+  pub seed-size : (i : ℕ) → length (seedBut p j leaves i) ≡ 32
   unfolding seedRow
   seed-size i = either-length (eqb i p) (replicate 32 0) (seedRow j i (rowOf leaves 16 i)) 32 (length-replicate {A = ℕ} 32 0) (length-shake128 _ 32)
 
-  pub seed-zero : (i k : ℕ) (z : List ℕ) → i ≡ p → k ≡ 32 → z ≡ replicate k 0 → z ≡ seedBut i
+  pub seed-zero : (i k : ℕ) (z : List ℕ) → i ≡ p → k ≡ 32 → z ≡ replicate k 0 → z ≡ seedBut p j leaves i
   seed-zero i k z e q h = h ∙ ap (λ (x : ℕ). replicate x 0) q ∙ rw (eq-eqb i p e) refl
 
-  pub seed-derived : (i : ℕ) (leaf z : List ℕ) → (i ≡ p → ⊥) → leaf ≡ rowOf leaves 16 i → z ≡ seedRow j i leaf → z ≡ seedBut i
+  pub seed-derived : (i : ℕ) (leaf z : List ℕ) → (i ≡ p → ⊥) → leaf ≡ rowOf leaves 16 i → z ≡ seedRow j i leaf → z ≡ seedBut p j leaves i
   seed-derived i leaf z e q h = h ∙ ap (seedRow j i) q ∙ rw (ne-eqb i p e) refl
 
   seeds-size : (n : ℕ) → length (seedsBut n p j leaves) ≡ 32 * n
   unfolding seedsBut
-  seeds-size n = omega (arith, rows-length 32 seedBut seed-size n)
+  seeds-size n = omega (arith, rows-length 32 (seedBut p j leaves) seed-size n)
 
   -- all rows
-  pub seeds-end : (n i to : ℕ) (m w : List ℕ) → i ≡ n → w ≡ sets m to (flatten (tabulate i seedBut)) → w ≡ sets m to (seedsBut n p j leaves)
+  pub seeds-end : (n i to : ℕ) (m w : List ℕ) → i ≡ n → w ≡ sets m to (flatten (tabulate i (seedBut p j leaves))) → w ≡ sets m to (seedsBut n p j leaves)
   unfolding seedsBut
-  seeds-end n i to m w e h = h ∙ ap (λ (k : ℕ). sets m to (flatten (tabulate k seedBut))) e
+  seeds-end n i to m w e h = h ∙ ap (λ (k : ℕ). sets m to (flatten (tabulate k (seedBut p j leaves)))) e
 
--- leaf i, which stands in the memory after the seeds
-pub leaf-read : (n p : ℕ) (j : Context) (i a to : ℕ) (m w leaf : List ℕ) → i < n → a + 16 * n ≤ length m → to + 32 * n ≤ a
-    → w ≡ sets m to (flatten (tabulate i (seedBut p j (take (16 * n) (drop a m))))) → leaf ≡ take 16 (drop (a + 16 * i) w)
-    → leaf ≡ rowOf (take (16 * n) (drop a m)) 16 i
-leaf-read n p j i a to m w leaf h l q e d =
-    let leaves : List ℕ = take (16 * n) (drop a m) in
-    let x : a + 16 * i ≡ a + i * 16 = omega arith in
+-- leaf i in the memory
+pub leaf-here : (n i a k : ℕ) (m : List ℕ) → i < n → a + 16 * n ≤ length m → k ≡ a + 16 * i → take 16 (drop k m) ≡ rowOf (take (16 * n) (drop a m)) 16 i
+leaf-here n i a k m h l e =
+    let x : k ≡ a + i * 16 = omega arith in
     let y : n * 16 ≡ 16 * n = omega arith in
-    d ∙ ap (λ (k : ℕ). take 16 (drop k w)) x
-    ∙ row-read 16 n i a to m (flatten (tabulate i (seedBut p j leaves))) w h (omega arith) (omega (arith, rows-length 32 (seedBut p j leaves) (seed-size p j leaves) i)) e
-    ∙ ap (λ (k : ℕ). rowOf (take k (drop a m)) 16 i) y
+    ap (λ (t : ℕ). take 16 (drop t m)) x ∙ sym (row-part 16 n i a m h (omega arith)) ∙ ap (λ (t : ℕ). rowOf (take t (drop a m)) 16 i) y
 
 -- the tapes of all parties but p
 module _ (c : Circuit) (n p : ℕ) (j : Context) (seeds : List ℕ) where
-  -- party i's
-  abbrev pub tapeBut : ℕ → List ℕ
-  tapeBut i = cond (eqb i p) (replicate (rowBytes c) 0) (derive.tapeRow j i (seedOf seeds i) (usedBits c n i) (rowBytes c))
-
-  pub tape-size : (len : ℕ) → len ≡ rowBytes c → (i : ℕ) → length (tapeBut i) ≡ len
+  pub tape-size : (len : ℕ) → len ≡ rowBytes c → (i : ℕ) → length (tapeBut c n p j seeds i) ≡ len
   tape-size len e i =
       either-length (eqb i p) (replicate (rowBytes c) 0) (derive.tapeRow j i (seedOf seeds i) (usedBits c n i) (rowBytes c)) len
       (length-replicate {A = ℕ} (rowBytes c) 0 ∙ sym e) (length-tape j i (seedOf seeds i) (usedBits c n i) (rowBytes c) ∙ sym e)
 
-  pub tape-zero : (i k : ℕ) (z : List ℕ) → i ≡ p → k ≡ rowBytes c → z ≡ replicate k 0 → z ≡ tapeBut i
+  pub tape-zero : (i k : ℕ) (z : List ℕ) → i ≡ p → k ≡ rowBytes c → z ≡ replicate k 0 → z ≡ tapeBut c n p j seeds i
   tape-zero i k z e q h = h ∙ ap (λ (x : ℕ). replicate x 0) q ∙ rw (eq-eqb i p e) refl
 
   pub tape-derived : (i used k : ℕ) (seed z : List ℕ) → (i ≡ p → ⊥) → seed ≡ seedOf seeds i → used ≡ usedBits c n i → k ≡ rowBytes c
-      → z ≡ derive.tapeRow j i seed used k → z ≡ tapeBut i
+      → z ≡ derive.tapeRow j i seed used k → z ≡ tapeBut c n p j seeds i
   tape-derived i used k seed z e q u v h =
       h ∙ ap (λ (x : List ℕ). derive.tapeRow j i x used k) q ∙ ap₂ (derive.tapeRow j i (seedOf seeds i)) u v ∙ rw (ne-eqb i p e) refl
 
   tapes-size : length (tapesBut c n p j seeds) ≡ n * rowBytes c
   unfolding tapesBut
-  tapes-size = rows-length (rowBytes c) tapeBut (tape-size (rowBytes c) refl) n
+  tapes-size = rows-length (rowBytes c) (tapeBut c n p j seeds) (tape-size (rowBytes c) refl) n
 
   -- all rows
-  pub tapes-end : (i to : ℕ) (m w : List ℕ) → i ≡ n → w ≡ sets m to (flatten (tabulate i tapeBut)) → w ≡ sets m to (tapesBut c n p j seeds)
+  pub tapes-end : (i to : ℕ) (m w : List ℕ) → i ≡ n → w ≡ sets m to (flatten (tabulate i (tapeBut c n p j seeds))) → w ≡ sets m to (tapesBut c n p j seeds)
   unfolding tapesBut
-  tapes-end i to m w e h = h ∙ ap (λ (k : ℕ). sets m to (flatten (tabulate k tapeBut))) e
+  tapes-end i to m w e h = h ∙ ap (λ (k : ℕ). sets m to (flatten (tabulate k (tapeBut c n p j seeds)))) e
 
--- seed i, which stands in the memory before the tapes
-pub seed-read : (c : Circuit) (n p : ℕ) (j : Context) (i a to : ℕ) (m w seed : List ℕ) → i < n → a + 32 * n ≤ length m → a + 32 * n ≤ to
-    → w ≡ sets m to (flatten (tabulate i (tapeBut c n p j (take (32 * n) (drop a m))))) → seed ≡ take 16 (drop (a + 32 * i) w)
-    → seed ≡ seedOf (take (32 * n) (drop a m)) i
-seed-read c n p j i a to m w seed h l q e d =
-    let seeds : List ℕ = take (32 * n) (drop a m) in
-    let x : a + 32 * i ≡ a + i * 32 = omega arith in
+-- seed i in the memory
+pub seed-here : (n i a k : ℕ) (m : List ℕ) → i < n → a + 32 * n ≤ length m → k ≡ a + 32 * i → take 16 (drop k m) ≡ seedOf (take (32 * n) (drop a m)) i
+seed-here n i a k m h l e =
+    let x : k ≡ a + i * 32 = omega arith in
     let y : n * 32 ≡ 32 * n = omega arith in
-    d ∙ ap (λ (k : ℕ). take 16 (drop k w)) x ∙ sym (take-take 16 32 (drop (a + i * 32) w) (omega arith))
-    ∙ ap (take 16)
-    (row-ahead 32 n i a to m (flatten (tabulate i (tapeBut c n p j seeds))) w h (omega arith) (omega arith) e
-    ∙ ap (λ (k : ℕ). rowOf (take k (drop a m)) 32 i) y)
+    ap (λ (t : ℕ). take 16 (drop t m)) x ∙ sym (take-take 16 32 (drop (a + i * 32) m) (omega arith))
+    ∙ ap (take 16) (sym (row-part 32 n i a m h (omega arith)) ∙ ap (λ (t : ℕ). rowOf (take t (drop a m)) 32 i) y)
 
 -- the bits that party k uses, by I and A
 pub used-is : (s : List ℕ) (i o g a : ℕ) → Known s (sized i o g a) → (n k used : ℕ) → used ≡ cond (eqb (suc k) n) (i + a) (i + 2 * a)

@@ -4,31 +4,24 @@ use mathlib.Core.Path.{_≡_, refl, sym, ap, ap₂, _∙_}
 use mathlib.Core.Bool.{Bool, true, false, cond}
 use mathlib.Core.List.{List, [], _∷_, _++_, flatten, append-nil, append-assoc}
 use Prim.Native.Nat.{ℕ, zero, suc, _+_, _-_, _*_, _≤_, _<_}
-use native.Mathlib.Numerals.{add-one}
 use native.Mathlib.Omega.{arith}
 use borrow.Author.Tests.{eq-eqb, ne-eqb}
-use borrow.Rule.Slice.PartMut.{midOf, postOf, putMid, post-is, mid-len}
 use lib.Dec.{eqb}
 use lib.ListN.{length, take, drop, set, length-append, length-drop}
-use lib.Seq.{sets, sets-eq, length-sets, take-take, drop-drop, take-at, drop-at, take-set-le, drop-set-lt, length-take-le}
+use lib.Seq.{sets, sets-eq, length-sets, take-take, drop-drop, take-at, drop-at, take-set-le, length-take-le}
 use Rattle.bits.specs.Bits.{tabulate}
 use Rattle.bits.specs.Bytes.{rowOf}
 use Rattle.bits.proofs.Rows.{row-inside, row-fits, flatten-more, length-flatten}
 use Rattle.bits.proofs.Tabulate.{length-tabulate, getD-tabulate, tabulate-cong}
 
 -- bytes after others
-sets-more : (m : List ℕ) (i : ℕ) (u v : List ℕ) → sets m i (u ++ v) ≡ sets (sets m i u) (i + length u) v
+pub sets-more : (m : List ℕ) (i : ℕ) (u v : List ℕ) → sets m i (u ++ v) ≡ sets (sets m i u) (i + length u) v
 sets-more m i [] v = let e : i ≡ i + 0 = omega arith in ap (λ (k : ℕ). sets m k v) e
 sets-more m i (x ∷ u) v =
     let e : suc i + length u ≡ i + suc (length u) = omega arith in
     sets-more (set m i x) (suc i) u v ∙ ap (λ (k : ℕ). sets (sets (set m i x) (suc i) u) k v) e
 
--- what stands after them is as it was
-pub sets-after : (m : List ℕ) (i : ℕ) (v : List ℕ) (k : ℕ) → i + length v ≤ k → drop k (sets m i v) ≡ drop k m
-sets-after m i [] k h = refl
-sets-after m i (x ∷ v) k h = sets-after (set m i x) (suc i) v k (omega arith) ∙ drop-set-lt k m i x (omega arith)
-
--- and what stands before them
+-- what stands before them is as it was
 sets-ahead : (m : List ℕ) (i : ℕ) (v : List ℕ) (k : ℕ) → k ≤ i → take k (sets m i v) ≡ take k m
 sets-ahead m i [] k h = refl
 sets-ahead m i (x ∷ v) k h = sets-ahead (set m i x) (suc i) v k (omega arith) ∙ take-set-le k m i x h
@@ -39,24 +32,6 @@ sets-here m i k v e h =
     let post : List ℕ = drop (i + length v) m in
     ap (λ (t : List ℕ). take k (drop i t)) (sets-eq v m i (omega (arith, e)) ∙ append-assoc (take i m) v post)
     ∙ ap (take k) (drop-at (take i m) (v ++ post) i (length-take-le i m (omega arith))) ∙ take-at v post k e
-
--- a part that is filled
-put-sets : (a e : ℕ) (m z : List ℕ) → a ≤ e → e ≤ length m → length z ≡ e - a → putMid a (e - a) m z ≡ sets m a z
-put-sets a e m z h l q =
-    let k : e ≡ a + length z = omega (arith, q) in
-    sym (append-assoc (take a m) z (postOf a (e - a) m))
-    ∙ ap (λ (t : List ℕ). (take a m ++ z) ++ t) (post-is a e m h ∙ ap (λ (x : ℕ). drop x m) k) ∙ sym (sets-eq z m a (omega (arith, q)))
-
--- a part from a on is len bytes
-pub part-size : (a len : ℕ) (m : List ℕ) → a + len ≤ length m → length (midOf a (a + len - a) m) ≡ len
-part-size a len m h = mid-len a (a + len) m h ∙ omega arith
-
-pub read-size : (a len : ℕ) (m k : List ℕ) → a + len ≤ length m → k ≡ take len (drop a m) → length k ≡ len
-read-size a len m k h e = ap length e ∙ length-take-le len (drop a m) (omega (arith, length-drop a m))
-
--- and bytes put in its place are written there
-pub put-part : (a len : ℕ) (m z : List ℕ) → a + len ≤ length m → length z ≡ len → putMid a (a + len - a) m z ≡ sets m a z
-put-part a len m z h e = put-sets a (a + len) m z (omega arith) h (e ∙ omega arith)
 
 -- nothing is written yet
 pub none-written : (m : List ℕ) (to : ℕ) → m ≡ sets m to (flatten [])
@@ -76,25 +51,11 @@ part-ahead c k i m v h =
     sym (part-first c k i (sets m i v) h) ∙ ap (λ (t : List ℕ). take c (drop k t)) (sets-ahead m i v i (omega arith)) ∙ part-first c k i m h
 
 -- row i of n rows that stand in a memory
-row-part : (len n i a : ℕ) (m : List ℕ) → i < n → a + n * len ≤ length m → rowOf (take (n * len) (drop a m)) len i ≡ take len (drop (a + i * len) m)
+pub row-part : (len n i a : ℕ) (m : List ℕ) → i < n → a + n * len ≤ length m → rowOf (take (n * len) (drop a m)) len i ≡ take len (drop (a + i * len) m)
 row-part len n i a m h l =
     let k : length (take (n * len) (drop a m)) ≡ n * len = length-take-le (n * len) (drop a m) (omega (arith, length-drop a m)) in
     row-inside (take (n * len) (drop a m)) len i (omega (arith, row-fits n len i h, k))
     ∙ part-first len (i * len) (n * len) (drop a m) (row-fits n len i h) ∙ ap (take len) (drop-drop (i * len) a m)
-
--- the same while rows are written before them
-pub row-read : (len n i a to : ℕ) (m rows w : List ℕ) → i < n → a + n * len ≤ length m → to + length rows ≤ a → w ≡ sets m to rows
-    → take len (drop (a + i * len) w) ≡ rowOf (take (n * len) (drop a m)) len i
-row-read len n i a to m rows w h l q e =
-    ap (λ (t : List ℕ). take len (drop (a + i * len) t)) e ∙ ap (take len) (sets-after m to rows (a + i * len) (omega arith))
-    ∙ sym (row-part len n i a m h l)
-
--- and while rows are written after them
-pub row-ahead : (len n i a to : ℕ) (m rows w : List ℕ) → i < n → a + n * len ≤ length m → a + n * len ≤ to → w ≡ sets m to rows
-    → take len (drop (a + i * len) w) ≡ rowOf (take (n * len) (drop a m)) len i
-row-ahead len n i a to m rows w h l q e =
-    ap (λ (t : List ℕ). take len (drop (a + i * len) t)) e ∙ part-ahead len (a + i * len) to m rows (omega (arith, row-fits n len i h))
-    ∙ sym (row-part len n i a m h l)
 
 -- rows one after the other, in two parts
 pub flatten-add : (a b : ℕ) (f : ℕ → List ℕ) → flatten (tabulate (a + b) f) ≡ flatten (tabulate a f) ++ flatten (tabulate b (λ k. f (a + k)))
@@ -114,17 +75,6 @@ module _ (len : ℕ) (f : ℕ → List ℕ) (size : (i : ℕ) → length (f i) �
   rows-length n =
       length-flatten len (tabulate n f) (λ k h. ap length (getD-tabulate n f k [] (omega (arith, length-tabulate n f))) ∙ size k)
       ∙ ap (λ (k : ℕ). k * len) (length-tabulate n f)
-
-  -- one row more is written
-  pub row-written : (m : List ℕ) (to i a e : ℕ) (w z : List ℕ) → a ≡ to + i * len → e ≡ a + len → e ≤ length m → w ≡ sets m to (flatten (tabulate i f))
-      → length z ≡ len → z ≡ f i → putMid a (e - a) w z ≡ sets m to (flatten (tabulate (i + 1) f))
-  row-written m to i a e w z ea ee h ew lz ez =
-      let rows : List ℕ = flatten (tabulate i f) in
-      let k : a ≡ to + length rows = omega (arith, ea, rows-length i) in
-      put-sets a e w z (omega (arith, ee)) (omega (arith, ap length ew, length-sets m to rows)) (omega (arith, lz, ee))
-      ∙ ap₂ (λ (x y : List ℕ). sets x a y) ew ez
-      ∙ ap (λ (x : ℕ). sets (sets m to rows) x (f i)) k
-      ∙ sym (sets-more m to rows (f i)) ∙ ap (sets m to) (flatten-more i f ∙ ap (λ (x : ℕ). flatten (tabulate x f)) (sym (add-one i)))
 
   -- one of n rows is another
   pub row-changed : (n p : ℕ) (r : List ℕ) → p < n

@@ -8,6 +8,7 @@ use lib.Dec.{eqb, ltb}
 use lib.ListN.{length, take, drop, replicate}
 use Rattle.hashing.specs.declared.Context.{Context}
 use Rattle.bits.specs.Bits.{tabulate, oct, pack}
+use Rattle.bits.specs.Bytes.{rowOf}
 use Rattle.parties.specs.Parties.{heightOf, isPartyCount}
 use Rattle.circuit.specs.Circuit.{Circuit}
 use Rattle.circuit.specs.declared.Sizes.{Sizes}
@@ -50,10 +51,17 @@ pub record Seeded (z : Sizes) (n : ℕ) (m : List ℕ) : Type 0 where
 pub record FirstTaken (n : ℕ) (j : Context) (seeds : List ℕ) (s : Sponge) : Type 0 where
   pub first : s ≡ taken (commitmentsInput (j .number) (flatten (tabulate (n - 1) (λ i. commitmentOf j n i seeds []))))
 
--- the tape rows of all parties but p, whose row is zero, from their seeds
+-- party i's seed and r, where party p's row is zero, from the leaves
+abbrev pub seedBut : ℕ → Context → List ℕ → ℕ → List ℕ
+seedBut p j leaves i = cond (eqb i p) (replicate 32 0) (derive.seedRow j i (rowOf leaves 16 i))
+
+-- party i's tape row, where party p's row is zero, from the seeds
+abbrev pub tapeBut : Circuit → ℕ → ℕ → Context → List ℕ → ℕ → List ℕ
+tapeBut c n p j seeds i = cond (eqb i p) (replicate (rowBytes c) 0) (derive.tapeRow j i (seedOf seeds i) (usedBits c n i) (rowBytes c))
+
+-- the tape rows of all parties but p, from their seeds
 unfoldable pub tapesBut : Circuit → ℕ → ℕ → Context → List ℕ → List ℕ
-tapesBut c n p j seeds =
-    flatten (tabulate n (λ i. cond (eqb i p) (replicate (rowBytes c) 0) (derive.tapeRow j i (seedOf seeds i) (usedBits c n i) (rowBytes c))))
+tapesBut c n p j seeds = flatten (tabulate n (tapeBut c n p j seeds))
 
 -- the bytes of a chosen instance's stretch that need no run, with party p hidden: siblings, corrections, com_p
 abbrev pub heldBytes : Sizes → ℕ → ℕ → ℕ → ℕ

@@ -1,9 +1,12 @@
 // Seeds and tapes of the parties of an instance, in the work memory.
 ghost use mathlib.Core.Path.{_≡_};
-ghost use Prim.Native.Nat.{_+_, _*_, _≤_, _<_};
+ghost use mathlib.Core.Bool.{cond, _&&_, _||_};
+ghost use mathlib.Core.List.{flatten};
+ghost use Prim.Native.Nat.{suc, _+_, _*_, _≤_, _<_};
+ghost use lib.Dec.{eqb, leb, ltb};
 ghost use lib.ListN.{length, take, drop};
 ghost use lib.Seq.{sets};
-ghost use Rattle.bits.specs.Bits.{oct};
+ghost use Rattle.bits.specs.Bits.{oct, tabulate};
 ghost use Rattle.bits.specs.Bytes.{rowOf};
 ghost use Rattle.circuit.specs.File.{circuitOf};
 ghost use Rattle.mpc.specs.Steps.{Known};
@@ -12,14 +15,16 @@ ghost use Rattle.planes.specs.Steps.{Room};
 ghost use Rattle.walk.specs.Steps.{layoutOf};
 ghost use Rattle.packed.specs.Steps.{tapesHeld};
 ghost use Rattle.instance.specs.Instance.{seedsBut, masterSeeds, masterTapes};
-ghost use Rattle.instance.specs.Steps.{Lent, Seeded, seedsHeld, tapesBut};
+ghost use Rattle.instance.specs.Steps.{Lent, Seeded, seedsHeld, seedBut, tapeBut, tapesBut};
 use crate::Instance;
 use bits::clear;
 use bits::copy;
 use circuit::Sizes;
+use deriving::four_seeds_at;
+use deriving::four_tapes_at;
+use deriving::seed_at;
+use deriving::tape_at;
 use mpc::tests::used_bits;
-use party::seed_row;
-use party::tape;
 use planes::places::leaves_at;
 use planes::places::rows_at;
 use planes::places::seeds_at;
@@ -27,17 +32,6 @@ use planes::places::seeds_end;
 use tree::leaves_below;
 use tree::opened_below;
 use walk::layout;
-
-// 16 bytes of the memory, from `at` on.
-fn key(memory: &[u8], at: usize) -> [u8; 16]
-    requires { ⌜ at + 16 ≤ length (now memory) ⌝ }
-    ensures { λ r. ⌜ r ≡ take 16 (drop at (now (memory .entry))) ⌝ }
-{
-    let mut k = [0u8; 16];
-    let end = at + 16;
-    copy(&memory[at..end], &mut k);
-    k
-}
 
 // Party i's seed and r, from the memory.
 pub(crate) fn seed_of(z: Sizes, n: u32, i: u32, memory: &[u8]) -> [u8; 32]
@@ -52,26 +46,98 @@ pub(crate) fn seed_of(z: Sizes, n: u32, i: u32, memory: &[u8]) -> [u8; 32]
     out
 }
 
+// Whether parties i to i + 3 are there, and p is none of them.
+fn four_without(i: u32, n: u32, p: u32) -> bool
+    requires { ⌜ i ≤ 64 ⌝ }
+    ensures { λ r. ⌜ r ≡ (leb (i + 4) n && (ltb p i || ltb (i + 3) p)) ⌝ }
+{
+    i + 4 <= n && (p < i || i + 3 < p)
+}
+
+// The next seeds with their r, from party i on, as rows from byte `to` of the memory on: those of four parties at once where p (n for none)
+// is not among them, else one; the row of party p is zero. Answers their number.
+fn next_seeds(inst: Instance, p: u32, i: u32, leaves: usize, to: usize, memory: &mut [u8]) -> u32
+    requires { ⌜ (inst .parties ≤ 64) × ((i < inst .parties) × ((to + 32 * inst .parties ≤ leaves) × (leaves + 16 * inst .parties ≤ length (now memory)))) ⌝ }
+    ensures { λ r. ⌜ (0 < r) × ((i + r ≤ inst .parties) × (now (memory .exit) ≡ sets (now (memory .entry)) (to + i * 32) (flatten (tabulate r (λ k. seedBut p (inst .context) (take (16 * inst .parties) (drop leaves (now (memory .entry)))) (i + k)))))) ⌝ }
+{
+    let j = inst.context;
+    let n = inst.parties;
+    let k = i as usize;
+    let leaf = leaves + 16 * k;
+    let a = to + 32 * k;
+    if i == p {
+        let end = a + 32;
+        clear(&mut memory[a..end]);
+        return 1;
+    }
+    if four_without(i, n, p) {
+        four_seeds_at(j, i, leaf, a, memory);
+        return 4;
+    }
+    seed_at(j, i, leaf, a, memory);
+    1
+}
+
 // The seed and r of each party but p (n for none), from the leaves, as rows from byte `to` of the memory on.
 fn seed_rows(inst: Instance, p: u32, leaves: usize, to: usize, memory: &mut [u8])
     requires { ⌜ (inst .parties ≤ 64) × ((to + 32 * inst .parties ≤ leaves) × (leaves + 16 * inst .parties ≤ length (now memory))) ⌝ }
     ensures { λ _. ⌜ now (memory .exit) ≡ sets (now (memory .entry)) to (seedsBut (inst .parties) p (inst .context) (take (16 * inst .parties) (drop leaves (now (memory .entry))))) ⌝ }
 {
-    let j = inst.context;
     let n = inst.parties;
     let mut i = 0;
     while i < n {
-        let k = i as usize;
-        let a = to + 32 * k;
-        let end = a + 32;
-        if i == p {
-            clear(&mut memory[a..end]);
-        } else {
-            let leaf = key(memory, leaves + 16 * k);
-            seed_row(j, i, &leaf, &mut memory[a..end]);
-        }
-        i += 1;
+        i += next_seeds(inst, p, i, leaves, to, memory);
     }
+}
+
+// The bits that parties i to i + 3 of n use of their rows.
+fn four_used(inputs: usize, ands: usize, n: usize, i: usize) -> [usize; 4]
+    requires { ⌜ (inputs ≤ 4194304) × ((ands ≤ 4194304) × (i + 3 ≤ 4194304)) ⌝ }
+    ensures { λ r. ⌜ r ≡ tabulate 4 (λ k. cond (eqb (suc (i + k)) n) (inputs + ands) (inputs + 2 * ands)) ⌝ }
+{
+    [
+        used_bits(inputs, ands, n, i),
+        used_bits(inputs, ands, n, i + 1),
+        used_bits(inputs, ands, n, i + 2),
+        used_bits(inputs, ands, n, i + 3),
+    ]
+}
+
+// The next tapes, from party i on, as rows from byte `to` of the memory on, like the seeds.
+fn next_tapes(
+    s: &[u8],
+    z: Sizes,
+    inst: Instance,
+    p: u32,
+    i: u32,
+    seeds: usize,
+    to: usize,
+    memory: &mut [u8],
+) -> u32
+    requires { ⌜ Known (now s) z × ((inst .parties ≤ 64) × ((i < inst .parties) × ((seeds + 32 * inst .parties ≤ to) × (to + inst .parties * oct (z .inputs + 2 * z .ands) ≤ length (now memory))))) ⌝ }
+    ensures { λ r. ⌜ (0 < r) × ((i + r ≤ inst .parties) × (now (memory .exit) ≡ sets (now (memory .entry)) (to + i * oct (z .inputs + 2 * z .ands)) (flatten (tabulate r (λ k. tapeBut (circuitOf (now (s .entry))) (inst .parties) p (inst .context) (take (32 * inst .parties) (drop seeds (now (memory .entry)))) (i + k)))))) ⌝ }
+{
+    let j = inst.context;
+    let n = inst.parties;
+    let inputs = z.inputs;
+    let ands = z.ands;
+    let len = bits::oct(inputs + 2 * ands);
+    let k = i as usize;
+    let seed = seeds + 32 * k;
+    let a = to + k * len;
+    if i == p {
+        let end = a + len;
+        clear(&mut memory[a..end]);
+        return 1;
+    }
+    if four_without(i, n, p) {
+        let used = four_used(inputs, ands, n as usize, k);
+        four_tapes_at(j, i, seed, used, a, len, memory);
+        return 4;
+    }
+    let used = used_bits(inputs, ands, n as usize, k);
+    tape_at(j, i, seed, used, a, len, memory);
+    1
 }
 
 // The tape row of each party but p (n for none), from its seed, as rows from byte `to` of the memory on.
@@ -79,24 +145,10 @@ fn tape_rows(s: &[u8], z: Sizes, inst: Instance, p: u32, seeds: usize, to: usize
     requires { ⌜ Known (now s) z × ((inst .parties ≤ 64) × ((seeds + 32 * inst .parties ≤ to) × (to + inst .parties * oct (z .inputs + 2 * z .ands) ≤ length (now memory)))) ⌝ }
     ensures { λ _. ⌜ now (memory .exit) ≡ sets (now (memory .entry)) to (tapesBut (circuitOf (now (s .entry))) (inst .parties) p (inst .context) (take (32 * inst .parties) (drop seeds (now (memory .entry))))) ⌝ }
 {
-    let j = inst.context;
     let n = inst.parties;
-    let inputs = z.inputs;
-    let ands = z.ands;
-    let len = bits::oct(inputs + 2 * ands);
     let mut i = 0;
     while i < n {
-        let k = i as usize;
-        let a = to + k * len;
-        let end = a + len;
-        if i == p {
-            clear(&mut memory[a..end]);
-        } else {
-            let seed = key(memory, seeds + 32 * k);
-            let used = used_bits(inputs, ands, n as usize, k);
-            tape(j, i, &seed, used, &mut memory[a..end]);
-        }
-        i += 1;
+        i += next_tapes(s, z, inst, p, i, seeds, to, memory);
     }
 }
 

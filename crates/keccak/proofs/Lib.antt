@@ -1,4 +1,5 @@
 pub mod Absorbing
+pub mod Blocks
 pub mod ByteForm
 pub mod Bytes
 pub mod Lengths

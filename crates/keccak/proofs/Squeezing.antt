@@ -16,7 +16,8 @@ use Rattle.permutation.specs.Permutation.{laneBytes, keccakF}
 use Rattle.keccak.specs.Sponge.{absorbBlocks, squeezeBlocks, padding, sponge, sha3-256, shake128, shake256}
 use Rattle.keccak.specs.Steps.{permuted, byteAt, empty, absorbs, padded, squeezeByte, squeezes}
 use Rattle.keccak.proofs.Absorbing.{State, Bytes, byte-is, permuted-state, absorbed, padded-length}
-use Rattle.keccak.proofs.Steps.{turned-full, turned-part}
+use Rattle.keccak.proofs.Steps.{turned-part}
+use Rattle.keccak.proofs.Blocks.{next-bytes}
 use Rattle.permutation.proofs.Strings.{length-laneBytes, keccakF-lanes}
 
 module _ (r : ℕ) (some : 0 < r) (below : r < 200) where
@@ -44,13 +45,6 @@ module _ (r : ℕ) (some : 0 < r) (below : r < 200) where
       ∙ ap₂ (λ (x : ℕ) (X : List ℕ). x ∷ X) (sym b) (ih ∙ rw add-one)
       ∙ ap (λ (X : List ℕ). take (suc d) (X ++ squeezeBlocks r n (keccakF S))) (sym (drop-cons (take r S) j 0 (omega arith)))
 
-  -- a full block is turned first
-  squeeze-turn : (d : ℕ) (l : List ℕ) → squeezes r (suc d) (record { lanes = l; fill = r }) ≡ squeezes r (suc d) (record { lanes = permuted l; fill = 0 })
-  unfolding squeezes squeezeByte
-  squeeze-turn d l =
-      ap (λ (t : Sponge). byteAt (t .lanes) (t .fill) ∷ squeezes r d (record { lanes = t .lanes; fill = t .fill + 1 }))
-      (turned-full r (record { lanes = l; fill = r }) refl ∙ sym (turned-part r (record { lanes = permuted l; fill = 0 }) some))
-
   -- the blocks that follow a finished one
   rest-turn : (S : List ℕ) (n : ℕ) → length S ≡ 200 → rest S r (suc n) ≡ rest (keccakF S) 0 n
   unfolding rest squeezeBlocks
@@ -72,7 +66,7 @@ module _ (r : ℕ) (some : 0 < r) (below : r < 200) where
       let p = permuted-state l in
       let b : laneBytes (permuted l) ≡ keccakF (laneBytes l) = keccakF-lanes l (st .long) in
       rw q
-      (squeeze-turn d l
+      (next-bytes r some (suc d) l
       ∙ squeeze-within d (permuted l) 0 n p some
       (squeeze-bytes d (permuted l) (0 + 1) n p (omega arith) (omega (arith, suc-mul n r)))
       ∙ ap (λ (S : List ℕ). take (suc d) (rest S 0 n)) b

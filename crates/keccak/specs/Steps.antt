@@ -2,7 +2,7 @@
 -- Assumes nothing.
 use mathlib.Core.Path.{_≡_}
 use mathlib.Core.List.{List, [], _∷_}
-use Prim.Native.Nat.{ℕ, zero, suc, _+_}
+use Prim.Native.Nat.{ℕ, zero, suc, _+_, _-_}
 use lib.ListN.{length}
 use Rattle.bits.specs.Bytes.{leAt}
 use Rattle.keccak.specs.declared.sponge.Sponge.{Sponge}
@@ -14,6 +14,10 @@ unfoldable pub use Rattle.keccak.specs.Streaming.{permuted, byteAt, xorB
 unfoldable pub xorBytes : List ℕ → ℕ → List ℕ → List ℕ
 xorBytes l k [] = l
 xorBytes l k (b ∷ M) = xorBytes (xorByte l k b) (k + 1) M
+
+-- the padding is taken in: the block is full, and not yet permuted
+unfoldable pub closed : ℕ → ℕ → Sponge → Sponge
+closed rate first s = record { lanes = xorByte (xorByte (s .lanes) (s .fill) first) (rate - 1) 0x80; fill = rate }
 
 -- the byte at the fill, beside the sponge after it
 abbrev pub givenByte : Sponge → Squeezed

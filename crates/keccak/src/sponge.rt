@@ -3,7 +3,7 @@
 ghost use mathlib.Core.Path.{_≡_};
 ghost use Prim.Native.Nat.{_+_, _≤_, _<_, _%_, min};
 ghost use lib.ListN.{length};
-ghost use Rattle.keccak.specs.Steps.{empty, turned, absorbByte, absorbs, padded, givenByte, squeezeByte, squeezeNumber, Given};
+ghost use Rattle.keccak.specs.Steps.{empty, turned, absorbByte, absorbs, closed, padded, givenByte, squeezeByte, squeezeNumber, Given};
 use crate::state::byte_at;
 use crate::state::lane_at;
 use crate::state::xor_byte;
@@ -127,17 +127,24 @@ impl Sponge {
         s.absorb_bytes(rate, &data[end..])
     }
 
-    // Pads the message and permutes: the sponge is ready to give out bytes.
-    pub fn pad(mut self, rate: usize, first: u8) -> Sponge
+    // Closes the message by its padding: the block is full, and not yet permuted.
+    pub fn close(mut self, rate: usize, first: u8) -> Sponge
         requires { ⌜ (0 < rate) × ((rate < 200) × (self .fill < rate)) ⌝ }
-        ensures { λ r. ⌜ r ≡ padded rate first self ⌝ }
+        ensures { λ r. ⌜ r ≡ closed rate first self ⌝ }
     {
         let at = self.fill;
         xor_byte(&mut self.lanes, at, first);
         xor_byte(&mut self.lanes, rate - 1, 0x80);
-        permute(&mut self.lanes);
-        self.fill = 0;
+        self.fill = rate;
         self
+    }
+
+    // Pads the message and permutes: the sponge is ready to give out bytes.
+    pub fn pad(self, rate: usize, first: u8) -> Sponge
+        requires { ⌜ (0 < rate) × ((rate < 200) × (self .fill < rate)) ⌝ }
+        ensures { λ r. ⌜ r ≡ padded rate first self ⌝ }
+    {
+        self.close(rate, first).turn(rate)
     }
 
     // The byte at the fill, and the sponge after it.

@@ -1,2 +1,4 @@
 pub mod Commitments
 pub mod Clearing
+pub mod Derived
+pub mod Cleared

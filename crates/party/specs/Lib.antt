@@ -1,1 +1,2 @@
 pub mod Derive
+pub mod Steps

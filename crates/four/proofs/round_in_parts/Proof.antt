@@ -1,7 +1,7 @@
 -- `four::round_in_parts` meets its contract: the planes of the three parts, and the constant.
 -- Assumes nothing.
 use borrow.Author.Needs.{needs}
-use Rattle.four.proofs.States.{joined}
+use Rattle.four.proofs.States.{parts-joined}
 use Rattle.four.proofs.round_in_parts.Statement.{statement}
 use Rattle.four.proofs.round_in_parts.Tie as tie
 
@@ -96,7 +96,7 @@ array-write-s : tie.Need-array-write-s
 array-write-s c = search needs
 
 returns : tie.Need-returns
-returns c = joined _ _ _ _ _ (c .before .before .plane-3 .ensures) (c .before .planes-2-0 .ensures) (c .planes-1-4 .ensures)
+returns c = parts-joined _ _ _ _ _ (c .before .before .plane-3 .ensures) (c .before .planes-2-0 .ensures) (c .planes-1-4 .ensures)
 
 pub round-in-parts-spec : {M : Type 1} → statement M
 round-in-parts-spec =

@@ -1,48 +1,36 @@
--- `party::seed_row` meets its contract: the head is j and i, after the tag and the salt.
+-- `party::seed_row` meets its contract.
 -- Assumes nothing.
-use Rattle.bits.specs.Bytes.{leBytes}
-use Rattle.keccak.specs.Sponge.{shake128}
-use Rattle.hashing.specs.Inputs.{leafInput}
-use Rattle.party.specs.Derive.{seedRow}
-use mathlib.Core.Path.{ap, _∙_}
+use native.Mathlib.Omega.{arith}
+use mathlib.Core.Path.{ap, ap₂, _∙_}
 use borrow.Author.Needs.{needs}
+use lib.ListN.{getD}
+use mir.Syntax.{w8}
+use mir.Val.{Fits}
+use Rattle.hashing.specs.Inputs.{leafInput}
+use Rattle.keccak.specs.Steps.{closed, squeezes}
+use Rattle.party.specs.Derive.{seedRow}
+use Rattle.party.proofs.Derived.{row-bytes}
 use Rattle.party.proofs.seed_row.Statement.{statement}
 use Rattle.party.proofs.seed_row.Tie as tie
 
-cast-t9 : tie.Need-cast-t9
-cast-t9 c = search needs
+close-row-requires : tie.Need-close-row-requires
+close-row-requires c κs = search needs
 
-cast-t12 : tie.Need-cast-t12
-cast-t12 c = search needs
-
-cast-t14 : tie.Need-cast-t14
-cast-t14 c = search needs
-
-slice-aggregate-shake128 : tie.Need-slice-aggregate-shake128
-slice-aggregate-shake128 c = search needs
-
-slice-aggregate-shake128-2 : tie.Need-slice-aggregate-shake128-2
-slice-aggregate-shake128-2 c = search needs
-
-shake128-requires : tie.Need-shake128-requires
-shake128-requires c κs = search needs
+squeeze-requires : tie.Need-squeeze-requires
+unfolding closed
+squeeze-requires c κs = rw (c .before .close-row .ensures) (omega arith)
 
 same-length : tie.Need-same-length
 same-length c = search needs
 
 returns : tie.Need-returns
-unfolding seedRow leafInput leBytes
-returns c = c .before .before .shake128 .ensures ∙ ap (shake128 _) (c .before .before .before .before .before .before .before .before .before .pre)
+unfolding seedRow leafInput
+returns c =
+    let o = c .before .before .before .before .before .before .before in
+    let x = o .args in
+    c .before .before .squeeze .ensures .bytes ∙ ap₂ (squeezes 168) (o .pre) (c .before .before .before .before .close-row .ensures)
+    ∙ row-bytes 3 (x .j) (x .i) (x .leaf .now) 32 (omega arith) (λ k. let h : Fits w8 (getD (x .j .salt) k 0) = search needs in h .fits)
+    (λ k. c .before .before .before .before .before .before .shared-slice-known .given k .fits)
 
 pub seed-row-spec : {M : Type 1} → statement M
-seed-row-spec =
-    tie.close
-    (tie.spec
-    cast-t9
-    cast-t12
-    cast-t14
-    slice-aggregate-shake128
-    slice-aggregate-shake128-2
-    shake128-requires
-    same-length
-    returns)
+seed-row-spec = tie.close (tie.spec close-row-requires squeeze-requires same-length returns)

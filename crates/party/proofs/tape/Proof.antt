@@ -1,30 +1,24 @@
 -- `party::tape` meets its contract: the stream, then the unused bits cleared.
 -- Assumes nothing.
-use Rattle.bits.specs.Bytes.{leBytes}
-use Rattle.hashing.specs.Inputs.{tapeInput}
-use Rattle.party.specs.Derive.{tapeRow, clearFrom}
+use native.Mathlib.Omega.{arith}
 use mathlib.Core.Path.{ap, _∙_}
 use borrow.Author.Needs.{needs}
+use lib.ListN.{length, getD}
+use mir.Syntax.{w8}
+use mir.Val.{Fits}
+use Rattle.hashing.specs.Inputs.{tapeInput}
+use Rattle.keccak.specs.Steps.{closed, squeezes}
+use Rattle.party.specs.Derive.{tapeRow, clearFrom}
+use Rattle.party.proofs.Derived.{row-bytes}
 use Rattle.party.proofs.tape.Statement.{statement}
 use Rattle.party.proofs.tape.Tie as tie
 
-cast-t10 : tie.Need-cast-t10
-cast-t10 c = search needs
+close-row-requires : tie.Need-close-row-requires
+close-row-requires c κs = search needs
 
-cast-t13 : tie.Need-cast-t13
-cast-t13 c = search needs
-
-cast-t15 : tie.Need-cast-t15
-cast-t15 c = search needs
-
-slice-aggregate-shake128 : tie.Need-slice-aggregate-shake128
-slice-aggregate-shake128 c = search needs
-
-slice-aggregate-shake128-2 : tie.Need-slice-aggregate-shake128-2
-slice-aggregate-shake128-2 c = search needs
-
-shake128-requires : tie.Need-shake128-requires
-shake128-requires c κs = search needs
+squeeze-requires : tie.Need-squeeze-requires
+unfolding closed
+squeeze-requires c κs = rw (c .before .close-row .ensures) (omega arith)
 
 clear-from-requires : tie.Need-clear-from-requires
 clear-from-requires c κs = search needs
@@ -33,19 +27,17 @@ same-length : tie.Need-same-length
 same-length c = search needs
 
 returns : tie.Need-returns
-unfolding tapeRow tapeInput leBytes
-returns c = c .before .before .clear-from .ensures ∙ ap (clearFrom (c .before .before .before .before .before .before .before .before .before .before .before .before .before .args .k)) (c .before .before .before .before .before .before .shake128 .ensures)
+unfolding tapeRow tapeInput
+returns c =
+    let o = c .before .before .before .before .before .before .before .before .before .before .before in
+    let x = o .args in
+    c .before .before .clear-from .ensures
+    ∙ ap (clearFrom (x .k))
+    (c .before .before .before .before .before .before .squeeze .ensures .bytes ∙ ap (squeezes 168 (length (x .row .now))) (c .before .before .before .before .before .before .before .before .close-row .ensures)
+    ∙ row-bytes 4 (x .j) (x .i) (x .seed .now) (length (x .row .now)) (omega arith) (λ k. let h : Fits w8 (getD (x .j .salt) k 0) = search needs in h .fits)
+    (λ k. c .before .before .before .before .before .before .before .before .before .before .shared-slice-known .given k .fits))
 
 pub tape-spec : {M : Type 1} → statement M
 tape-spec =
     tie.close
-    (tie.spec
-    cast-t10
-    cast-t13
-    cast-t15
-    slice-aggregate-shake128
-    slice-aggregate-shake128-2
-    shake128-requires
-    clear-from-requires
-    same-length
-    returns)
+    (tie.spec close-row-requires squeeze-requires clear-from-requires same-length returns)

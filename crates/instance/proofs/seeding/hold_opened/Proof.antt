@@ -8,7 +8,7 @@ use Prim.Native.Nat.{ℕ, _+_, _-_, _*_}
 use Rattle.circuit.specs.File.{circuitOf}
 use Rattle.instance.specs.Instance.{seedsBut}
 use Rattle.instance.specs.Steps.{tapesBut}
-use Rattle.instance.proofs.Written.{part-size, put-part}
+use Rattle.four_sponges.proofs.Rows.{part-size, put-part}
 use Rattle.instance.proofs.Seeded.{tree-few, tree-leaves, tree-small, places-room, leaves-fit, seeds-fit, tapes-fit, seeds-are, tapes-are}
 use Rattle.instance.proofs.seeding.hold_opened.Statement.{statement}
 use Rattle.instance.proofs.seeding.hold_opened.Tie as tie

@@ -6,7 +6,7 @@ use native.Mathlib.Omega.{arith}
 use mathlib.Core.Path.{sym, ap, _∙_}
 use Prim.Native.Nat.{ℕ, _+_, _-_, _*_}
 use Rattle.circuit.specs.File.{circuitOf}
-use Rattle.instance.proofs.Written.{part-size, put-part}
+use Rattle.four_sponges.proofs.Rows.{part-size, put-part}
 use Rattle.instance.proofs.Seeded.{tree-few, tree-leaves, tree-small, places-room, leaves-fit, seeds-fit, tapes-fit, seeds-are, tapes-are, master-seeds, master-tapes}
 use Rattle.instance.proofs.seeding.hold_parties.Statement.{statement}
 use Rattle.instance.proofs.seeding.hold_parties.Tie as tie

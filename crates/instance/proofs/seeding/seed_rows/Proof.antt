@@ -1,120 +1,67 @@
 -- `instance::seeding::seed_rows` meets its contract. The loop's invariant: the first i rows are written.
 -- Assumes nothing.
-use mathlib.Core.Path.{_≡_, refl, sym, ap, _∙_}
-use mathlib.Core.List.{flatten}
-use mathlib.Core.Logic.{⊎-elim}
+use borrow.Author.Needs.{needs}
 use native.Mathlib.Omega.{arith}
-use Prim.Native.Nat.{_+_, _-_, _*_, _≤_}
+use mathlib.Core.Path.{_≡_, refl, sym, ap, ap₂, _∙_}
+use mathlib.Core.List.{List, flatten}
+use Prim.Native.Nat.{ℕ, _+_, _-_, _*_, _≤_}
 use lib.ListN.{length, take, drop}
 use lib.Seq.{sets, length-sets}
 use Rattle.bits.specs.Bits.{tabulate}
-use Rattle.instance.proofs.Written.{part-size, read-size, none-written, row-written}
-use Rattle.instance.proofs.Seeded.{seedBut, seed-size, seed-zero, seed-derived, leaf-read, seeds-end}
+use Rattle.instance.specs.Steps.{seedBut}
+use Rattle.four_sponges.proofs.Rows.{sets-after}
+use Rattle.instance.proofs.Written.{none-written, rows-length}
+use Rattle.instance.proofs.Together.{rows-more}
+use Rattle.instance.proofs.Seeded.{seed-size, seeds-end}
 use Rattle.instance.proofs.seeding.seed_rows.Statement.{statement}
 use Rattle.instance.proofs.seeding.seed_rows.Tie as tie
 
 abbrev Inv-loop : tie.InvT-loop
-Inv-loop p leaves to memory₀ j n i₀ memory i =
-    (i ≤ n) × ((length memory ≡ length memory₀) × (memory ≡ sets memory₀ to (flatten (tabulate i (seedBut p j (take (16 * n) (drop leaves memory₀)))))))
+Inv-loop inst p leaves to memory₀ n i₀ memory i =
+    (i ≤ n) × ((length memory ≡ length memory₀) × (memory ≡ sets memory₀ to (flatten (tabulate i (seedBut p (inst .context) (take (16 * n) (drop leaves memory₀)))))))
 
 abbrev μ-loop : tie.MeasureT-loop
-μ-loop p leaves to memory₀ j n i₀ memory i = n - i
+μ-loop inst p leaves to memory₀ n i₀ memory i = n - i
 
 loop-holds : tie.Need-loop-holds Inv-loop μ-loop
-loop-holds c =
-    let x = c .before .before .args in
-    (omega arith, (refl, none-written (x .memory .now) (x .to)))
+loop-holds c = (omega arith, (refl, none-written _ _))
 
-cast-k : tie.Need-cast-k Inv-loop μ-loop
-cast-k c = omega arith
-
-mul-a : tie.Need-mul-a Inv-loop μ-loop
-mul-a c = omega arith
-
-add-a : tie.Need-add-a Inv-loop μ-loop
-add-a c = omega arith
-
-add-end : tie.Need-add-end Inv-loop μ-loop
-add-end c = omega arith
-
-sub-clear : tie.Need-sub-clear Inv-loop μ-loop
-sub-clear c = omega arith
-
-part-clear-start : tie.Need-part-clear-start Inv-loop μ-loop
-part-clear-start c = omega arith
-
-part-clear-end : tie.Need-part-clear-end Inv-loop μ-loop
-part-clear-end c = omega arith
-
-clear-requires : tie.Need-clear-requires Inv-loop μ-loop
-clear-requires c κs = tt
-
-mul-key : tie.Need-mul-key Inv-loop μ-loop
-mul-key c = omega arith
-
-add-key : tie.Need-add-key Inv-loop μ-loop
-add-key c = omega arith
-
-key-requires : tie.Need-key-requires Inv-loop μ-loop
-key-requires c κs = omega arith
-
-slice-aggregate-seed-row : tie.Need-slice-aggregate-seed-row Inv-loop μ-loop
-slice-aggregate-seed-row c =
-    let x = c .before .before .before .before .before .before .before .before .args in
-    let l = c .before .before .before .before .before .loop in
-    sym (read-size (x .leaves + 16 * l .i) 16 (l .memory) (c .before .key .result) (omega arith) (c .before .key .ensures))
-
-sub-seed-row : tie.Need-sub-seed-row Inv-loop μ-loop
-sub-seed-row c = omega arith
-
-part-seed-row-start : tie.Need-part-seed-row-start Inv-loop μ-loop
-part-seed-row-start c = omega arith
-
-part-seed-row-end : tie.Need-part-seed-row-end Inv-loop μ-loop
-part-seed-row-end c = omega arith
-
-seed-row-requires : tie.Need-seed-row-requires Inv-loop μ-loop
-seed-row-requires c κs =
-    let x = c .before .before .before .before .before .before .before .before .before .args in
-    let l = c .before .before .before .before .before .before .loop in
-    part-size (x .to + 32 * l .i) 32 (l .memory) (omega arith)
+next-seeds-requires : tie.Need-next-seeds-requires Inv-loop μ-loop
+next-seeds-requires c κs =
+    let p = c .before .before .before .before .pre in
+    (p .0, (c .before .loop-test .taken, (p .1 .0, omega (arith, p .1 .1, c .before .before .loop .inv .1 .0))))
 
 add-i : tie.Need-add-i Inv-loop μ-loop
-add-i c = omega arith
+add-i c = omega (arith, c .before .before .next-seeds .ensures .1 .0, c .before .before .before .before .before .before .before .pre .0)
 
 loop-less : tie.Need-loop-less Inv-loop μ-loop
-loop-less c = omega arith
+loop-less c = omega (arith, c .before .before .next-seeds .ensures .0, c .before .before .next-seeds .ensures .1 .0)
 
 loop-again : tie.Need-loop-again Inv-loop μ-loop
 loop-again c =
-    let x = c .before .before .before .before .before .args in
-    let l = c .before .before .loop in
+    let o = c .before .before .before .before .before .before .before in
+    let x = o .args in
+    let l = c .before .before .before .before .before .loop in
     let m = x .memory .now in
-    let leaves = take (16 * x .inst .parties) (drop (x .leaves) m) in
-    let f = seedBut (x .p) (x .inst .context) leaves in
-    let a = x .to + 32 * l .i in
-    let size = part-size a 32 (l .memory) (omega arith) in
-    let turn = row-written 32 f (seed-size (x .p) (x .inst .context) leaves) m (x .to) (l .i) a (a + 32) (l .memory) in
-    let q : c .if1 .memory ≡ sets m (x .to) (flatten (tabulate (l .i + 1) f)) = ⊎-elim
-    (λ w.
-    w .5
-    ∙ turn (w .2 .last .0) (omega arith) refl (omega arith) (l .inv .1 .1) (w .2 .kept .0 ∙ size)
-    (seed-zero (x .p) (x .inst .context) leaves (l .i) _ (w .2 .last .0) (w .0 .taken) size (w .2 .ensures)))
-    (λ w.
-    w .8
-    ∙ turn (w .5 .last .1 .1 .1 .0) (omega arith) refl (omega arith) (l .inv .1 .1) (w .5 .kept .1 .1 .1 .0 ∙ size)
-    (seed-derived (x .p) (x .inst .context) leaves (l .i) (w .2 .result) (w .5 .last .1 .1 .1 .0) (w .0 .left)
-    (leaf-read (x .inst .parties) (x .p) (x .inst .context) (l .i) (x .leaves) (x .to) m (l .memory) (w .2 .result) (c .before .loop-test .taken) (omega arith) (omega arith) (l .inv .1 .1) (w .2 .ensures))
-    (w .5 .ensures)))
-    (c .if1 .came) in
-    (omega arith, (ap length q ∙ length-sets m (x .to) (flatten (tabulate (l .i + 1) f)), q))
+    let n = x .inst .parties in
+    let L = take (16 * n) (drop (x .leaves) m) in
+    let f = seedBut (x .p) (x .inst .context) L in
+    let size = seed-size (x .p) (x .inst .context) L in
+    let g = c .before .before .next-seeds .ensures in
+    let rows = flatten (tabulate (l .i) f) in
+    let kept : take (16 * n) (drop (x .leaves) (l .memory)) ≡ L =
+    ap (λ (t : List ℕ). take (16 * n) (drop (x .leaves) t)) (l .inv .1 .1)
+    ∙ ap (take (16 * n)) (sets-after m (x .to) rows (x .leaves) (omega (arith, rows-length 32 f size (l .i), o .pre .1 .0, c .before .before .before .before .loop-test .taken))) in
+    let q = rows-more 32 f size m (x .to) (l .i) (c .before .before .next-seeds .result) (l .memory) (c .before .before .next-seeds .last .1 .1 .1 .1 .1 .0) (l .inv .1 .1)
+    (g .1 .1 ∙ ap (λ (t : List ℕ). sets (l .memory) (x .to + l .i * 32) (flatten (tabulate (c .before .before .next-seeds .result) (λ k. seedBut (x .p) (x .inst .context) t (l .i + k))))) kept) in
+    (g .1 .0, (ap length q ∙ length-sets m (x .to) (flatten (tabulate (l .i + c .before .before .next-seeds .result) f)), q))
 
 same-length : tie.Need-same-length Inv-loop μ-loop
 same-length c = c .before .loop .inv .1 .0
 
 returns : tie.Need-returns Inv-loop μ-loop
 returns c =
-    let x = c .before .before .before .before .args in
+    let x = c .before .before .before .args in
     let l = c .before .loop in
     seeds-end (x .p) (x .inst .context) (take (16 * x .inst .parties) (drop (x .leaves) (x .memory .now))) (x .inst .parties) (l .i) (x .to) (x .memory .now) (l .memory) (omega arith) (l .inv .1 .1)
 
@@ -125,22 +72,7 @@ seed-rows-spec =
     Inv-loop
     μ-loop
     loop-holds
-    cast-k
-    mul-a
-    add-a
-    add-end
-    sub-clear
-    part-clear-start
-    part-clear-end
-    clear-requires
-    mul-key
-    add-key
-    key-requires
-    slice-aggregate-seed-row
-    sub-seed-row
-    part-seed-row-start
-    part-seed-row-end
-    seed-row-requires
+    next-seeds-requires
     add-i
     loop-less
     loop-again

@@ -1,12 +1,12 @@
--- `instance::seeding::key` meets its contract.
+-- `deriving::key` meets its contract.
 -- Assumes nothing.
 use borrow.Author.Needs.{needs}
 use native.Mathlib.Omega.{arith}
 use mathlib.Core.Path.{_≡_, ap, _∙_}
 use Prim.Native.Nat.{ℕ, _+_, _-_}
 use lib.ListN.{take, drop}
-use Rattle.instance.proofs.seeding.key.Statement.{statement}
-use Rattle.instance.proofs.seeding.key.Tie as tie
+use Rattle.deriving.proofs.key.Statement.{statement}
+use Rattle.deriving.proofs.key.Tie as tie
 
 add-end : tie.Need-add-end
 add-end c = search needs
