@@ -36,7 +36,7 @@ pub fn build(text: &[u8]) -> Result<Built, Fault> {
 }
 
 /// The fields of all `row` parts: the wires of gates come behind them.
-fn row_of(parts: &[Part]) -> Result<Layout, Fault> {
+pub(crate) fn row_of(parts: &[Part]) -> Result<Layout, Fault> {
     let mut row = Layout::default();
     let fields = parts.iter().flat_map(|part| match part {
         Part::Row(fields) => fields.as_slice(),

@@ -22,6 +22,11 @@ pub struct Slot {
 }
 
 impl Slot {
+    /// As a `row` has it.
+    pub(crate) fn declaration(&self) -> String {
+        format!("{}: {}", self.name, self.width)
+    }
+
     /// The greatest number that it can hold.
     fn greatest(&self) -> u128 {
         u128::MAX >> (u128::BITS - self.width)
@@ -70,6 +75,12 @@ impl Layout {
 
     pub fn slots(&self) -> &[Slot] {
         &self.0
+    }
+
+    /// As a `row` has them: `on_hand: 16, order: 16`.
+    pub fn declaration(&self) -> String {
+        let fields: Vec<String> = self.0.iter().map(Slot::declaration).collect();
+        fields.join(", ")
     }
 
     /// How many bits all have together.

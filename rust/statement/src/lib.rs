@@ -22,9 +22,11 @@ mod layout;
 mod lexer;
 mod numbers;
 mod parser;
+mod row_file;
 mod tree;
 
 pub use build::{build, Built, MAX_WIDTH};
 pub use fault::{Fault, Place};
 pub use layout::{Given, Layout, Shape, Slot};
 pub use parser::MAX_DEPTH;
+pub use row_file::{bits_of_row_file, is_row_file, row_file, FieldDifference, RowFault};

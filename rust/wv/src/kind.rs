@@ -1,5 +1,6 @@
 //! What a file is, by its bytes, for whoever gave the wrong one.
 
+use statement::is_row_file;
 use wivulameno::circuit::{from_bristol_to_vec, sizes, upgrade_to_vec};
 use wivulameno::proof::Counts;
 use wivulameno::shelf::page_len;
@@ -15,6 +16,7 @@ pub enum Kind {
     OldCircuit,
     Page,
     Log,
+    Row,
     Proof,
     Bristol,
     Statement,
@@ -41,6 +43,9 @@ impl Kind {
         if is_log(bytes) {
             return Kind::Log;
         }
+        if is_row_file(bytes) {
+            return Kind::Row;
+        }
         if Counts::of_proof(bytes).is_some() {
             return Kind::Proof;
         }
@@ -58,6 +63,7 @@ impl Kind {
             Kind::OldCircuit => Some("a circuit of the old form"),
             Kind::Page => Some("a shelf page"),
             Kind::Log => Some("the log of a shelf"),
+            Kind::Row => Some("a packed row"),
             Kind::Proof => Some("a proof"),
             Kind::Bristol => Some("a Bristol Fashion text"),
             Kind::Statement => Some("a statement"),
@@ -139,13 +145,15 @@ mod tests {
         let circuit: &[u8] = include_bytes!("../../../examples/both.circuit");
         let statement: &[u8] = include_bytes!("../../../examples/both.statement");
         let values: &[u8] = include_bytes!("../../../examples/both.values");
-        let known: [(&[u8], Kind); 17] = [
+        let known: [(&[u8], Kind); 19] = [
             (b"", Kind::Empty),
             (circuit, Kind::Circuit),
             (&old_k, Kind::OldCircuit),
             (&proof, Kind::Proof),
             (b"wivulameno log 1 00", Kind::Log),
             (b"wivulameno log 2", Kind::Log),
+            (b"wivulameno row 1 a: 4\n\x0f", Kind::Row),
+            (b"wivulameno row 2", Kind::Row),
             (b"1 3\n2 1 1\n1 1\n\n2 1 0 1 2 AND\n", Kind::Bristol),
             (b"1 3\r\n2 1 1\r\n1 1\r\n2 1 0 1 2 NAND\r\n", Kind::Bristol),
             (statement, Kind::Statement),

@@ -4,7 +4,7 @@
 
 mod common;
 
-use common::{covers16, covers16_row, Folder};
+use common::{covers16, Folder};
 
 const STATEMENT: &[u8] = include_bytes!("../../../examples/covers16.statement");
 const BRISTOL: &[u8] = b"1 3\n2 1 1\n1 1\n\n2 1 0 1 2 AND\n";
@@ -29,6 +29,12 @@ fn with_all(name: &str) -> Folder {
     let made = folder.wv(&format!("{PROVE} --out proof"));
     assert_eq!(made.status, 0, "{made:?}");
     folder
+}
+
+/// Packs these values for the statement, as `row`.
+fn pack(folder: &Folder, values: &str) {
+    let packed = folder.wv_reading("row asked - --out row", values.as_bytes());
+    assert_eq!((packed.status, packed.err.as_str()), (0, ""));
 }
 
 /// Names of files, and what each is in place of a `wanted`.
@@ -406,6 +412,7 @@ fn inputs_are_not_replaced() {
 fn a_proof_with_its_statement() {
     let folder = Folder::with_shelf("newcomers_named");
     folder.write("asked", STATEMENT);
+    pack(&folder, "on_hand=1000 order=250");
     let ended = folder.wv(&format!("{PROVE} --out proof --statement asked"));
     let len = folder.read("proof").len();
     ended.says(&format!(
@@ -431,16 +438,16 @@ fn a_proof_with_its_statement() {
 fn a_row_that_does_not_satisfy() {
     let folder = Folder::with_shelf("newcomers_unmet");
     folder.write("asked", STATEMENT);
-    folder.write("row", &[249, 0, 250, 0]);
-    assert_ne!(folder.read("row"), covers16_row());
+    pack(&folder, "on_hand=249 order=250");
     let claimed = format!("{PROVE} --out proof --y hex:f50100");
     folder.wv(&format!("{claimed} --statement asked")).refused(
         10,
         "the witness row gives covered=no, and --y is covered=yes",
     );
-    folder.wv(&claimed).refused(
+    folder.write("bare", &[249, 0, 250, 0]);
+    folder.wv(&claimed.replace(" row ", " bare ")).refused(
         10,
-        "the witness row gives f40100, and --y is f50100: `--statement` tells them by name",
+        "the witness bare gives f40100, and --y is f50100: `--statement` tells them by name",
     );
     // 251 ordered: both parts differ. 2 * 251 + 1 = 503 is f7 01.
     folder

@@ -25,6 +25,9 @@ show order
 /// 200 + 60 covers 250 + 10.
 const VALUES: &str = "on_hand=200 incoming=60 order=250\nbest_before=20270115, supplier=21\n";
 
+const PROVE: &str = "prove goods.circuit goods.row --shelf page --log log --message text:a \
+                     --out proof --statement goods.statement";
+
 /// A folder with this statement, its circuit and its row, and a shelf.
 fn folder(name: &str) -> Folder {
     let folder = Folder::with_shelf(name);
@@ -43,7 +46,7 @@ fn folder(name: &str) -> Folder {
     assert!(text.ends_with(" gates, 98 of them AND\n"), "{text}");
     folder
         .wv("row goods.statement values --out goods.row")
-        .says("packed 5 values into 11 bytes\n");
+        .says("packed 5 values into 95 bytes\n");
     folder
 }
 
@@ -56,9 +59,16 @@ fn the_examples_are_built() {
     let told = "built a circuit with 64 inputs, 34 outputs and 126 gates, 32 of them AND\n";
     folder.wv("build a.statement --out a").says(told);
     assert_eq!(folder.read("a"), example!("both.circuit"));
-    let row = folder.wv_reading("row a.statement - --out row", values.as_bytes());
+    let row = folder.wv_reading("row a.statement - --out bare --bare", values.as_bytes());
     row.says("packed 4 values into 8 bytes\n");
-    assert_eq!(folder.read("row"), example!("both.row"));
+    assert_eq!(folder.read("bare"), example!("both.row"));
+    let row = folder.wv_reading("row a.statement - --out row", values.as_bytes());
+    row.says("packed 4 values into 76 bytes\n");
+    let fields = b"wivulameno row 1 on_hand: 16, order: 16, best_before: 16, today: 16\n";
+    assert_eq!(
+        folder.read("row"),
+        [fields, &example!("both.row")[..]].concat()
+    );
     let shown = "covered=yes\norder=250\nin_date=yes\ntoday=20000\n";
     folder
         .wv("evaluate a row --statement a.statement")
@@ -76,8 +86,8 @@ fn from_a_question_to_a_proof() {
     folder.wv(evaluate).says(shown);
     folder.wv(&format!("{evaluate} --out shown")).says("");
     assert_eq!(folder.read("shown"), shown.as_bytes());
-    let prove = "prove goods.circuit goods.row --shelf page --log log --message text:a --out proof";
-    assert_eq!(folder.wv(prove).status, 0);
+    let made = folder.wv(PROVE);
+    assert_eq!((made.status, made.err.as_str()), (0, ""));
     folder
         .wv("claim goods.statement 'text:order=250 enough=yes good=yes' --out y")
         .says("packed 3 values into 3 bytes\n");
@@ -146,8 +156,7 @@ fn a_circuit_of_another_statement() {
     let folder = folder("statement_other");
     let other = GOODS.replace("total >=", "total >");
     folder.write("other.statement", other.as_bytes());
-    let prove = "prove goods.circuit goods.row --shelf page --log log --message text:a --out proof";
-    assert_eq!(folder.wv(prove).status, 0);
+    assert_eq!(folder.wv(PROVE).status, 0);
     let before = folder.files();
     let told = "goods.circuit is not what other.statement asks: `wv build` makes its circuit";
     folder
@@ -244,10 +253,6 @@ fn mistakes_with_a_statement() {
             own,
         ),
         (
-            "evaluate goods.circuit goods.row --statement goods.statement --raw",
-            "`--raw` and `--statement` do not go together",
-        ),
-        (
             "evaluate goods.circuit goods.row --statement",
             "`--statement` needs a value",
         ),
@@ -280,9 +285,21 @@ fn statements_from_pipes() {
     assert_eq!((built.status, built.err.as_str()), (0, ""));
     assert_eq!(built.out, example!("covers16.circuit"));
     folder.write("a.statement", example!("covers16.statement"));
-    let row = folder.wv_reading("row a.statement - --out -", b"order=250 on_hand=1000");
+    let row = folder.wv_reading(
+        "row a.statement - --bare --out -",
+        b"order=250 on_hand=1000",
+    );
     assert_eq!(
         (row.status, &row.out[..]),
         (0, &example!("covers16.row")[..])
     );
+    let row = folder.wv_reading("row a.statement - --out -", b"order=250 on_hand=1000");
+    folder.write("a.circuit", &built.out);
+    let evaluate = "evaluate a.circuit - --statement a.statement";
+    folder
+        .wv_reading(evaluate, &row.out)
+        .says("covered=yes\norder=250\n");
+    // The bytes themselves: 1 + 2 * 250.
+    let raw = folder.wv_reading(&format!("{evaluate} --raw"), &row.out);
+    assert_eq!((raw.status, raw.out), (0, vec![0xf5, 1, 0]));
 }

@@ -3,6 +3,7 @@
 use super::asked::Asked;
 use super::causes::Packed;
 use super::chain;
+use super::witness;
 use super::Command;
 use crate::args::Args;
 use crate::failure::Failure;
@@ -219,25 +220,29 @@ impl Circuit {
 
 pub const EVALUATE: Command = Command {
     name: "evaluate",
-    usage: "CIRCUIT WITNESS [--out FILE] [--raw | --statement STATEMENT]",
+    usage: "CIRCUIT WITNESS [--out FILE] [--raw] [--statement STATEMENT]",
     about: "Print the outputs of a circuit for a witness.",
     help: "\
-The outputs are printed as a line of hexadecimal digits.
+The outputs are printed as a line of hexadecimal digits. The witness is a row
+that `wv row` has packed, together with its statement, or bare bits.
 
   --out FILE             write them there
   --raw                  write the bytes themselves, without a line's end
   --statement STATEMENT  write what the statement shows, a line `name=value`
-                         each; the circuit has to be the statement's
+                         each, without --raw; the circuit has to be the
+                         statement's, and a packed row has to have its fields
 
 A witness that is typed on the command line is seen by other users in the
 process list, and kept in the shell's history: give a row that they may not read
 as a file, as `-` or as `fd:N`.
 
 Refused with 1, 2, 3, 5, 19, 20 or 21 for the circuit, without a number if it is
-not the statement's, 6 for a witness of another length, 7 for unused bits in its
-last byte.
+not the statement's or the row has other fields, 6 for a witness of another
+length, 7 for unused bits in its last byte.
 ",
-    example: "  wv evaluate covers16.circuit covers16.row\n",
+    example: "  \
+  wv evaluate covers16.circuit covers16.row --statement covers16.statement
+",
     places: 2,
     times: 1,
     options: &["out", "statement"],
@@ -247,12 +252,9 @@ last byte.
 };
 
 fn evaluate(args: &Args, _: &mut Report) -> Result<(), Failure> {
-    if args.flag("raw") && args.option("statement").is_some() {
-        return Err(EVALUATE.misused("`--raw` and `--statement` do not go together"));
-    }
     let circuit = Circuit::read(args, args.place(0))?;
     let asked = Asked::of_circuit(args, &circuit)?;
-    let witness = args.input(args.place(1))?;
+    let witness = witness::read(args, args.place(1), asked.as_ref())?.input;
     let mut taken = circuit.taken();
     taken.push((witness.titled("the witness"), witness.place.clone()));
     taken.extend(asked.iter().flat_map(Asked::taken));
@@ -260,8 +262,8 @@ fn evaluate(args: &Args, _: &mut Report) -> Result<(), Failure> {
     let target = Target::find(out, &taken)?;
     let y = circuit.outputs(&witness)?;
     let written = match asked {
+        _ if args.flag("raw") => y,
         Some(asked) => asked.lines(&y).into(),
-        None if args.flag("raw") => y,
         None => (to_hex(&y) + "\n").into(),
     };
     target.write(&written)

@@ -17,6 +17,7 @@ mod several;
 mod shelf;
 mod small;
 mod upgrade;
+mod witness;
 
 use crate::args::Args;
 use crate::failure::Failure;

@@ -5,6 +5,7 @@ use super::causes;
 use super::check::{shown_bits, BITS};
 use super::circuit::Circuit;
 use super::files::ShelfFiles;
+use super::witness::{self, Witness};
 use super::Command;
 use crate::args::Args;
 use crate::cost::USUAL;
@@ -27,7 +28,9 @@ pub const PROVE: Command = Command {
 Proves that the circuit gives y for the witness, without showing more of it.
 One root is drawn from the shelf for the proof. A call that would be refused
 draws none. The proof is bound to the circuit file, y and the message: whoever
-checks it needs the same bytes of all three. The salt stands in the proof.
+checks it needs the same bytes of all three. The salt stands in the proof. The
+witness is a row that `wv row` has packed, together with its statement, or bare
+bits.
 
   --shelf PAGE       the page of the shelf
   --log LOG          the file that counts its draws
@@ -36,8 +39,10 @@ checks it needs the same bytes of all three. The salt stands in the proof.
   --y Y              the claimed output; without it, what the circuit gives
   --statement STATEMENT
                      print what the proof shows, a line `name=value` each; the
-                     circuit has to be the statement's. A condition that is no
-                     is told on standard error, if there is no --y
+                     circuit has to be the statement's, and a packed row has to
+                     have its fields. A condition that is no is told on standard
+                     error, if there is no --y; so are bare bits, which may be
+                     those of another row
   --salt SALT        32 bytes, which the hashes of trees, tapes and commitments
                      take and the proof shows; without it, new ones from
                      /dev/urandom, as it should be
@@ -53,8 +58,9 @@ process list, and kept in the shell's history: give a row that they may not read
 as a file, as `-` or as `fd:N`.
 
 Refused with 1, 2, 3, 5, 19, 20 or 21 for the circuit, without a number if it is
-not the statement's, 8 for the three numbers, 6 for a length, 7 for unused bits,
-10 if the witness does not give y, 14 to 18 by the shelf.
+not the statement's or the row has other fields, 8 for the three numbers, 6 for
+a length, 7 for unused bits, 10 if the witness does not give y, 14 to 18 by the
+shelf.
 
 15 has two causes. Behind: the page has fewer draws than the log counts, so it
 is old; put the present page back. Ahead: it has more, so the log was set back;
@@ -64,7 +70,7 @@ stocking or proof that meets a page ahead writes that into the log, for good.
     example: "  \
   wv prove covers16.circuit covers16.row --shelf shelf.page \\
       --log /var/lib/depot/shelf.log --message 'text:order 4711' \\
-      --out order.proof
+      --out order.proof --statement covers16.statement
 ",
     places: 2,
     times: 1,
@@ -124,6 +130,7 @@ struct Wish {
     circuit: Circuit,
     asked: Option<Asked>,
     witness: Input,
+    is_bare: bool,
     message: Input,
     claimed: Option<Input>,
     y: Vec<u8>,
@@ -141,7 +148,11 @@ impl Wish {
         };
         let circuit = Circuit::read(args, args.place(0))?;
         let asked = Asked::of_circuit(args, &circuit)?;
-        let witness = args.input(args.place(1))?;
+        let witness = witness::read(args, args.place(1), asked.as_ref())?;
+        let Witness {
+            input: witness,
+            is_bare,
+        } = witness;
         let claimed = args.option("y").map(|y| args.input(y)).transpose()?;
         let message = args.input(args.needed("message")?)?;
         let given_salt = args
@@ -160,6 +171,7 @@ impl Wish {
             circuit,
             asked,
             witness,
+            is_bare,
             message,
             claimed,
             y,
@@ -270,11 +282,22 @@ impl Wish {
         }
     }
 
-    /// Says which conditions the row does not meet, if nobody said what they should be.
+    /// Says, if there is a statement, that bare bits may be those of another row, and if
+    /// nobody said what the conditions should be, which of them the row does not meet.
     fn note(&self) {
-        let (Some(asked), None) = (&self.asked, &self.claimed) else {
+        let Some(asked) = &self.asked else {
             return;
         };
+        if self.is_bare {
+            tell(&format!(
+                "note: {} has bare bits, which may be those of another row: `wv row` packs a row \
+                 that is refused unless its fields are those of the statement",
+                self.witness.titled("the witness")
+            ));
+        }
+        if self.claimed.is_some() {
+            return;
+        }
         for name in asked.unmet(&self.y) {
             tell(&format!(
                 "note: {name} is no for this row, and the proof shows it: with --y a row that \
