@@ -5,6 +5,7 @@ use crate::gates::{Bit, Gates, NO};
 use crate::layout::{Layout, Shape, Slot};
 use crate::numbers::Number;
 use crate::parser::parse;
+use crate::slips::nearest;
 use crate::tree::{self, Comparison, Field, Kind, Name, Part};
 use std::collections::HashMap;
 use wivulameno::limits::{MAX_GATES, MAX_INPUTS, MAX_OUTPUTS};
@@ -29,6 +30,7 @@ pub struct Built {
 pub fn build(text: &[u8]) -> Result<Built, Fault> {
     let (parts, end) = parse(text)?;
     let mut builder = Builder::for_row(row_of(&parts)?);
+    builder.all = parts.iter().flat_map(names_of).cloned().collect();
     for part in &parts {
         builder.part(part)?;
     }
@@ -53,6 +55,18 @@ pub(crate) fn row_of(parts: &[Part]) -> Result<Layout, Fault> {
     Ok(row)
 }
 
+/// The names to which a part gives a meaning.
+fn names_of(part: &Part) -> Vec<&Name> {
+    match part {
+        Part::Row(fields) => fields.iter().map(|field| &field.name).collect(),
+        Part::Let(name, _) => vec![name],
+        Part::Show(list) => {
+            let named = list.iter().filter(|(_, value)| value.is_some());
+            named.map(|(name, _)| name).collect()
+        }
+    }
+}
+
 fn slot_of(field: &Field) -> Result<Slot, Fault> {
     let width = u32::try_from(field.width).ok();
     let wrong = || {
@@ -65,6 +79,22 @@ fn slot_of(field: &Field) -> Result<Slot, Fault> {
         shape: Shape::Number,
         width: legal.ok_or_else(wrong)?,
     })
+}
+
+/// Does one place come before another?
+fn is_before(one: Place, other: Place) -> bool {
+    (one.line, one.column) < (other.line, other.column)
+}
+
+/// Is what is shown under a name something else than the name itself?
+fn is_no_copy(name: &Name, value: &tree::Value) -> Result<(), Fault> {
+    let text = &name.text;
+    match &value.kind {
+        Kind::Name(shown) if shown == text => Err(name.place.fault(format!(
+            "`{text}` is shown by its name alone: `show {text}`"
+        ))),
+        _ => Ok(()),
+    }
 }
 
 #[derive(Clone)]
@@ -85,6 +115,8 @@ struct Named {
 struct Builder {
     gates: Gates,
     names: HashMap<String, Named>,
+    /// The names that get a meaning anywhere, in their order.
+    all: Vec<Name>,
     row: Layout,
     /// The bits of the fields that have a meaning so far.
     fields: u32,
@@ -98,6 +130,7 @@ impl Builder {
         Builder {
             gates: Gates::new(row.bits()),
             names: HashMap::new(),
+            all: vec![],
             row,
             fields: 0,
             y: Layout::default(),
@@ -115,8 +148,11 @@ impl Builder {
             }
             Part::Show(list) => list.iter().try_for_each(|(name, value)| {
                 if let Some(value) = value {
+                    is_no_copy(name, value)?;
                     let value = self.value(value)?;
                     self.define(name, value, true)?;
+                } else if !self.names.contains_key(&name.text) {
+                    return Err(self.shows_nothing(name));
                 }
                 self.show(name)
             }),
@@ -127,7 +163,7 @@ impl Builder {
         if let Some(known) = self.names.get(&name.text) {
             let Place { line, column } = known.place;
             let text = format!("`{}` stands for something else", name.text);
-            let text = format!("{text}, from line {line}, column {column}");
+            let text = format!("{text}, from line {line}, column {column}: take another name here");
             return Err(name.place.fault(text));
         }
         let named = Named {
@@ -141,10 +177,68 @@ impl Builder {
     }
 
     fn named(&mut self, name: &str, place: Place) -> Result<&mut Named, Fault> {
-        let unknown = || place.fault(format!("`{name}` stands for nothing up to here"));
-        let named = self.names.get_mut(name).ok_or_else(unknown)?;
+        if !self.names.contains_key(name) {
+            return Err(self.unknown(name, place));
+        }
+        let named = self.names.get_mut(name).expect("it is there");
         named.is_used = true;
         Ok(named)
+    }
+
+    /// The fault of a name without a meaning, with the name that is likely to be meant, or
+    /// with those that there are.
+    fn unknown(&self, name: &str, place: Place) -> Fault {
+        let text = format!("`{name}` stands for nothing up to here");
+        let is_behind = |later: &&Name| later.text == name && is_before(place, later.place);
+        let later = self.all.iter().find(is_behind);
+        let meant = self.meant(name);
+        place.fault(match (later, meant, self.listed()) {
+            (Some(later), ..) => {
+                let line = later.place.line;
+                format!("{text}: line {line} says what it is, and has to come before")
+            }
+            _ if ["true", "false", "yes", "no"].contains(&name) => {
+                format!("{text}: a condition stands alone, as `a > 3` or `not a > 3`")
+            }
+            (_, Some(meant), _) => format!("{text}: is `{meant}` meant?"),
+            (.., None) => text,
+            (.., Some(names)) => format!("{text}: known are {names}"),
+        })
+    }
+
+    /// The fault of a shown name without a meaning.
+    fn shows_nothing(&self, name: &Name) -> Fault {
+        let (text, place) = (&name.text, name.place);
+        let is_later = self.all.iter().any(|later| later.text == *text);
+        match self.meant(text) {
+            None if !is_later => place.fault(format!(
+                "`{text}` stands for nothing up to here: `show {text} = ..` says what it is"
+            )),
+            _ => self.unknown(text, place),
+        }
+    }
+
+    /// The known names, in their order.
+    fn known(&self) -> impl Iterator<Item = &str> {
+        let names = self.all.iter().map(|name| name.text.as_str());
+        names.filter(|name| self.names.contains_key(*name))
+    }
+
+    /// The first of the known names, and how many more there are.
+    fn listed(&self) -> Option<String> {
+        const MOST: usize = 12;
+        let first: Vec<&str> = self.known().take(MOST).collect();
+        let more = self.names.len().saturating_sub(MOST);
+        let names = first.join(", ");
+        match (first.is_empty(), more) {
+            (true, _) => None,
+            (false, 0) => Some(names),
+            (false, more) => Some(format!("{names} and {more} more")),
+        }
+    }
+
+    fn meant(&self, name: &str) -> Option<&str> {
+        nearest(name, self.known())
     }
 
     fn field(&mut self, field: &Field) -> Result<(), Fault> {
@@ -201,7 +295,8 @@ impl Builder {
         let unused = self.names.iter().filter(|(_, named)| !named.is_used);
         let first = unused.min_by_key(|(_, named)| (named.place.line, named.place.column));
         if let Some((name, named)) = first {
-            return Err(named.place.fault(format!("`{name}` is not used")));
+            let text = format!("`{name}` is not used: show it, or take it out");
+            return Err(named.place.fault(text));
         }
         Ok(Built {
             circuit: self.gates.file(&self.outputs),

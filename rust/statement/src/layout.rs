@@ -2,6 +2,7 @@
 
 use crate::fault::{Fault, Place};
 use crate::lexer::{tokens, Token};
+use crate::slips::{nearest, Text};
 use std::fmt;
 
 /// What a value is.
@@ -40,7 +41,15 @@ impl Slot {
             (Shape::Condition, Token::Name(word)) if word == "no" => Ok(0),
             (_, Token::Number(number)) if *number <= greatest => Ok(*number),
             (Shape::Condition, _) => Err(format!("`{name}` is yes or no, not {token}")),
-            (Shape::Number, Token::Number(_)) => Err(format!("`{name}` is at most {greatest}")),
+            (Shape::Number, Token::Number(_)) => {
+                let bits = self.width;
+                let bits = if bits == 1 {
+                    "1 bit".into()
+                } else {
+                    format!("{bits} bits")
+                };
+                Err(format!("`{name}` is at most {greatest}: it has {bits}"))
+            }
             (Shape::Number, _) => Err(format!("`{name}` is a number, not {token}")),
         }
     }
@@ -63,6 +72,9 @@ impl fmt::Display for Given {
         }
     }
 }
+
+/// How values are written.
+const FORM: &str = "a value stands behind `=`, as `order=250`";
 
 /// Named values, one behind the other.
 #[derive(Clone, Debug, Default, PartialEq, Eq)]
@@ -114,7 +126,7 @@ impl Layout {
 
     /// The value that a text has for each slot, and the place of its end.
     fn values(&self, text: &[u8]) -> Result<(Vec<Option<u128>>, Place), Fault> {
-        let tokens = tokens(text)?;
+        let tokens = tokens(text, Text::Values)?;
         let mut values = vec![None; self.0.len()];
         let mut rest = tokens.iter();
         let mut next = || rest.next().expect("the end is the last");
@@ -124,7 +136,10 @@ impl Layout {
                 Token::End => return Ok((values, *place)),
                 Token::Fixed(",") => continue,
                 Token::Name(name) => name,
-                _ => return Err(place.fault(format!("a name is expected, not {token}"))),
+                _ => {
+                    let text = format!("a name is expected, not {token}: {FORM}");
+                    return Err(place.fault(text));
+                }
             };
             let found = self.0.iter().position(|slot| slot.name == *name);
             let found = found.ok_or_else(|| place.fault(self.unknown(name)))?;
@@ -133,7 +148,8 @@ impl Layout {
             }
             let (sign, sign_place) = next();
             if *sign != Token::Fixed("=") {
-                return Err(sign_place.fault(format!("`=` is expected, not {sign}")));
+                let text = format!("`=` is expected, not {sign}: {FORM}");
+                return Err(sign_place.fault(text));
             }
             let (value, value_place) = next();
             let number = self.0[found].number(value);
@@ -143,7 +159,9 @@ impl Layout {
 
     fn unknown(&self, name: &str) -> String {
         let names: Vec<&str> = self.0.iter().map(|slot| slot.name.as_str()).collect();
-        format!("`{name}` is none of {}", names.join(", "))
+        let meant = nearest(name, names.iter().copied());
+        let meant = meant.map_or(String::new(), |meant| format!(": is `{meant}` meant?"));
+        format!("`{name}` is none of {}{meant}", names.join(", "))
     }
 
     /// The values in packed bytes, of which there must be enough for all bits.

@@ -1,6 +1,7 @@
 //! A text as words, numbers and signs.
 
 use crate::fault::{Fault, Place};
+use crate::slips::{self, Text};
 use std::fmt;
 
 /// The words that are no names.
@@ -33,16 +34,20 @@ impl fmt::Display for Token {
 
 /// The tokens of a text with their places, the end as the last one. White space
 /// parts them, and `#` begins a comment, up to the line's end.
-pub fn tokens(text: &[u8]) -> Result<Vec<(Token, Place)>, Fault> {
+pub fn tokens(text: &[u8], kind: Text) -> Result<Vec<(Token, Place)>, Fault> {
     let mut rest = Rest {
         text: utf8(text)?,
         place: Place::START,
+        open: 0,
     };
-    let mut tokens = vec![];
+    let mut tokens: Vec<(Token, Place)> = vec![];
     loop {
         rest.skip()?;
         let place = rest.place;
-        let token = rest.token()?;
+        let Some(token) = rest.token()? else {
+            let before = tokens.iter().rev().map(|(token, _)| token);
+            return Err(place.fault(slips::stray(kind, before, rest.text)));
+        };
         let is_last = token == Token::End;
         tokens.push((token, place));
         if is_last {
@@ -56,7 +61,7 @@ fn utf8(text: &[u8]) -> Result<&str, Fault> {
     std::str::from_utf8(text).map_err(|error| {
         let before = String::from_utf8_lossy(&text[..error.valid_up_to()]);
         let place = before.chars().fold(Place::START, after);
-        place.fault("a byte that is no text in UTF-8")
+        place.fault("a byte that is no text in UTF-8: save the text so")
     })
 }
 
@@ -78,6 +83,8 @@ fn after(place: Place, char: char) -> Place {
 struct Rest<'a> {
     text: &'a str,
     place: Place,
+    /// The brackets that are open here.
+    open: usize,
 }
 
 impl<'a> Rest<'a> {
@@ -101,9 +108,7 @@ impl<'a> Rest<'a> {
             let ends_line = self.text.starts_with('\n') || self.text.starts_with("\r\n");
             in_comment = (in_comment || char == '#') && !ends_line;
             if !ends_line && is_unseen(char) {
-                let code = u32::from(char);
-                let text = format!("a character that is not seen, U+{code:04X}");
-                return Err(self.place.fault(text));
+                return Err(self.place.fault(unseen(char)));
             }
             if !in_comment && !ends_line && char != ' ' && char != '\t' {
                 return Ok(());
@@ -113,21 +118,29 @@ impl<'a> Rest<'a> {
         Ok(())
     }
 
-    fn token(&mut self) -> Result<Token, Fault> {
+    /// The next token, if one begins here.
+    fn token(&mut self) -> Result<Option<Token>, Fault> {
         let place = self.place;
         let is_sign = |sign: &&&str| self.text.starts_with(**sign);
         if let Some(sign) = SIGNS.iter().find(is_sign) {
+            self.open += usize::from(*sign == "(");
+            self.open = self.open.saturating_sub(usize::from(*sign == ")"));
             self.take(sign.len());
-            return Ok(Token::Fixed(sign));
+            return Ok(Some(Token::Fixed(sign)));
         }
-        let Some(char) = self.text.chars().next() else {
-            return Ok(Token::End);
-        };
+        if self.text.is_empty() {
+            return Ok(Some(Token::End));
+        }
+        let text = self.text;
         let word = self.take_while(|char| char.is_ascii_alphanumeric() || char == '_');
         match word.bytes().next() {
-            None => Err(place.fault(stray(char))),
-            Some(b'0'..=b'9') => number(word).map_err(|text| place.fault(text)),
-            Some(_) => Ok(named(word)),
+            None => Ok(None),
+            Some(b'0'..=b'9') => {
+                let slip = slips::number(text, self.open > 0);
+                let number = slip.map_or_else(|| number(word), Err);
+                number.map(Some).map_err(|text| place.fault(text))
+            }
+            Some(_) => Ok(Some(named(word))),
         }
     }
 }
@@ -138,6 +151,17 @@ fn is_unseen(char: char) -> bool {
     let moves = matches!(char, '\u{ad}' | '\u{61c}' | '\u{200b}'..='\u{200f}' | '\u{2028}'..='\u{202e}')
         || matches!(char, '\u{2060}'..='\u{206f}' | '\u{feff}');
     moves || char.is_control() && char != '\t'
+}
+
+/// What to say of such a character.
+fn unseen(char: char) -> String {
+    let advice = match char {
+        '\u{feff}' => "a byte order mark: save the text as UTF-8 without it",
+        '\r' => "a line's end of its own: write LF, or CR LF",
+        _ => "take it out",
+    };
+    let code = u32::from(char);
+    format!("a character that is not seen, U+{code:04X}, {advice}")
 }
 
 fn named(word: &str) -> Token {
@@ -155,29 +179,12 @@ fn number(word: &str) -> Result<Token, String> {
         ));
     }
     if word.len() > 1 && word.starts_with('0') {
-        return Err(format!("`{word}`: a number begins with no 0"));
+        let digits = word.trim_start_matches('0');
+        let digits = if digits.is_empty() { "0" } else { digits };
+        return Err(format!(
+            "`{word}`: a number begins with no 0: write `{digits}`"
+        ));
     }
     let too_large = |_| format!("`{word}` has more than 128 bits");
     word.parse().map(Token::Number).map_err(too_large)
-}
-
-/// What to say of a character that begins no token.
-fn stray(char: char) -> String {
-    let advice = match char {
-        '-' => {
-            "no number is negative: what is taken off one side is added on the other, and a name has `_`"
-        }
-        '.' => "a number is whole, and a range is written `in (1 to 5)`",
-        '*' => "there is no product: twice a number is the sum `a + a`",
-        '/' | '%' => "there is no division: compare with a sum, as `a + a >= b`",
-        ';' => "a part of a statement ends where the next begins, without a sign",
-        '"' | '\'' | '`' => "names and numbers stand without quotes",
-        '[' | ']' | '{' | '}' => "brackets are `(` and `)`",
-        '!' => "`not` stands before a condition, `!=` between two numbers",
-        '&' => "write `and`",
-        '|' => "write `or`",
-        _ if char.is_alphanumeric() => "names have the letters a to z and A to Z, digits and `_`",
-        _ => "it has no meaning",
-    };
-    format!("`{char}` cannot stand here: {advice}")
 }

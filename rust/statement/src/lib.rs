@@ -23,6 +23,7 @@ mod lexer;
 mod numbers;
 mod parser;
 mod row_file;
+mod slips;
 mod tree;
 
 pub use build::{build, Built, MAX_WIDTH};

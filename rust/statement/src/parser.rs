@@ -2,6 +2,7 @@
 
 use crate::fault::{Fault, Place};
 use crate::lexer::{tokens, Token, WORDS};
+use crate::slips::{self, Text};
 use crate::tree::{Comparison, Field, Kind, Name, Part, Value};
 
 /// So deep can brackets and `not` stand in each other.
@@ -19,7 +20,7 @@ const COMPARISONS: [(&str, Comparison); 6] = [
 /// The parts of a statement, and the place of its end.
 pub fn parse(text: &[u8]) -> Result<(Vec<Part>, Place), Fault> {
     let mut parser = Parser {
-        tokens: tokens(text)?,
+        tokens: tokens(text, Text::Statement)?,
         at: 0,
         depth: 0,
     };
@@ -69,8 +70,13 @@ impl Parser {
     /// The fault of a token that is not what is expected.
     fn expected(&self, what: &str) -> Fault {
         let next = self.next();
-        self.place()
-            .fault(format!("{what} is expected, not {next}"))
+        let fault = self
+            .place()
+            .fault(format!("{what} is expected, not {next}"));
+        match small_letters(next) {
+            Some(advice) => advised(fault, &advice),
+            None => fault,
+        }
     }
 
     fn part(&mut self) -> Result<Part, Fault> {
@@ -82,33 +88,64 @@ impl Parser {
         }
         if self.take("let") {
             let name = self.name("a name")?;
-            self.need("=")?;
+            if !self.take("=") {
+                let advice = format!("a part gets a name by `let {} = ..`", name.text);
+                return Err(advised(self.expected("`=`"), &advice));
+            }
             return Ok(Part::Let(name, self.value()?));
         }
-        let fault = self.expected("`row`, `let` or `show`");
-        let advice = match (self.small_letters(), self.next()) {
-            (Some(word), _) => format!("the word is `{word}`, in small letters"),
-            (_, Token::Name(name)) if name == "between" => {
-                "a range is written `in (1 to 5)`".into()
-            }
-            _ => return Err(fault),
-        };
-        Err(advised(fault, &advice))
+        Err(self.no_part())
     }
 
-    /// The word of the language that the next token is in other letters.
-    fn small_letters(&self) -> Option<&'static str> {
+    /// What is wrong where a part should begin: the word there, or the one before it, which
+    /// was taken for a name.
+    fn no_part(&self) -> Fault {
+        let fault = self.expected("`row`, `let` or `show`");
+        if let Some((token @ Token::Name(before), place)) = self.before() {
+            let foreign = || slips::word(before).map(String::from);
+            if let Some(advice) = small_letters(token).or_else(foreign) {
+                return place.fault(format!("`{before}` cannot stand here: {advice}"));
+            }
+        }
         let Token::Name(name) = self.next() else {
-            return None;
+            return fault;
         };
-        let small = name.to_ascii_lowercase();
-        WORDS.into_iter().find(|word| *word == small)
+        match (slips::word(name), self.behind()) {
+            (Some(advice), _) => advised(fault, advice),
+            (None, Token::Fixed(":")) if self.at == 0 => {
+                let advice = format!("fields stand behind `row`, as `row {name}: 16`");
+                advised(fault, &advice)
+            }
+            (None, Token::Fixed(":")) => advised(
+                fault,
+                "a comma stands between two fields, as `a: 16, b: 16`",
+            ),
+            _ => fault,
+        }
+    }
+
+    /// The token before the next one.
+    fn before(&self) -> Option<&(Token, Place)> {
+        self.tokens.get(self.at.checked_sub(1)?)
+    }
+
+    /// The token behind the next one.
+    fn behind(&self) -> &Token {
+        let last = self.tokens.len() - 1;
+        &self.tokens[last.min(self.at + 1)].0
     }
 
     /// One or more, with a comma between two.
     fn list<T>(&mut self, one: fn(&mut Parser) -> Result<T, Fault>) -> Result<Vec<T>, Fault> {
         let mut list = vec![one(self)?];
         while self.take(",") {
+            let comma = self.tokens[self.at - 1].1;
+            if matches!(
+                self.next(),
+                Token::End | Token::Fixed("row" | "let" | "show" | ")")
+            ) {
+                return Err(comma.fault("a comma stands between two, and none behind the last"));
+            }
             list.push(one(self)?);
         }
         Ok(list)
@@ -116,10 +153,14 @@ impl Parser {
 
     fn name(&mut self, what: &str) -> Result<Name, Fault> {
         let place = self.place();
-        let Token::Name(text) = self.next() else {
-            return Err(self.expected(what));
+        let text = match self.next() {
+            Token::Name(text) => text.clone(),
+            Token::Fixed(word) if WORDS.contains(word) => {
+                let advice = format!("`{word}` is no name, but `{word}_1` is one");
+                return Err(advised(self.expected(what), &advice));
+            }
+            _ => return Err(self.expected(what)),
         };
-        let text = text.clone();
         self.at += 1;
         Ok(Name { text, place })
     }
@@ -135,13 +176,23 @@ impl Parser {
     fn field(&mut self) -> Result<Field, Fault> {
         let name = self.name("the name of a field")?;
         if !self.take(":") {
-            let advice = format!("a field is written with its bits, as `{}: 16`", name.text);
+            let text = &name.text;
+            let advice = match (self.next(), self.behind()) {
+                (Token::Name(more), Token::Fixed(":")) => {
+                    format!("a name is one word, as `{text}_{more}`")
+                }
+                _ => format!("a field is written with its bits, as `{text}: 16`"),
+            };
             return Err(advised(self.expected("`:`"), &advice));
         }
+        let width_place = self.place();
+        let advice = || format!("a field is written with its bits, as `{}: 16`", name.text);
+        let width = self.number("the number of bits of the field");
+        let width = width.map_err(|fault| advised(fault, &advice()))?;
         Ok(Field {
             name,
-            width_place: self.place(),
-            width: self.number("the number of bits of the field")?,
+            width,
+            width_place,
         })
     }
 
@@ -252,6 +303,10 @@ impl Parser {
             let text = "two numbers that are not equal are `!=`";
             return Err(self.place().fault(text));
         }
+        if matches!(self.next(), Token::Fixed("=")) {
+            let text = "`=` cannot stand here: two numbers are compared by `==`, `>=` or `<=`";
+            return Err(self.place().fault(text));
+        }
         let right = self.sum()?;
         let (again, second) = (self.place(), self.comparison());
         if second.is_some() {
@@ -282,15 +337,24 @@ impl Parser {
 
     fn range(&mut self) -> Result<(u128, u128), Fault> {
         let place = self.place();
-        let low = self.number("a number")?;
+        let low = self.listed()?;
         if !self.take("to") {
             return Ok((low, low));
         }
-        let high = self.number("a number")?;
+        let high = self.listed()?;
         match low <= high {
             true => Ok((low, high)),
             false => Err(place.fault(format!("there is no number from {low} to {high}"))),
         }
+    }
+
+    /// A number of a list.
+    fn listed(&mut self) -> Result<u128, Fault> {
+        let is_name = matches!(self.next(), Token::Name(_));
+        self.number("a number").map_err(|fault| match is_name {
+            true => advised(fault, "a list has numbers alone; write `a == b` for a name"),
+            false => fault,
+        })
     }
 
     fn simple(&mut self) -> Parsed {
@@ -311,11 +375,24 @@ impl Parser {
 
     /// Is there no `=` where a comparison can be meant?
     fn not_assigned(&self) -> Result<(), Fault> {
-        match self.next() {
-            Token::Fixed("=") => Err(self
-                .place()
-                .fault("to compare two numbers write `==`, `>=` or `<=`")),
-            _ => Ok(()),
+        if *self.next() != Token::Fixed("=") {
+            return Ok(());
         }
+        let text = match self.behind() {
+            Token::Fixed(">") => "`=>` cannot stand here: write `>=`",
+            Token::Fixed("<") => "`=<` cannot stand here: write `<=`",
+            _ => "to compare two numbers write `==`, `>=` or `<=`",
+        };
+        Err(self.place().fault(text))
     }
+}
+
+/// What to do about a word of the language in other letters.
+fn small_letters(token: &Token) -> Option<String> {
+    let Token::Name(name) = token else {
+        return None;
+    };
+    let small = name.to_ascii_lowercase();
+    let word = WORDS.into_iter().find(|word| *word == small)?;
+    Some(format!("the word is `{word}`, in small letters"))
 }

@@ -37,18 +37,19 @@ fn a_fault_tells_its_place() {
     let fault: Fault = build(b"row a: 4\n  show b").expect_err("no b");
     assert_eq!(
         fault.to_string(),
-        "line 2, column 8: `b` stands for nothing up to here"
+        "line 2, column 8: `b` stands for nothing up to here: `show b = ..` says what it is"
     );
 }
 
 #[test]
 fn words_and_signs() {
     let unseen = "a character that is not seen, U+";
+    let end = "a line's end of its own: write LF, or CR LF";
     assert_faults(&[
         ("row ^7a: 4 show a", "`7a` begins with a digit and is no number: a number has digits alone, a name begins with a letter"),
         ("row a: 4 show b = a >= ^0x10", "`0x10` begins with a digit and is no number: a number has digits alone, a name begins with a letter"),
-        ("row a: ^04 show a", "`04`: a number begins with no 0"),
-        ("row a: 4 show b = a in (^00)", "`00`: a number begins with no 0"),
+        ("row a: ^04 show a", "`04`: a number begins with no 0: write `4`"),
+        ("row a: 4 show b = a in (^00)", "`00`: a number begins with no 0: write `0`"),
         ("row a: 4\nshow b = a < ^340282366920938463463374607431768211456", "`340282366920938463463374607431768211456` has more than 128 bits"),
         ("row a: 4, b: 4 show c = a ^- b >= 3", "`-` cannot stand here: no number is negative: what is taken off one side is added on the other, and a name has `_`"),
         ("row a: 4 show b = ^! a == 3", "`!` cannot stand here: `not` stands before a condition, `!=` between two numbers"),
@@ -65,25 +66,26 @@ fn words_and_signs() {
         ("row a: 4\nshow c = a >= 1^.5", "`.` cannot stand here: a number is whole, and a range is written `in (1 to 5)`"),
         ("row ^\"a\": 4", "`\"` cannot stand here: names and numbers stand without quotes"),
         ("row a: 4 show c = a in ^[1, 2]", "`[` cannot stand here: brackets are `(` and `)`"),
-        ("row a: 4 ^\0show a", &format!("{unseen}0000")),
-        ("row a: 4 ^\rshow a", &format!("{unseen}000D")),
-        ("row a: 4 # a comment^\rshow a", &format!("{unseen}000D")),
-        ("row a: 4 # ^\u{202e}a wohs\nshow a", &format!("{unseen}202E")),
-        ("row a: 4 #\n# ^\u{200b}\nshow a", &format!("{unseen}200B")),
-        ("^\u{feff}row a: 4 show a", &format!("{unseen}FEFF")),
+        ("row a: 4 ^\0show a", &format!("{unseen}0000, take it out")),
+        ("row a: 4 ^\rshow a", &format!("{unseen}000D, {end}")),
+        ("row a: 4 # a comment^\rshow a", &format!("{unseen}000D, {end}")),
+        ("row a: 4 # ^\u{202e}a wohs\nshow a", &format!("{unseen}202E, take it out")),
+        ("row a: 4 #\n# ^\u{200b}\nshow a", &format!("{unseen}200B, take it out")),
+        ("^\u{feff}row a: 4 show a", &format!("{unseen}FEFF, a byte order mark: save the text as UTF-8 without it")),
+        ("row a:^\u{a0}4 show a", "a space of another kind, U+00A0: write a plain one"),
     ]);
     assert_fault(
         b"row a: 4\n# ^\xff\nshow a",
-        "a byte that is no text in UTF-8",
+        "a byte that is no text in UTF-8: save the text so",
     );
     // A column is a character, not a byte.
     assert_fault(
         "row a: 4 # größe\nshow # ö\n^b".as_bytes(),
-        "`b` stands for nothing up to here",
+        "`b` stands for nothing up to here: `show b = ..` says what it is",
     );
     assert_fault(
         b"row a: 4 # \xc3\xbc^\xff",
-        "a byte that is no text in UTF-8",
+        "a byte that is no text in UTF-8: save the text so",
     );
 }
 
@@ -92,11 +94,11 @@ fn parts() {
     assert_faults(&[
         (
             "^on_hand: 16",
-            "`row`, `let` or `show` is expected, not `on_hand`",
+            "`row`, `let` or `show` is expected, not `on_hand`: fields stand behind `row`, as `row on_hand: 16`",
         ),
         (
             "row a: 4 ^b: 4 show a",
-            "`row`, `let` or `show` is expected, not `b`",
+            "`row`, `let` or `show` is expected, not `b`: a comma stands between two fields, as `a: 16, b: 16`",
         ),
         (
             "row a: 4 show a ^5",
@@ -104,12 +106,28 @@ fn parts() {
         ),
         ("row ^16: a", "the name of a field is expected, not `16`"),
         (
-            "row a: 4, ^show a",
-            "the name of a field is expected, not `show`",
+            "row a: 4^, show a",
+            "a comma stands between two, and none behind the last",
+        ),
+        (
+            "row a: 4 show a^,",
+            "a comma stands between two, and none behind the last",
+        ),
+        (
+            "row a: 4 show c = a in (1, 2^,)",
+            "a comma stands between two, and none behind the last",
         ),
         (
             "row ^in: 4 show in",
-            "the name of a field is expected, not `in`",
+            "the name of a field is expected, not `in`: `in` is no name, but `in_1` is one",
+        ),
+        (
+            "row ^show: 4 show show",
+            "the name of a field is expected, not `show`: `show` is no name, but `show_1` is one",
+        ),
+        (
+            "row best ^before: 16 show best",
+            "`:` is expected, not `before`: a name is one word, as `best_before`",
         ),
         (
             "row a ^16 show a",
@@ -117,14 +135,21 @@ fn parts() {
         ),
         (
             "row a: ^b show a",
-            "the number of bits of the field is expected, not `b`",
+            "the number of bits of the field is expected, not `b`: a field is written with its bits, as `a: 16`",
         ),
         (
             "row a:",
-            "the number of bits of the field is expected, not the end of the text",
+            "the number of bits of the field is expected, not the end of the text: a field is written with its bits, as `a: 16`",
         ),
         ("row a: 4 let ^= 5", "a name is expected, not `=`"),
-        ("row a: 4 let b ^>= 5", "`=` is expected, not `>=`"),
+        (
+            "row a: 4 let b ^>= 5",
+            "`=` is expected, not `>=`: a part gets a name by `let b = ..`",
+        ),
+        (
+            "row a: 4 let b ^:= 5",
+            "`=` is expected, not `:`: a part gets a name by `let b = ..`",
+        ),
         (
             "row a: 4 show ^3",
             "the name of what is shown is expected, not `3`",
@@ -187,6 +212,177 @@ fn other_forms() {
     ]);
 }
 
+/// Signs that are on other keyboards or in other languages.
+#[test]
+fn other_signs() {
+    let row = "row a: 32, b: 32\nshow c = ";
+    let minus = "no number is negative: what is taken off one side is added on the other, and a name has `_`";
+    let range = "a range is written `in (1 to 5)`";
+    let known = [
+        ("a ^≥ b", "≥", "write `>=`"),
+        ("a ^≤ b", "≤", "write `<=`"),
+        ("a ^≠ b", "≠", "write `!=`"),
+        ("a == 1 ^∧ b == 1", "∧", "write `and`"),
+        ("a == 1 ^∨ b == 1", "∨", "write `or`"),
+        ("^¬ a == 1", "¬", "write `not`"),
+        ("a in (1^-5)", "-", range),
+        ("a in 1^-5", "-", range),
+        ("a in (3, 1 ^- 5)", "-", range),
+        ("a in (3, 7 to 9, 1^–5)", "–", range),
+        ("a in (3) and b >= 5^-3", "-", minus),
+        ("a in (^-5)", "-", minus),
+        ("a ^− b >= 3", "−", minus),
+        ("a >= 3 ^// three", "/", "a comment begins with `#`"),
+        ("a >= 3 ^-- three", "-", "a comment begins with `#`"),
+        ("a >= 3 ^/* three */", "/", "a comment begins with `#`"),
+        ("a == ^“b”", "“", "names and numbers stand without quotes"),
+        (
+            "a >= 3 ^? 1 : 0",
+            "?",
+            "there is no choice between two values: show the condition itself, as `show ok = a > 3`",
+        ),
+    ];
+    for (value, sign, advice) in known {
+        let expected = format!("`{sign}` cannot stand here: {advice}");
+        assert_fault(format!("{row}{value}").as_bytes(), &expected);
+    }
+}
+
+/// Dates, and digits in groups.
+#[test]
+fn other_numbers() {
+    let row = "row a: 32, b: 32\nshow c = ";
+    let known = [
+        (
+            "a >= ^2026-12-01",
+            "`2026-12-01` is no number: a date is one number of year, month and day, `20261201`",
+        ),
+        (
+            "a >= ^01.12.2026",
+            "`01.12.2026` is no number: a date is one number of year, month and day, `20261201`",
+        ),
+        (
+            "a in (7, ^12/01/2026)",
+            "`12/01/2026` is no number: a date is one number of year, month and day, as `20261201`",
+        ),
+        (
+            "a >= ^1,000",
+            "`1,000` is no number: its digits stand together, `1000`",
+        ),
+        (
+            "a >= ^1,200,500 and b == 3",
+            "`1,200,500` is no number: its digits stand together, `1200500`",
+        ),
+        (
+            "a in (7, ^1,000)",
+            "`1,000` is no number: its digits stand together, `1000`",
+        ),
+        (
+            "a >= ^1_000",
+            "`1_000` is no number: its digits stand together, `1000`",
+        ),
+        (
+            "a >= ^1'000",
+            "`1'000` is no number: its digits stand together, `1000`",
+        ),
+    ];
+    for (value, expected) in known {
+        assert_fault(format!("{row}{value}").as_bytes(), expected);
+    }
+    // Two numbers of a list.
+    assert!(build(b"row a: 16\nshow c = a in (1,200)").is_ok());
+    assert!(build(b"row a: 16,b: 16\r\nshow c = a >= 1,b\r\n").is_ok());
+}
+
+/// Words of other languages, and those of this one in capitals.
+#[test]
+fn other_words() {
+    let choice =
+        "there is no choice between two values: show the condition itself, as `show ok = a > 3`";
+    let part = "`row`, `let` or `show` is expected, not";
+    let known = [
+        (
+            "show c = ^if a > 3 then 1 else 0",
+            format!("`if` cannot stand here: {choice}"),
+        ),
+        ("^if a > 3 show a", format!("{part} `if`: {choice}")),
+        ("show c = a > 3 ^when a < 9", format!("{part} `when`: {choice}")),
+        (
+            "show c = ^NOT a > 3",
+            "`NOT` cannot stand here: the word is `not`, in small letters".into(),
+        ),
+        (
+            "show c = a > 3 ^Or a < 2",
+            format!("{part} `Or`: the word is `or`, in small letters"),
+        ),
+        (
+            "show c = a ^is 3",
+            format!("{part} `is`: two numbers are compared by `==`"),
+        ),
+        (
+            "^hide a",
+            format!("{part} `hide`: what is not shown stays hidden"),
+        ),
+        (
+            "^assert a > 3",
+            format!("{part} `assert`: what is asked is shown under a name, as `show ok = a > 3`"),
+        ),
+        (
+            "row b: 16 ^bits show a",
+            format!("{part} `bits`: the bits of a field are a number alone, as `a: 16`"),
+        ),
+        (
+            "show c = ^true",
+            "`true` stands for nothing up to here: a condition stands alone, as `a > 3` or `not a > 3`"
+                .into(),
+        ),
+    ];
+    for (rest, expected) in known {
+        assert_fault(format!("row a: 4\n{rest}").as_bytes(), &expected);
+    }
+    // They are names like others.
+    assert!(build(b"row if: 4, bits: 4\nshow is = if >= bits").is_ok());
+}
+
+/// A slip in a name.
+#[test]
+fn other_names() {
+    let row = "row on_hand: 16, order: 16\nlet total = on_hand + 5\n";
+    let nothing = "stands for nothing up to here";
+    let known = [
+        ("show c = ^onhand >= order", "onhand", "is `on_hand` meant?"),
+        (
+            "show c = ^On_Hand >= order",
+            "On_Hand",
+            "is `on_hand` meant?",
+        ),
+        ("show c = total >= ^oder", "oder", "is `order` meant?"),
+        ("show ^orders", "orders", "is `order` meant?"),
+        ("show c = ^totl >= order", "totl", "is `total` meant?"),
+        (
+            "show c = ^stock >= order",
+            "stock",
+            "known are on_hand, order, total",
+        ),
+        (
+            "show ^covered",
+            "covered",
+            "`show covered = ..` says what it is",
+        ),
+    ];
+    for (rest, name, advice) in known {
+        let expected = format!("`{name}` {nothing}: {advice}");
+        assert_fault(format!("{row}{rest}").as_bytes(), &expected);
+    }
+    let fields: Vec<String> = (0..14).map(|place| format!("f{place}: 1")).collect();
+    let marked = format!("row {}\nshow c = ^stock >= 3", fields.join(", "));
+    let names = "f0, f1, f2, f3, f4, f5, f6, f7, f8, f9, f10, f11 and 2 more";
+    assert_fault(
+        marked.as_bytes(),
+        &format!("`stock` {nothing}: known are {names}"),
+    );
+}
+
 #[test]
 fn values() {
     let row = "row a: 4, b: 4\nshow c = ";
@@ -233,8 +429,24 @@ fn values() {
         ),
         ("a not ^>= b", "`in` is expected, not `>=`"),
         ("a in (^)", "a number is expected, not `)`"),
-        ("a in (1, ^b)", "a number is expected, not `b`"),
-        ("a in (1 to ^b)", "a number is expected, not `b`"),
+        (
+            "a in (1, ^b)",
+            "a number is expected, not `b`: a list has numbers alone; write `a == b` for a name",
+        ),
+        (
+            "a in (1 to ^b)",
+            "a number is expected, not `b`: a list has numbers alone; write `a == b` for a name",
+        ),
+        (
+            "a in (1 ^TO 3)",
+            "`)` is expected, not `TO`: the word is `to`, in small letters",
+        ),
+        ("a ^=> b", "`=>` cannot stand here: write `>=`"),
+        ("a ^=< b", "`=<` cannot stand here: write `<=`"),
+        (
+            "a ==^= b",
+            "`=` cannot stand here: two numbers are compared by `==`, `>=` or `<=`",
+        ),
         ("a in (1 ^2)", "`)` is expected, not `2`"),
         ("a in (1, ^7 to 6)", "there is no number from 7 to 6"),
     ];
@@ -248,41 +460,56 @@ fn meanings() {
     let number = "this is a condition, where a number is expected";
     let condition = "this is a number, where a condition is expected: compare it";
     assert_faults(&[
-        ("row a: 4\nshow ^b", "`b` stands for nothing up to here"),
+        (
+            "row a: 4\nshow ^b",
+            "`b` stands for nothing up to here: `show b = ..` says what it is",
+        ),
         (
             "row a: 4\nshow c = a >= ^b",
-            "`b` stands for nothing up to here",
+            "`b` stands for nothing up to here: known are a",
         ),
         (
-            "row a: 4\nshow c = ^b + a >= 3",
-            "`b` stands for nothing up to here",
+            "row a: 4, d: 4\nshow c = ^b + a >= 3",
+            "`b` stands for nothing up to here: known are a, d",
         ),
+        ("show c = ^b >= 3", "`b` stands for nothing up to here"),
         (
             "show c = ^a >= 3\nrow a: 4",
-            "`a` stands for nothing up to here",
+            "`a` stands for nothing up to here: line 2 says what it is, and has to come before",
+        ),
+        (
+            "row a: 4\nshow ^total\nlet total = a + 1",
+            "`total` stands for nothing up to here: line 3 says what it is, and has to come before",
         ),
         (
             "row a: 4\nlet c = ^c + 1 show c",
-            "`c` stands for nothing up to here",
+            "`c` stands for nothing up to here: known are a",
         ),
         (
             "row a: 4,\n  b: 4,\n  ^a: 5 show a",
-            "`a` stands for something else, from line 1, column 5",
+            "`a` stands for something else, from line 1, column 5: take another name here",
         ),
         (
             "row a: 4\nlet ^a = 3 show a",
-            "`a` stands for something else, from line 1, column 5",
+            "`a` stands for something else, from line 1, column 5: take another name here",
         ),
         (
             "row a: 4 show b = a + 1, ^b = a + 2",
-            "`b` stands for something else, from line 1, column 15",
+            "`b` stands for something else, from line 1, column 15: take another name here",
+        ),
+        (
+            "row a: 4\nshow ^a = a",
+            "`a` is shown by its name alone: `show a`",
         ),
         ("row a: 4 show a, ^a", "`a` is shown twice"),
         ("row a: 4 show b = a + 1\nshow ^b", "`b` is shown twice"),
-        ("row a: 4\nlet ^c = a + 1\nshow a", "`c` is not used"),
+        (
+            "row a: 4\nlet ^c = a + 1\nshow a",
+            "`c` is not used: show it, or take it out",
+        ),
         (
             "row a: 4\nlet c = a + 1\nlet ^d = c + 1 let e = c show a",
-            "`d` is not used",
+            "`d` is not used: show it, or take it out",
         ),
         ("row a: 4", "nothing is shown: a statement has a `show`"),
         ("# nothing\n", "nothing is shown: a statement has a `show`"),

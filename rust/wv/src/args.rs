@@ -111,11 +111,13 @@ impl Args {
         }
         let wrong = match self.places.get(most) {
             Some(word) => {
-                let is_out = self.command.options.contains(&"out") && self.option("out").is_none();
-                let advice = if is_out {
-                    ": an output stands behind --out"
-                } else {
-                    ""
+                let lacks = |option: &&str| {
+                    self.command.options.contains(option) && self.option(option).is_none()
+                };
+                let advice = match ["log", "out"].into_iter().find(|option| lacks(option)) {
+                    Some("log") => ": the log stands behind --log",
+                    Some(_) => ": an output stands behind --out",
+                    None => "",
                 };
                 format!("`{}` is one argument too many{advice}", shown(word))
             }

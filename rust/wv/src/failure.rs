@@ -42,7 +42,11 @@ impl fmt::Display for Failure {
     fn fmt(&self, f: &mut fmt::Formatter) -> fmt::Result {
         match self {
             Failure::Refused(refusal, cause) if cause.is_empty() => refusal.fmt(f),
-            Failure::Refused(refusal, cause) => write!(f, "{refusal}: {cause}"),
+            // What to do comes first, and then what the number stands for.
+            Failure::Refused(refusal, cause) => {
+                let (number, sentence) = (refusal.number(), refusal.sentence());
+                write!(f, "refused {number}: {cause} ({sentence})")
+            }
             Failure::Unwanted(text) => write!(f, "refused: {text}"),
             Failure::Usage(text) | Failure::File(text) | Failure::Busy(text) => f.write_str(text),
         }

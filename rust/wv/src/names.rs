@@ -20,6 +20,16 @@ pub fn shown(name: impl AsRef<OsStr>) -> String {
     text
 }
 
+/// A name as a word of the shell.
+pub fn as_word(name: impl AsRef<OsStr>) -> String {
+    let name = shown(name);
+    let is_plain = |char: char| char.is_ascii_alphanumeric() || "/._-+:,=@%".contains(char);
+    match !name.is_empty() && name.chars().all(is_plain) {
+        true => name,
+        false => format!("'{}'", name.replace('\'', "'\\''")),
+    }
+}
+
 /// `1 byte`, `2 bytes`.
 pub fn counted(number: impl Into<u64>, one: &str) -> String {
     match number.into() {
@@ -42,6 +52,16 @@ mod tests {
             let name = OsStr::from_bytes(b"page\xff\xc3.x");
             assert_eq!(shown(name), "page\\xff\\xc3.x");
         }
+    }
+
+    #[test]
+    fn words_of_the_shell() {
+        for plain in ["shelf.page", "/var/lib/depot/shelf-2.log"] {
+            assert_eq!(as_word(plain), plain);
+        }
+        assert_eq!(as_word("my shelf"), "'my shelf'");
+        assert_eq!(as_word("it's"), "'it'\\''s'");
+        assert_eq!(as_word(""), "''");
     }
 
     #[test]

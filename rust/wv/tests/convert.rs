@@ -142,8 +142,10 @@ fn a_tidied_text_that_is_refused() {
         lines[0],
         "wv: note: and.txt: took spaces and CR off the ends of 5 lines"
     );
-    assert!(lines[1].starts_with("wv: refused 22: "), "{ended:?}");
-    assert!(lines[1].ends_with(": and.txt: line 5"), "{ended:?}");
+    assert!(
+        lines[1].starts_with("wv: refused 22: and.txt: line 5 ("),
+        "{ended:?}"
+    );
     assert_eq!(lines.len(), 2);
 }
 

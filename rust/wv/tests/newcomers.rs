@@ -135,7 +135,25 @@ fn no_proof() {
     // The two the other way round.
     folder
         .wv("check proof covers16.circuit --y hex:f50100 --message text:a")
-        .refused(2, "proof: it is a proof, no circuit");
+        .refused(
+            2,
+            "proof: it is a proof, no circuit, and covers16.circuit is one: the circuit stands first",
+        );
+    folder.write(
+        "goods.row",
+        b"wivulameno row 1 on_hand: 16, order: 16\n\xe8\x03\xfa\x00",
+    );
+    for command in [
+        "evaluate",
+        "prove --shelf page --log log --message text:a --out out",
+    ] {
+        folder
+            .wv(&format!("{command} goods.row covers16.circuit"))
+            .refused(
+                2,
+                "goods.row: it is a packed row, no circuit, and covers16.circuit is one",
+            );
+    }
 }
 
 /// Texts where packed bits belong.
@@ -174,14 +192,14 @@ fn no_row_and_no_y() {
     // What is typed in digits is meant so: its length is told alone.
     let typed = folder.wv("evaluate covers16.circuit hex:66");
     typed.refused(6, "the witness has 1 byte, the circuit asks for 4");
-    assert!(typed.err.ends_with("asks for 4\n"), "{typed:?}");
+    assert!(typed.err.contains("asks for 4 (an input"), "{typed:?}");
 }
 
 /// The line and column, and what the file is.
 #[test]
 fn no_statement_and_no_values() {
     let folder = with_all("newcomers_texts");
-    let statement = "no statement: a statement is a text, and `wv help build` shows one";
+    let statement = "no statement: `wv help build` shows one";
     for name in [
         "covers16.circuit",
         "page",
@@ -191,8 +209,9 @@ fn no_statement_and_no_values() {
         "bristol",
     ] {
         let built = folder.wv(&format!("build {name} --out out"));
-        built.mistaken(&format!("{name}: line "));
+        built.mistaken(&format!("{name}: it is "));
         built.mistaken(statement);
+        built.mistaken(" (line ");
         let claimed = folder.wv(&format!("claim {name} values --out out"));
         claimed.mistaken(statement);
     }
@@ -209,13 +228,19 @@ fn no_statement_and_no_values() {
         "bristol",
     ] {
         let packed = folder.wv(&format!("row asked {name} --out out"));
-        packed.mistaken(&format!("{name}: line "));
+        packed.mistaken(&format!("{name}: it is "));
         packed.mistaken(values);
+        packed.mistaken(" (line ");
     }
+    folder.wv("row values asked --out out").mistaken(
+        "values: it is a text with values, no statement: `wv help build` shows one, and values \
+         stand behind it (line 1, column 1: ",
+    );
     // A statement with a fault is one: nothing else is told of it.
     folder.write("faulty", b"row a: 4\nshow b\n");
     let faulty = folder.wv("build faulty --out out");
-    let told = "wv: faulty: line 2, column 6: `b` stands for nothing up to here\n";
+    let told = "wv: faulty: line 2, column 6: `b` stands for nothing up to here: `show b = ..` \
+                says what it is\n";
     assert_eq!((faulty.status, faulty.err.as_str()), (2, told));
     assert!(!folder.has("out"));
 }
@@ -295,7 +320,13 @@ fn no_page_and_no_log() {
         };
         folder
             .wv(&format!("{command} log --log page{fresh}"))
-            .mistaken("page: the log is no log: it does not begin as one, it is a shelf page");
+            .mistaken(
+                "page is a shelf page, and log is a log: they stand in each other's place, and \
+                 the log belongs behind --log",
+            );
+        folder
+            .wv(&format!("{command} page log{fresh}"))
+            .mistaken("`log` is one argument too many: the log stands behind --log");
         let ended = folder.wv(&format!("{command} covers16.circuit --log log{fresh}"));
         ended.refused(
             14,

@@ -108,7 +108,8 @@ fn assert_does_not_hold(ended: &common::Ended) {
     let starts = numbers.map(|number| format!("wv: refused {number}: "));
     let found = starts.iter().any(|start| ended.err.starts_with(start));
     assert!(ended.status == 1 && found, "{ended:?}");
-    let cause = "another y, message or circuit than the prover's";
+    let cause = "it does not hold: y is not what the prover's row gives, or message or circuit \
+                 are not the prover's, byte for byte, or the proof was cut or changed (";
     assert!(ended.err.contains(cause), "{ended:?}");
     assert_eq!(ended.out, b"", "{ended:?}");
 }
@@ -152,7 +153,7 @@ fn changed_proofs() {
         let line = CHECK.replace("proof", name);
         folder.wv(&format!("{line} {ORDER}"))
     };
-    let cut = "cut: another y, message or circuit than the prover's, or a proof that was cut";
+    let cut = "cut: it does not hold: y is not what the prover's row gives, or";
     check("cut", &proof[..proof.len() - 1]).refused(12, cut);
     check("long", &[&proof[..], &[0]].concat()).refused(12, "long: ");
     for place in [6, 37, 38, 69, 70, proof.len() - 1] {

@@ -136,11 +136,15 @@ fn one_of_several_is_refused() {
         assert_eq!(ended.status, 1, "{ended:?}");
         assert_eq!(ended.err, "wv: refused: 1 of 3 proofs\n");
         let sentence = wivulameno::Refusal::of(number).sentence();
-        let start = format!("wide: refused {number}: {sentence}: ");
+        let (start, end) = (
+            format!("wide: refused {number}: "),
+            format!(" ({sentence})\n"),
+        );
         let mut lines: Vec<&str> = ended.text().split_inclusive('\n').collect();
         // On entry it is refused before the others are checked, else after twelve instances.
         let told = lines.remove(if number == 13 { 1 } else { 0 });
         assert!(told.starts_with(&start), "{start:?}, {ended:?}");
+        assert!(told.ends_with(&end), "{end:?}, {ended:?}");
         assert_eq!(
             told.matches("wide").count(),
             if number == 11 { 2 } else { 1 }
@@ -164,11 +168,11 @@ fn one_of_several_is_refused() {
     assert_eq!(ended.text().lines().count(), 3);
     assert!(ended
         .text()
-        .contains("another y, message or circuit than the prover's"));
+        .contains("wide: refused 12: it does not hold: y is not what the prover's row gives, or"));
     let y = ALL.replace(Y32, "hex:f50100");
     let ended = folder.wv(&format!("{y} {BITS}"));
-    let line = "wide: refused 6: an input or a buffer does not have the length that is asked \
-                for: --y has 3 bytes, the circuit asks for 5";
+    let line = "wide: refused 6: --y has 3 bytes, the circuit asks for 5 (an input or a buffer \
+                does not have the length that is asked for)\n";
     assert!(ended.text().starts_with(line), "{ended:?}");
 }
 
@@ -185,8 +189,9 @@ fn for_a_program() {
     let expected = concat!(
         r#"{"accepted":false,"proofs":[{"proof":"long","accepted":true,"m":40,"tau":2,"n":2,"#,
         r#""bits":2.0,"refused":null,"message":null},{"proof":"short","accepted":false,"#,
-        r#""refused":11,"message":"refused 11: the proof does not begin with a proof's header: "#,
-        r#"short is no proof, or was cut or changed at its start"}],"#,
+        r#""refused":11,"message":"refused 11: short is no proof, or was cut or changed at its "#,
+        r#"start: `wv prove` makes one; the proof stands behind its circuit (the proof does not "#,
+        r#"begin with a proof's header)"}],"#,
         r#""refused":null,"message":"refused: 1 of 2 proofs"}"#,
         "\n"
     );

@@ -46,9 +46,9 @@ fn an_old_page() {
     proved(&folder);
     folder.write("page", &old);
     let before = folder.files();
-    let told =
-        "page is old, 2 draws behind: put the present page back, or if there is none begin a \
-                new one with `wv shelf new --lost`";
+    let told = "page is old, 2 draws behind: put the present page back; if there is none, first \
+                move this one away, then begin a new one with `wv shelf new page --log log \
+                --slots 255 --lost`, and stock it";
     let lines = "slots 3\nready 3\ndraws 0\nlog 2\npage old: 2 draws behind\n";
     stands(&folder, lines, |ended| ended.refused(15, told));
     folder.wv(PROVE).refused(15, told);
@@ -56,6 +56,47 @@ fn an_old_page() {
     stocked.refused(15, told);
     assert_eq!(stocked.text(), "stocked 0\n");
     assert_eq!(folder.files(), before);
+    // What is told, in its order.
+    let command = told.split('`').nth(1).expect("a command");
+    folder
+        .sh(command)
+        .mistaken("a page is not replaced: go on with it, or move it away first");
+    fs::rename(folder.path("page"), folder.path("old")).expect("it is moved");
+    folder.sh(command).says("");
+    folder.wv(STOCK).says("stocked 1\n");
+    proved(&folder);
+}
+
+/// Before a shelf is made, and when its page is lost.
+#[test]
+fn no_shelf() {
+    let folder = Folder::with_circuit("support_none");
+    let told = "log: the log is not there, nor is the shelf page page: name those of a shelf, or \
+                make a new one with `wv shelf new page --log log --slots 255`, and stock it";
+    for line in [STATUS, STOCK, PROVE] {
+        folder.wv(line).mistaken(told);
+    }
+    assert!(!folder.has("page") && !folder.has("log"));
+    let command = told.split('`').nth(1).expect("a command");
+    folder.sh(command).says("");
+    folder.wv(STOCK).says("stocked 1\n");
+    fs::remove_file(folder.path("page")).expect("it is there");
+    let told = "page: the shelf page is not there: put it back, or if it is lost begin a new one \
+                with `wv shelf new page --log log --slots 255 --lost`, and stock it";
+    for line in [STATUS, STOCK, PROVE] {
+        folder.wv(line).mistaken(told);
+    }
+    folder
+        .sh(told.split('`').nth(1).expect("a command"))
+        .says("");
+    folder.wv(STOCK).says("stocked 1\n");
+    proved(&folder);
+    // A page without its log is another matter.
+    fs::remove_file(folder.path("log")).expect("it is there");
+    folder.wv(PROVE).mistaken(
+        "log: the log is not there: name the log of this page; if it is lost, no page of this \
+         shelf can be trusted",
+    );
 }
 
 #[test]
@@ -154,8 +195,8 @@ fn a_page_changed_by_other_hands() {
     stands(&folder, lines, |ended| ended.unwanted(told));
     folder.wv(PROVE).unwanted(told);
     folder.write("page", &page[1..]);
-    let told = "page: put the present page back; if there is none, move this one away and begin \
-                a new one with `wv shelf new --lost`";
+    let told = "page: put the present page back; if there is none, first move this one away, \
+                then begin a new one with `wv shelf new page --log log --slots 255 --lost`";
     stands(&folder, "", |ended| ended.refused(14, told));
     folder.wv(PROVE).refused(14, told);
     folder.wv(STOCK).refused(14, told);
@@ -262,7 +303,10 @@ fn checks_for_programs() {
     folder.write("cut", &proof[..proof.len() - 1]);
     let check = check.replace("proof", "cut");
     let cut = folder.wv(&format!("{check} hex:f50100"));
-    cut.refused(12, "another y, message or circuit than the prover's");
+    cut.refused(
+        12,
+        "cut: it does not hold: y is not what the prover's row gives, or",
+    );
     let start = "{\"accepted\":false,\"refused\":12,\"message\":\"refused 12: ";
     assert!(cut.text().starts_with(start), "{cut:?}");
     assert!(cut.text().ends_with("\"}\n"), "{cut:?}");
@@ -275,9 +319,9 @@ fn circuits_for_programs() {
     refused.refused(1, "row");
     assert_eq!(
         refused.text(),
-        "{\"refused\":1,\"message\":\"refused 1: the circuit's length is not what its header asks \
-         for: row: this is no circuit file: `wv build` makes one from a statement, `wv convert` \
-         from a Bristol Fashion text\"}\n"
+        "{\"refused\":1,\"message\":\"refused 1: row: this is no circuit file: `wv build` makes one \
+         from a statement, `wv convert` from a Bristol Fashion text (the circuit's length is not \
+         what its header asks for)\"}\n"
     );
 }
 

@@ -102,7 +102,7 @@ pub struct Expected {
 
 pub const STATEMENT: Expected = Expected {
     typed: "the typed statement",
-    wanted: "statement: a statement is a text, and `wv help build` shows one",
+    wanted: "statement: `wv help build` shows one",
     looks: Kind::Statement,
 };
 
@@ -121,9 +121,17 @@ pub fn faulty(input: &Input, expected: &Expected, fault: &Fault) -> Failure {
     } = expected;
     let kind = Kind::of(&input.bytes);
     let may_be = [*looks, Kind::Text, Kind::Hex, Kind::Empty].contains(&kind);
-    let advice = match may_be {
-        true => String::new(),
-        false => format!("; {}", kind.instead_of(wanted)),
+    let name = input.name_or(typed);
+    let text = match may_be {
+        true => format!("{name}: {fault}"),
+        false => {
+            let what = kind.instead_of(wanted);
+            let order = match (looks, kind) {
+                (Kind::Statement, Kind::Values) => ", and values stand behind it",
+                _ => "",
+            };
+            format!("{name}: {what}{order} ({fault})")
+        }
     };
-    Failure::File(format!("{}: {fault}{advice}", input.name_or(typed)))
+    Failure::File(text)
 }

@@ -46,9 +46,10 @@ line with its name and its verdict is printed as soon as there is one. `--y` and
   --quota Q          check side by side, also a single proof, Q instances in a
                      call: 1 to 512, usually 512. Verdicts are told between two
                      calls, and every call reads the circuits again
-  --json             print an object with the keys accepted, m, tau, n, bits,
-                     refused and message; the last two are null when all is
-                     well. With a statement there is the key y, an object (side
+  --json             print an object with the keys accepted, refused and
+                     message; the last two are null when all is well. If the
+                     proof holds there are the keys m, tau, n and bits, and if
+                     it is accepted with a statement the key y, an object (side
                      by side: a list of these, each with the key proof too,
                      under the key proofs)
 
@@ -88,7 +89,7 @@ fn check(args: &Args, report: &mut Report) -> Result<(), Failure> {
         }
     }
     let claim = Claim {
-        circuit: Circuit::read(args, args.place(0))?,
+        circuit: Circuit::first(args)?,
         proof: args.input(args.place(1))?,
         y: args.input(y)?,
         message: args.input(message)?,
@@ -179,16 +180,13 @@ impl Claim {
                     "{proof}: {what}: `wv prove` makes one; the proof stands behind its circuit"
                 )
             }
-            Refusal::ProofHeader => {
-                format!("{proof} is no proof, or was cut or changed at its start")
-            }
-            Refusal::ProofLength => format!(
-                "{proof}: another y, message or circuit than the prover's, or a proof that was \
-                 cut or changed"
+            Refusal::ProofHeader => format!(
+                "{proof} is no proof, or was cut or changed at its start: `wv prove` makes one; \
+                 the proof stands behind its circuit"
             ),
             _ => format!(
-                "{proof}: another y, message or circuit than the prover's, or a proof that was \
-                 changed"
+                "{proof}: it does not hold: y is not what the prover's row gives, or message or \
+                 circuit are not the prover's, byte for byte, or the proof was cut or changed"
             ),
         })
     }

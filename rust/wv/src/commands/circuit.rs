@@ -9,10 +9,12 @@ use crate::args::Args;
 use crate::failure::Failure;
 use crate::input::{to_hex, Input};
 use crate::kind::Kind;
-use crate::names::counted;
+use crate::names::{counted, shown};
 use crate::output::{Taken, Target};
 use crate::report::Report;
 use std::ffi::OsStr;
+use std::fs;
+use std::path::Path;
 use wivulameno::circuit::{self, Sizes};
 use wivulameno::limits::{MAX_GATES, MAX_INPUTS, MAX_OUTPUTS};
 use wivulameno::Refusal;
@@ -33,8 +35,9 @@ chain, and tell the slot that holds the wrong link:
 A file of the old form is refused with 1 or 2: `wv upgrade` converts it.
 
   --json  print an object with the keys inputs, outputs, gates, ands, refused
-          and message; the last two are null when all is well. With 19, 20 and
-          21 there is the key slot, which is 0 for the head
+          and message; the last two are null when all is well. A circuit that is
+          refused has the last two alone, and with 19, 20 and 21 the key slot,
+          which is 0 for the head
 ",
     example: "  wv circuit covers16.circuit\n",
     places: 1,
@@ -132,6 +135,12 @@ fn torn(bytes: &[u8]) -> Option<String> {
     })
 }
 
+/// Does this name lead to a file that is a circuit?
+fn is_circuit_file(value: &OsStr) -> bool {
+    let is_file = Path::new(value).is_file();
+    is_file && fs::read(value).is_ok_and(|bytes| circuit::read(&bytes).is_ok())
+}
+
 /// A circuit that the library reads.
 pub struct Circuit {
     input: Input,
@@ -143,6 +152,21 @@ impl Circuit {
     /// Refused with 1, 2, 3, 5, 19, 20 or 21.
     pub fn read(args: &Args, value: &OsStr) -> Result<Circuit, Failure> {
         Circuit::of(args.input(value)?)
+    }
+
+    /// The circuit at the first place. One that stands at the second is told.
+    pub fn first(args: &Args) -> Result<Circuit, Failure> {
+        let first = args.input(args.place(0))?;
+        let name = first.name_or("the typed circuit").to_string();
+        let is = Kind::of(&first.bytes).instead_of("circuit");
+        Circuit::of(first).map_err(|failure| match failure {
+            Failure::Refused(refusal, _) if is_circuit_file(args.place(1)) => {
+                let second = shown(args.place(1));
+                let cause = format!("{name}: {is}, and {second} is one: the circuit stands first");
+                Failure::Refused(refusal, cause)
+            }
+            other => other,
+        })
     }
 
     fn of(input: Input) -> Result<Circuit, Failure> {
@@ -252,7 +276,7 @@ length, 7 for unused bits in its last byte.
 };
 
 fn evaluate(args: &Args, _: &mut Report) -> Result<(), Failure> {
-    let circuit = Circuit::read(args, args.place(0))?;
+    let circuit = Circuit::first(args)?;
     let asked = Asked::of_circuit(args, &circuit)?;
     let witness = witness::read(args, args.place(1), asked.as_ref())?.input;
     let mut taken = circuit.taken();

@@ -4,7 +4,7 @@ use crate::args::{path, Args};
 use crate::failure::{tell, Failure};
 use crate::input::LIMIT;
 use crate::kind::Kind;
-use crate::names::{counted, shown};
+use crate::names::{as_word, counted, shown};
 use crate::output::Taken;
 use crate::place::{end_of_links, Place};
 use crate::progress::Progress;
@@ -24,12 +24,16 @@ const PAUSE: Duration = Duration::from_millis(20);
 const BEGIN_AGAIN: &str = "no page of this shelf can be trusted: delete all its pages, and make a \
                            new shelf with a new log and new roots";
 
-/// What a file is that should be one of a shelf, if that can be told.
-fn other_file(path: &Path, wanted: Kind) -> Option<String> {
+fn kind_of(path: &Path) -> Option<Kind> {
     let mut bytes = vec![];
     let file = File::open(path).ok()?;
     file.take(LIMIT).read_to_end(&mut bytes).ok()?;
-    let kind = Kind::of(&bytes);
+    Some(Kind::of(&bytes))
+}
+
+/// What a file is that should be one of a shelf, if that can be told.
+fn other_file(path: &Path, wanted: Kind) -> Option<String> {
+    let kind = kind_of(path)?;
     let told = kind
         .told()
         .filter(|_| ![wanted, Kind::Empty].contains(&kind))?;
@@ -184,6 +188,19 @@ impl ShelfFiles {
                 "{}: another process has the shelf open: `--wait SECONDS` waits for it",
                 shown(&self.log)
             )),
+            Trouble::NotALog if self.are_swapped() => Failure::File(format!(
+                "{} is a shelf page, and {} is a log: they stand in each other's place, and the \
+                 log belongs behind --log",
+                shown(&self.log),
+                shown(&self.page)
+            )),
+            Trouble::Missing(Name::Log) if !self.page.exists() => Failure::File(format!(
+                "{}, nor is the shelf page {}: name those of a shelf, or make a new one with \
+                 `{}`, and stock it",
+                self.told(&trouble),
+                shown(&self.page),
+                self.command("")
+            )),
             Trouble::Missing(Name::Log) | Trouble::NotALog => Failure::File(format!(
                 "{}{}: name the log of this page; if it is lost, {BEGIN_AGAIN}",
                 self.told(&trouble),
@@ -191,14 +208,36 @@ impl ShelfFiles {
                     .map_or(String::new(), |other| format!(", {other}"))
             )),
             Trouble::Missing(Name::Page) => Failure::File(format!(
-                "{}: put it back, or if it is lost begin a new one with `wv shelf new --lost`",
-                self.told(&trouble)
+                "{}: put it back, or if it is lost begin a new one with `{}`, and stock it",
+                self.told(&trouble),
+                self.command(" --lost")
             )),
             Trouble::Damaged { .. } => {
                 Failure::File(format!("{}: {BEGIN_AGAIN}", self.told(&trouble)))
             }
             other => Failure::File(self.told(&other)),
         }
+    }
+
+    /// Are page and log in each other's place?
+    fn are_swapped(&self) -> bool {
+        let kinds = [&self.page, &self.log].map(|path| kind_of(path));
+        kinds == [Some(Kind::Log), Some(Kind::Page)]
+    }
+
+    /// The command that makes a page here.
+    fn command(&self, how: &str) -> String {
+        let [page, log] = [&self.page, &self.log].map(as_word);
+        format!("wv shelf new {page} --log {log} --slots 255{how}")
+    }
+
+    /// What to do if the present page is not found.
+    fn begin_a_page(&self) -> String {
+        format!(
+            "put the present page back; if there is none, first move this one away, then begin \
+             a new one with `{}`, and stock it",
+            self.command(" --lost")
+        )
     }
 
     /// The file's path, and what is wrong with it.
@@ -231,10 +270,7 @@ impl ShelfFiles {
                     "{page}: {other}: name the page, and its log behind --log, or put the \
                      present page back"
                 ),
-                None => format!(
-                    "{page}: put the present page back; if there is none, move this one away \
-                     and begin a new one with `wv shelf new --lost`"
-                ),
+                None => format!("{page}: {}", self.begin_a_page()),
             },
             Refusal::Empty => format!("{page}: `wv shelf stock` puts more on it"),
             Refusal::Full => format!("{page}: every slot holds a root, so none is needed now"),
@@ -249,9 +285,9 @@ impl ShelfFiles {
         let counted_15 = |cause| Failure::Refused(Refusal::AnotherCount, cause);
         match standing {
             Standing::Behind { draws } => counted_15(format!(
-                "{page} is old, {} behind: put the present page back, or if there is none begin \
-                 a new one with `wv shelf new --lost`",
-                counted(draws, "draw")
+                "{page} is old, {} behind: {}",
+                counted(draws, "draw"),
+                self.begin_a_page()
             )),
             Standing::Ahead { draws } => counted_15(format!(
                 "{log} was set back, {} behind {page}: {BEGIN_AGAIN}",

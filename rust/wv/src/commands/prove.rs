@@ -146,7 +146,7 @@ impl Wish {
             tau: args.number("chosen")?.unwrap_or(USUAL.tau),
             n: args.number("parties")?.unwrap_or(USUAL.n),
         };
-        let circuit = Circuit::read(args, args.place(0))?;
+        let circuit = Circuit::first(args)?;
         let asked = Asked::of_circuit(args, &circuit)?;
         let witness = witness::read(args, args.place(1), asked.as_ref())?;
         let Witness {

@@ -133,7 +133,7 @@ that has the shelf open.
                   (present, earlier, behind, ahead, set_back, replaced, foreign,
                   unknown), stockings_missing, draws_missing, draws_ahead,
                   unfinished, refused and message; the last two are null when
-                  all is well
+                  all is well, and alone there if the files cannot be read
   --wait SECONDS  how long to wait for the end of an unfinished call
 
 A page that cannot be drawn from ends with exit status 1, and with a sentence on

@@ -206,14 +206,18 @@ impl Ended {
         self.has_line(part);
     }
 
-    /// Refused with this number and its sentence on standard error, and then with
-    /// what it is about.
+    /// Refused with this number and what it is about on standard error, and then with the
+    /// number's sentence.
     pub fn refused(&self, number: u32, part: &str) {
         assert_eq!(self.status, 1, "{self:?}");
         let sentence = wivulameno::Refusal::of(number).sentence();
-        let start = format!("wv: refused {number}: {sentence}: ");
+        let start = format!("wv: refused {number}: ");
         let cause = self.err.strip_prefix(&start);
         let cause = cause.unwrap_or_else(|| panic!("{start:?} does not begin {self:?}"));
+        let cause = cause.strip_suffix(&format!(" ({sentence})\n"));
+        let cause = cause.unwrap_or_else(|| panic!("{sentence:?} does not end {self:?}"));
+        // A part can ask for the end of it by a line's end.
+        let cause = format!("{cause}\n");
         assert!(cause.contains(part), "{part:?} is not in {self:?}");
         assert_eq!(self.err.lines().count(), 1, "{self:?}");
     }
