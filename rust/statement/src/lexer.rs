@@ -61,7 +61,7 @@ fn utf8(text: &[u8]) -> Result<&str, Fault> {
     std::str::from_utf8(text).map_err(|error| {
         let before = String::from_utf8_lossy(&text[..error.valid_up_to()]);
         let place = before.chars().fold(Place::START, after);
-        place.fault("a byte that is no text in UTF-8: save the text so")
+        place.fault("a byte that is no UTF-8: save the text as UTF-8")
     })
 }
 

@@ -101,17 +101,27 @@ impl Parser {
     /// was taken for a name.
     fn no_part(&self) -> Fault {
         let fault = self.expected("`row`, `let` or `show`");
-        if let Some((token @ Token::Name(before), place)) = self.before() {
+        let before = self.before().filter(|(token, _)| !self.gets_meaning(token));
+        if let Some((token @ Token::Name(before), place)) = before {
             let foreign = || slips::word(before).map(String::from);
             if let Some(advice) = small_letters(token).or_else(foreign) {
                 return place.fault(format!("`{before}` cannot stand here: {advice}"));
             }
         }
-        let Token::Name(name) = self.next() else {
-            return fault;
+        let name = match self.next() {
+            Token::Name(name) => name,
+            Token::Fixed("(") if matches!(self.before(), Some((Token::Name(_), _))) => {
+                return advised(fault, "there are no functions");
+            }
+            _ => return fault,
         };
         match (slips::word(name), self.behind()) {
             (Some(advice), _) => advised(fault, advice),
+            (None, Token::Fixed("=")) => {
+                let advice =
+                    format!("`let {name} = ..` gives a part a name, `show {name} = ..` shows it");
+                advised(fault, &advice)
+            }
             (None, Token::Fixed(":")) if self.at == 0 => {
                 let advice = format!("fields stand behind `row`, as `row {name}: 16`");
                 advised(fault, &advice)
@@ -122,6 +132,12 @@ impl Parser {
             ),
             _ => fault,
         }
+    }
+
+    /// Is this a name with a meaning, of a field, a `let` or a `show`?
+    fn gets_meaning(&self, token: &Token) -> bool {
+        let mut pairs = self.tokens.windows(2);
+        pairs.any(|pair| pair[0].0 == *token && matches!(pair[1].0, Token::Fixed(":" | "=")))
     }
 
     /// The token before the next one.
@@ -197,6 +213,10 @@ impl Parser {
     }
 
     fn shown(&mut self) -> Result<(Name, Option<Value>), Fault> {
+        if *self.next() == Token::Fixed("(") {
+            let advice = "what is computed is shown under a name of its own: `show name = ..`";
+            return Err(advised(self.expected("the name of what is shown"), advice));
+        }
         let name = self.name("the name of what is shown")?;
         let value = match self.take("=") {
             true => Some(self.value()?),

@@ -116,7 +116,7 @@ fn in_statement<'a>(
         _ if is_comment(text) => COMMENT,
         _ if is_dash(char) && is_range(before) => "a range is written `in (1 to 5)`",
         _ if is_dash(char) => {
-            "no number is negative: what is taken off one side is added on the other, and a name has `_`"
+            "no number is negative: `a - b >= c` is written `a >= b + c`, and a name has `_`"
         }
         '.' | '…' => "a number is whole, and a range is written `in (1 to 5)`",
         '*' | '×' | '·' => "there is no product: twice a number is the sum `a + a`",

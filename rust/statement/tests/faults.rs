@@ -51,7 +51,7 @@ fn words_and_signs() {
         ("row a: ^04 show a", "`04`: a number begins with no 0: write `4`"),
         ("row a: 4 show b = a in (^00)", "`00`: a number begins with no 0: write `0`"),
         ("row a: 4\nshow b = a < ^340282366920938463463374607431768211456", "`340282366920938463463374607431768211456` has more than 128 bits"),
-        ("row a: 4, b: 4 show c = a ^- b >= 3", "`-` cannot stand here: no number is negative: what is taken off one side is added on the other, and a name has `_`"),
+        ("row a: 4, b: 4 show c = a ^- b >= 3", "`-` cannot stand here: no number is negative: `a - b >= c` is written `a >= b + c`, and a name has `_`"),
         ("row a: 4 show b = ^! a == 3", "`!` cannot stand here: `not` stands before a condition, `!=` between two numbers"),
         ("row a: 4 show b = a == 3 ^&& a == 4", "`&` cannot stand here: write `and`"),
         ("row a: 4 show b = a == 3 ^|| a == 4", "`|` cannot stand here: write `or`"),
@@ -76,7 +76,7 @@ fn words_and_signs() {
     ]);
     assert_fault(
         b"row a: 4\n# ^\xff\nshow a",
-        "a byte that is no text in UTF-8: save the text so",
+        "a byte that is no UTF-8: save the text as UTF-8",
     );
     // A column is a character, not a byte.
     assert_fault(
@@ -85,7 +85,7 @@ fn words_and_signs() {
     );
     assert_fault(
         b"row a: 4 # \xc3\xbc^\xff",
-        "a byte that is no text in UTF-8: save the text so",
+        "a byte that is no UTF-8: save the text as UTF-8",
     );
 }
 
@@ -156,7 +156,7 @@ fn parts() {
         ),
         (
             "row a: 4 show ^(a)",
-            "the name of what is shown is expected, not `(`",
+            "the name of what is shown is expected, not `(`: what is computed is shown under a name of its own: `show name = ..`",
         ),
         (
             "row a: 4 show",
@@ -203,7 +203,7 @@ fn other_forms() {
         ),
         (
             "row best^-before: 16",
-            "`-` cannot stand here: no number is negative: what is taken off one side is added on the other, and a name has `_`",
+            "`-` cannot stand here: no number is negative: `a - b >= c` is written `a >= b + c`, and a name has `_`",
         ),
         (
             "^Row a: 4",
@@ -216,7 +216,7 @@ fn other_forms() {
 #[test]
 fn other_signs() {
     let row = "row a: 32, b: 32\nshow c = ";
-    let minus = "no number is negative: what is taken off one side is added on the other, and a name has `_`";
+    let minus = "no number is negative: `a - b >= c` is written `a >= b + c`, and a name has `_`";
     let range = "a range is written `in (1 to 5)`";
     let known = [
         ("a ^≥ b", "≥", "write `>=`"),
@@ -340,7 +340,21 @@ fn other_words() {
     for (rest, expected) in known {
         assert_fault(format!("row a: 4\n{rest}").as_bytes(), &expected);
     }
+    assert_faults(&[
+        (
+            "row a: 4\n^c = a > 3\nshow c",
+            "`row`, `let` or `show` is expected, not `c`: `let c = ..` gives a part a name, `show c = ..` shows it",
+        ),
+        (
+            "row a: 4\nshow c = min^(a, 3) > 2",
+            "`row`, `let` or `show` is expected, not `(`: there are no functions",
+        ),
+    ]);
     // They are names like others.
+    assert_fault(
+        b"row if: 4\nshow if ^5",
+        "`row`, `let` or `show` is expected, not `5`",
+    );
     assert!(build(b"row if: 4, bits: 4\nshow is = if >= bits").is_ok());
 }
 

@@ -169,7 +169,8 @@ fn a_circuit_of_another_statement() {
 #[test]
 fn a_row_without_its_statement() {
     let folder = folder("rows_alone");
-    let told = "covered.row is a packed row: `--statement STATEMENT` says what is asked of it";
+    let told =
+        "covered.row is a packed row, which goes with a statement: add `--statement STATEMENT`";
     for line in [
         evaluate("covered", "covered.row"),
         prove("covered", "covered.row"),
@@ -297,7 +298,7 @@ fn bare_bits_for_a_joined_circuit() {
     assert_eq!(joined.status, 0, "{joined:?}");
     folder
         .wv("evaluate both.circuit covered.row")
-        .mistaken("`wv row --bare` packs the bits alone, for a circuit of another source");
+        .mistaken("for a circuit of another source `wv row --bare` packs the bits alone");
     // 501 in 17 bits, twice: 501 + 501 * 2^17 = 0x3ea01f5.
     folder
         .wv("evaluate both.circuit covered.bits")

@@ -30,8 +30,8 @@ fn bits(input: &Input, asked: Option<&Asked>) -> Result<Vec<u8>, Failure> {
     let name = input.name_or("the typed witness");
     let Some(asked) = asked else {
         return Err(Failure::Usage(format!(
-            "{name} is a packed row: `--statement STATEMENT` says what is asked of it; `wv row \
-             --bare` packs the bits alone, for a circuit of another source"
+            "{name} is a packed row, which goes with a statement: add `--statement STATEMENT`; for \
+             a circuit of another source `wv row --bare` packs the bits alone"
         )));
     };
     let wrong = |fault| not_taken(name, asked.name(), fault);
