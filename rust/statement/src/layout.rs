@@ -42,11 +42,9 @@ impl Slot {
             (_, Token::Number(number)) if *number <= greatest => Ok(*number),
             (Shape::Condition, _) => Err(format!("`{name}` is yes or no, not {token}")),
             (Shape::Number, Token::Number(_)) => {
-                let bits = self.width;
-                let bits = if bits == 1 {
-                    "1 bit".into()
-                } else {
-                    format!("{bits} bits")
+                let bits = match self.width {
+                    1 => "1 bit".into(),
+                    width => format!("{width} bits"),
                 };
                 Err(format!("`{name}` is at most {greatest}: it has {bits}"))
             }

@@ -42,8 +42,7 @@ impl fmt::Display for RowFault {
             RowFault::Fields(difference) => difference.fmt(f),
             RowFault::Length { found, asked } => write!(
                 f,
-                "it has {found} bytes behind its first line, and its fields ask for {asked}: it \
-                 was cut off or changed"
+                "it has {found} of {asked} bytes behind its first line: it was cut off or changed"
             ),
         }
     }

@@ -154,7 +154,7 @@ fn damage() {
     let fault = bits_of_row_file(&long, &goods).expect_err("one byte too many");
     assert_eq!(
         fault.to_string(),
-        "it has 5 bytes behind its first line, and its fields ask for 4: it was cut off or changed"
+        "it has 5 of 4 bytes behind its first line: it was cut off or changed"
     );
 }
 

@@ -536,7 +536,7 @@ fn a_value_is_missing() {
         .mistaken("`--out` is needed: --out CIRCUIT, where the circuit goes");
     folder
         .wv("check covers16.circuit row --message text:a")
-        .mistaken("`--y` is needed: --y Y, the claimed output");
+        .mistaken("`--y` is needed: --y Y, the claimed output, as `wv claim` packs it");
     assert_eq!(folder.draws(), 0);
 }
 

@@ -209,13 +209,13 @@ fn a_damaged_row() {
         ),
         (
             row[..43].to_vec(),
-            "it has 3 bytes behind its first line, and its fields ask for 4: it was cut off or \
-             changed: `wv row` packs it again",
+            "it has 3 of 4 bytes behind its first line: it was cut off or changed: `wv row` packs it \
+             again",
         ),
-        (row[..40].to_vec(), "it has 0 bytes behind its first line"),
+        (row[..40].to_vec(), "it has 0 of 4 bytes behind its first line"),
         (
             [&row[..], &[0]].concat(),
-            "it has 5 bytes behind its first line",
+            "it has 5 of 4 bytes behind its first line",
         ),
     ];
     for (bytes, told) in known {

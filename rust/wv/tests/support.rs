@@ -307,6 +307,10 @@ fn checks_for_programs() {
         12,
         "cut: it does not hold: y is not what the prover's row gives, or",
     );
+    // The keys of a refusal are those that the help tells.
+    let help = folder.wv("help check");
+    let told = "an object with the keys accepted, refused and";
+    assert!(help.text().contains(told), "{help:?}");
     let start = "{\"accepted\":false,\"refused\":12,\"message\":\"refused 12: ";
     assert!(cut.text().starts_with(start), "{cut:?}");
     assert!(cut.text().ends_with("\"}\n"), "{cut:?}");

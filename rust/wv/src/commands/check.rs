@@ -35,7 +35,7 @@ of each in turn, so that a long one does not hold up the rest. For each proof a
 line with its name and its verdict is printed as soon as there is one. `--y` and
 `--message` are given once for all, or once for each in the order of the proofs.
 
-  --y Y              the claimed output
+  --y Y              the claimed output, as `wv claim` packs it
   --message MESSAGE  the message that the proof is bound to
   --statement STATEMENT
                      print what the statement shows, a line `name=value` each;

@@ -36,7 +36,8 @@ bits.
   --log LOG          the file that counts its draws
   --message MESSAGE  up to 4096 bytes, as 'text:order 4711' or a file
   --out PROOF        where the proof goes
-  --y Y              the claimed output; without it, what the circuit gives
+  --y Y              the claimed output, as `wv claim` packs it; without it,
+                     what the circuit gives
   --statement STATEMENT
                      print what the proof shows, a line `name=value` each; the
                      circuit has to be the statement's, and a packed row has to
