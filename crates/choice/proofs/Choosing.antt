@@ -7,58 +7,120 @@ use mathlib.Core.Path.{_≡_, refl, sym, ap, ap₂, _∙_}
 use mathlib.Core.Bool.{Bool, true, false}
 use mathlib.Core.List.{List, [], _∷_, _++_, append-assoc, append-nil}
 use Prim.Native.Nat.{ℕ, zero, suc, _+_, _-_, _*_, _%_, _≤_, _<_}
-use lib.ListN.{length, getD, set, take, drop, replicate, length-replicate, length-append, length-drop, drop-of-length-le}
-use lib.Seq.{sets, sets-eq, length-sets, length-take-le, take-at, take-suc, drop-cons, take-all, set-split, append-snoc}
+use lib.ListN.{length, getD, set, take, drop, replicate, length-replicate, length-append, length-drop, drop-of-length-le, List·getD-append}
+use lib.Seq.{sets, sets-eq, length-sets, length-take-le, take-at, take-suc, take-suc-set, take-set-lt, getD-take, getD-set-other, set-append-seam, drop-cons, take-all, append-snoc}
 use Rattle.bits.specs.Bytes.{leAt, leBytes}
 use Rattle.bits.proofs.Little.{sets-append, length-leBytes, leBytes-lt}
 use Rattle.keccak.specs.declared.sponge.Sponge.{Sponge}
-use Rattle.keccak.specs.declared.sponge.Squeezed.{Squeezed}
-use Rattle.keccak.specs.declared.sponge.SqueezedNumber.{SqueezedNumber}
 use Rattle.keccak.specs.Sponge.{shake256}
-use Rattle.keccak.specs.Steps.{padded, squeezeByte, squeezes, squeezed, squeezeNumber}
+use Rattle.keccak.specs.Steps.{padded, squeezes}
 use Rattle.keccak.proofs.Absorbing.{Bytes}
-use Rattle.keccak.proofs.Steps.{squeezes-length, squeezed-room}
 use Rattle.keccak.proofs.Squeezing.{shake256-steps}
 use Rattle.hashing.specs.Inputs.{boundOf, challengeInput}
 use Rattle.choice.specs.Challenge.{choose, drawn, chosenFrom, partiesOf, beside, instances, hiddenParties, streamOf, challengeOf}
-use Rattle.choice.specs.Steps.{ready}
+use Rattle.choice.specs.Steps.{ready, Room}
 use Rattle.hashing.proofs.Hashes.{bytes-append, bytes-one}
-use Rattle.choice.proofs.Streams.{byte-at, number-at, after-byte, after-number, rest-at}
 
--- one more flag is passed, which leaves what is to be done at b
-passed : (f : List Bool) (i left left′ x : ℕ) (b : Bool) → i < length f → getD f i false ≡ b
-    → ((r : List Bool) → choose left (b ∷ r) ≡ b ∷ choose left′ r)
-    → take i f ++ choose left (drop i f) ≡ choose x f
-    → take (i + 1) f ++ choose left′ (drop (i + 1) f) ≡ choose x f
-passed f i left left′ x b h e step inv =
-    rw (add-one i, take-suc f i false h, e)
-    (append-snoc (take i f) b (choose left′ (drop (suc i) f))
-    ∙ (ap (λ (z : List Bool). take i f ++ z) (sym (step (drop (suc i) f)))
-    ∙ (ap (λ (z : List Bool). take i f ++ choose left z) (sym (drop-cons f i false h ∙ ap (λ (z : Bool). z ∷ drop (suc i) f) e)) ∙ inv)))
+-- the chosen instance at place j is i + j or above
+chosen-least : (i : ℕ) (f : List Bool) (j : ℕ) → j < length (chosenFrom i f) → i + j ≤ getD (chosenFrom i f) j 0
+unfolding chosenFrom
+chosen-least i [] j h = absurd (omega arith)
+chosen-least i (true ∷ f) zero h = omega arith
+chosen-least i (true ∷ f) (suc j) h = omega (arith, chosen-least (i + 1) f j (omega arith))
+chosen-least i (false ∷ f) j h = omega (arith, chosen-least (i + 1) f j h)
 
-pub pass-chosen : (f : List Bool) (i left x : ℕ) → i < length f → getD f i false ≡ true
-    → take i f ++ choose left (drop i f) ≡ choose x f → take (i + 1) f ++ choose left (drop (i + 1) f) ≡ choose x f
-unfolding choose
-pass-chosen f i left x h e inv = passed f i left left x true h e (λ r. refl) inv
+-- the instance at place x among the others goes behind the k chosen ones that are below it
+put-chosen : (i x : ℕ) (f : List Bool) (k : ℕ) → x + length (chosenFrom i f) < length f → k ≤ length (chosenFrom i f)
+    → ((j : ℕ) → suc j ≡ k → getD (chosenFrom i f) j 0 < i + x + k) → (k < length (chosenFrom i f) → i + x + k < getD (chosenFrom i f) k 0)
+    → take k (chosenFrom i f) ++ ((i + x + k) ∷ drop k (chosenFrom i f)) ≡ chosenFrom i (choose x f)
+unfolding chosenFrom choose
+put-chosen i x [] k h w b a = absurd (omega arith)
+put-chosen i x (true ∷ f) zero h w b a = absurd (omega (arith, a (omega arith)))
+put-chosen i x (true ∷ f) (suc k) h w b a =
+    let e : i + x + suc k ≡ i + 1 + x + k = omega arith in
+    ap (λ (z : List ℕ). i ∷ z)
+    (ap (λ (v : ℕ). take k (chosenFrom (i + 1) f) ++ (v ∷ drop k (chosenFrom (i + 1) f))) e
+    ∙ put-chosen (i + 1) x f k (omega arith) (omega arith) (λ j q. omega (arith, b (suc j) (ap suc q))) (λ q. omega (arith, a (omega arith))))
+put-chosen i zero (false ∷ f) zero h w b a = let e : i + 0 + 0 ≡ i = omega arith in ap (λ (v : ℕ). v ∷ chosenFrom (i + 1) f) e
+put-chosen i zero (false ∷ f) (suc k) h w b a = absurd (omega (arith, b k refl, chosen-least (i + 1) f k (omega arith)))
+put-chosen i (suc x) (false ∷ f) k h w b a =
+    let e : i + suc x + k ≡ i + 1 + x + k = omega arith in
+    ap (λ (v : ℕ). take k (chosenFrom (i + 1) f) ++ (v ∷ drop k (chosenFrom (i + 1) f))) e
+    ∙ put-chosen (i + 1) x f k (omega arith) w (λ j q. omega (arith, b j q)) (λ q. omega (arith, a q))
 
-pub pass-free : (f : List Bool) (i left x : ℕ) → i < length f → getD f i false ≡ false → (left ≡ 0 → ⊥)
-    → take i f ++ choose left (drop i f) ≡ choose x f → take (i + 1) f ++ choose (left - 1) (drop (i + 1) f) ≡ choose x f
-unfolding choose
-pass-free f i left x h e more inv =
-    let one : left ≡ suc (left - 1) = omega (arith, add-one (left - 1), more) in
-    passed f i left (left - 1) x false h e (λ r. ap (λ (y : ℕ). choose y (false ∷ r)) one) inv
+-- room for one more among the first t, from place t down
+module _ (t x : ℕ) (cs : List ℕ) where
+  -- the first t
+  abbrev C : List ℕ
+  C = take t cs
 
-pub pass-found : (f : List Bool) (i left x : ℕ) → i < length f → getD f i false ≡ false → left ≡ 0
-    → take i f ++ choose left (drop i f) ≡ choose x f → set f i true ≡ choose x f
-unfolding choose
-pass-found f i left x h e none inv =
-    set-split f i true h
-    ∙ (sym (ap (λ (y : ℕ). take i f ++ choose y (drop i f)) none ∙ ap (λ (z : List Bool). take i f ++ choose 0 z) (drop-cons f i false h ∙ ap (λ (z : Bool). z ∷ drop (suc i) f) e)) ∙ inv)
+  pub record Moved (k : ℕ) (after : List ℕ) : Type 0 where
+    pub within : k ≤ t
+    pub above : k < t → x + k < getD C k 0
+    pub free : (v : ℕ) → take (t + 1) (set after k v) ≡ take k C ++ (v ∷ drop k C)
 
-pub pass-end : (f : List Bool) (i left x : ℕ) → length f ≤ i → take i f ++ choose left (drop i f) ≡ choose x f → f ≡ choose x f
-unfolding choose
-pass-end f i left x h inv =
-    sym (ap (λ (z : List Bool). take i f ++ choose left z) (drop-of-length-le f {i = i} h) ∙ (append-nil (take i f) ∙ take-all i f h)) ∙ inv
+  pub moved-none : t < length cs → Moved t cs
+  moved-none h =
+      let l : length C ≡ t = length-take-le t cs (omega arith) in
+      record {
+        within = omega arith;
+        above = λ q. absurd (omega arith);
+        free = λ v. rw (add-one t, take-suc-set cs t v h, take-all t C (omega (arith, l)), drop-of-length-le C {i = t} (omega (arith, l))) refl;
+      }
+
+  -- what is not moved yet
+  moved-next : (k : ℕ) (after : List ℕ) → t < length cs → Moved (suc k) after → getD after k 0 ≡ getD C k 0
+  moved-next k after h m =
+      let l : length C ≡ t = length-take-le t cs (omega arith) in
+      sym (getD-take (t + 1) (set after (suc k) 0) k 0 (omega (arith, m .within)) ∙ getD-set-other after (suc k) k 0 0 (omega arith))
+      ∙ (ap (λ (z : List ℕ). getD z k 0) (m .free 0)
+      ∙ (List·getD-append (take (suc k) C) (0 ∷ drop (suc k) C) 0 k (omega (arith, length-take-le (suc k) C (omega (arith, l, m .within)))) ∙ getD-take (suc k) C k 0 (omega arith)))
+
+  -- one more goes up
+  moved-more : (k : ℕ) (after : List ℕ) → t < length cs → Moved (suc k) after → x + k < getD after k 0 → Moved k (set after (suc k) (getD after k 0))
+  moved-more k after h m a =
+      let l : length C ≡ t = length-take-le t cs (omega arith) in
+      let w : k < length C = omega (arith, l, m .within) in
+      let c : ℕ = getD C k 0 in
+      let e : getD after k 0 ≡ c = moved-next k after h m in
+      let p : length (take k C) ≡ k = length-take-le k C (omega arith) in
+      let d : take (t + 1) (set after (suc k) c) ≡ take k C ++ (c ∷ c ∷ drop (suc k) C) =
+      m .free c ∙ (ap (λ (z : List ℕ). z ++ (c ∷ drop (suc k) C)) (take-suc C k 0 w) ∙ append-snoc (take k C) c (c ∷ drop (suc k) C)) in
+      record {
+        within = omega (arith, m .within);
+        above = λ q. omega (arith, e, a);
+        free = λ v. rw (e, take-set-lt (t + 1) (set after (suc k) c) k v (omega (arith, m .within)), d)
+            (ap (λ (i : ℕ). set (take k C ++ (c ∷ c ∷ drop (suc k) C)) i v) (sym p)
+            ∙ (set-append-seam (take k C) c (c ∷ drop (suc k) C) v ∙ ap (λ (z : List ℕ). take k C ++ (v ∷ z)) (sym (drop-cons C k 0 w))));
+      }
+
+  -- the same by the number of those that are not moved yet
+  pub moved-down : (k : ℕ) (after : List ℕ) → t < length cs → 0 < k → Moved k after → x + k ≤ getD after (k - 1) 0 → Moved (k - 1) (set after k (getD after (k - 1) 0))
+  moved-down zero after h p m a = absurd (omega arith)
+  moved-down (suc k) after h p m a =
+      let e : suc k - 1 ≡ k = omega arith in
+      let b : x + suc k ≤ getD after k 0 = rw e at a in
+      rw e (moved-more k after h m (omega (arith, b)))
+
+  -- those that stay are below
+  pub room-below : (k : ℕ) (after : List ℕ) → t < length cs → Moved k after → ((j : ℕ) → suc j ≡ k → getD after j 0 < x + k) → Room t x cs k after
+  room-below k after h m b =
+      record {
+        within = m .within;
+        below = λ j q. rw (sym (moved-next j after h (rw (sym q) at m))) (b j q);
+        above = m .above;
+        free = m .free;
+      }
+
+  -- the new one in its place
+  pub room-put : (k : ℕ) (after : List ℕ) (f : List Bool) → t < length cs → Room t x cs k after → chosenFrom 0 f ≡ take t cs → x + t < length f
+      → take (t + 1) (set after k (x + k)) ≡ chosenFrom 0 (choose x f)
+  room-put k after f h r e w =
+      let l : length (chosenFrom 0 f) ≡ t = ap length e ∙ length-take-le t cs (omega arith) in
+      let z : 0 + x + k ≡ x + k = omega arith in
+      r .free (x + k)
+      ∙ (ap₂ (λ (v : ℕ) (c : List ℕ). take k c ++ (v ∷ drop k c)) (sym z) (sym e)
+      ∙ put-chosen 0 x f k (omega (arith, l)) (omega (arith, l, r .within)) (λ j q. rw (z, e) (r .below j q)) (λ q. rw (z, e) (r .above (omega (arith, l)))))
 
 -- how many are chosen
 abbrev count : List Bool → ℕ
@@ -90,6 +152,11 @@ count-none : (n : ℕ) → count (replicate n false) ≡ 0
 count-none zero = refl
 count-none (suc n) = count-none n
 
+none-chosen : (i n : ℕ) → chosenFrom i (replicate n false) ≡ []
+unfolding chosenFrom
+none-chosen i zero = refl
+none-chosen i (suc n) = none-chosen (i + 1) n
+
 pub length-drawn : (M : ℕ) (s : List ℕ) (t : ℕ) → length (drawn M s t) ≡ M
 unfolding drawn
 length-drawn M s zero = length-replicate M false
@@ -109,16 +176,6 @@ count-drawn M s (suc t) h =
 pub length-instances : (M : ℕ) (s : List ℕ) (t : ℕ) → t ≤ M → length (chosenFrom 0 (drawn M s t)) ≡ t
 length-instances M s t h = length-chosen 0 (drawn M s t) ∙ count-drawn M s t h
 
--- before the first draw
-pub drawn-none : (M : ℕ) (s : List ℕ) (f : List Bool) → f ≡ replicate M false → f ≡ drawn M s 0
-unfolding drawn
-drawn-none M s f e = e
-
--- one draw more
-pub drawn-more : (M : ℕ) (s : List ℕ) (t : ℕ) → choose (leAt 8 s (8 * t) % (M - t)) (drawn M s t) ≡ drawn M s (t + 1)
-unfolding drawn
-drawn-more M s t = rw (add-one t)
-
 -- an instance beside its party
 pub write-pair : (out : List ℕ) (at i p : ℕ) → set (sets out at (leBytes 2 i)) (at + 2) p ≡ sets out at (leBytes 2 i ++ (p ∷ []))
 write-pair out at i p = sym (sets-append (leBytes 2 i) (p ∷ []) out at ∙ ap (λ (k : ℕ). set (sets out at (leBytes 2 i)) (at + k) p) (length-leBytes 2 i))
@@ -131,146 +188,70 @@ after-pair out at i p w =
     rw (sets-eq vs out at (omega arith))
     (take-at (take at out ++ vs) (drop (at + length vs) out) (at + 3) (length-append (take at out) vs ∙ omega (arith, length-take-le at out (omega arith))))
 
--- one more instance is chosen and written, or one more is passed
-module _ (f : List Bool) (n : ℕ) (bytes : List ℕ) where
-  pub record Written (out : List ℕ) (c i : ℕ) : Type 0 where
-    pub within : i ≤ length f
-    pub kept : length out ≡ 3 * length bytes
-    pub left : c + length (chosenFrom i (drop i f)) ≡ length bytes
-    pub so-far : take (3 * c) out ++ beside (chosenFrom i (drop i f)) (partiesOf n (drop c bytes)) ≡ beside (chosenFrom 0 f) (partiesOf n bytes)
+-- one more instance is written beside its party
+module _ (is : List ℕ) (n : ℕ) (bytes : List ℕ) where
+  pub record Written (out : List ℕ) (k : ℕ) : Type 0 where
+    pub within : k ≤ length is
+    pub kept : length out ≡ 3 * length is
+    pub so-far : take (3 * k) out ++ beside (drop k is) (partiesOf n (drop k bytes)) ≡ beside is (partiesOf n bytes)
 
-  pub written-none : (out : List ℕ) → length out ≡ 3 * length bytes → length (chosenFrom 0 f) ≡ length bytes → Written out 0 0
-  written-none out k e = record { within = omega arith; kept = k; left = omega (arith, e); so-far = refl }
+  pub written-none : (out : List ℕ) → length out ≡ 3 * length is → Written out 0
+  written-none out e = record { within = omega arith; kept = e; so-far = refl }
 
-  pub written-pass : (out : List ℕ) (c i : ℕ) → Written out c i → i < length f → getD f i false ≡ false → Written out c (i + 1)
-  unfolding chosenFrom
-  written-pass out c i w h e =
-      let d : drop i f ≡ false ∷ drop (i + 1) f = rw (add-one i) (drop-cons f i false h ∙ ap (λ (b : Bool). b ∷ drop (suc i) f) e) in
-      let q : chosenFrom i (drop i f) ≡ chosenFrom (i + 1) (drop (i + 1) f) = ap (chosenFrom i) d in
-      record { within = omega arith; kept = w .kept; left = rw q at (w .left); so-far = rw q at (w .so-far) }
-
-  pub some-left : (out : List ℕ) (c i : ℕ) → Written out c i → i < length f → getD f i false ≡ true → c < length bytes
-  unfolding chosenFrom
-  some-left out c i w h e =
-      let d : drop i f ≡ true ∷ drop (i + 1) f = rw (add-one i) (drop-cons f i false h ∙ ap (λ (b : Bool). b ∷ drop (suc i) f) e) in
-      let q : length (chosenFrom i (drop i f)) ≡ suc (length (chosenFrom (i + 1) (drop (i + 1) f))) = ap (λ (z : List Bool). length (chosenFrom i z)) d in
-      omega (arith, w .left)
-
-  pub written-more : (out out′ : List ℕ) (c i : ℕ) → Written out c i → i < length f → getD f i false ≡ true
-      → out′ ≡ sets out (3 * c) (leBytes 2 i ++ (getD bytes c 0 % n ∷ [])) → Written out′ (c + 1) (i + 1)
-  unfolding chosenFrom partiesOf beside
-  written-more out out′ c i w h e o =
-      let l : c < length bytes = some-left out c i w h e in
-      let d : drop i f ≡ true ∷ drop (i + 1) f = rw (add-one i) (drop-cons f i false h ∙ ap (λ (b : Bool). b ∷ drop (suc i) f) e) in
-      let q : chosenFrom i (drop i f) ≡ i ∷ chosenFrom (i + 1) (drop (i + 1) f) = ap (chosenFrom i) d in
-      let r : drop c bytes ≡ getD bytes c 0 ∷ drop (c + 1) bytes = rw (add-one c) (drop-cons bytes c 0 l) in
-      let p : ℕ = getD bytes c 0 % n in
-      let rest : List ℕ = beside (chosenFrom (i + 1) (drop (i + 1) f)) (partiesOf n (drop (c + 1) bytes)) in
-      let t : take (3 * (c + 1)) out′ ≡ take (3 * c) out ++ (leBytes 2 i ++ (p ∷ [])) =
-      let three : 3 * (c + 1) ≡ 3 * c + 3 = omega arith in
-      rw (o, three) (after-pair out (3 * c) i p (omega (arith, w .kept))) in
-      let s : take (3 * c) out ++ (leBytes 2 i ++ (p ∷ rest)) ≡ beside (chosenFrom 0 f) (partiesOf n bytes) = rw (q, r) at (w .so-far) in
+  pub written-more : (out out′ : List ℕ) (k : ℕ) → length bytes ≡ length is → Written out k → k < length is
+      → out′ ≡ sets out (3 * k) (leBytes 2 (getD is k 0) ++ (getD bytes k 0 % n ∷ [])) → Written out′ (k + 1)
+  unfolding partiesOf beside
+  written-more out out′ k l w h o =
+      let i : ℕ = getD is k 0 in
+      let p : ℕ = getD bytes k 0 % n in
+      let d : drop k is ≡ i ∷ drop (k + 1) is = rw (add-one k) (drop-cons is k 0 h) in
+      let r : drop k bytes ≡ getD bytes k 0 ∷ drop (k + 1) bytes = rw (add-one k) (drop-cons bytes k 0 (omega arith)) in
+      let rest : List ℕ = beside (drop (k + 1) is) (partiesOf n (drop (k + 1) bytes)) in
+      let three : 3 * (k + 1) ≡ 3 * k + 3 = omega arith in
+      let t : take (3 * (k + 1)) out′ ≡ take (3 * k) out ++ (leBytes 2 i ++ (p ∷ [])) = rw (o, three) (after-pair out (3 * k) i p (omega (arith, w .kept))) in
+      let s : take (3 * k) out ++ (leBytes 2 i ++ (p ∷ rest)) ≡ beside is (partiesOf n bytes) = rw (d, r) at (w .so-far) in
       record {
         within = omega arith;
-        kept = ap length o ∙ (length-sets out (3 * c) (leBytes 2 i ++ (p ∷ [])) ∙ w .kept);
-        left = omega (arith, rw q at (w .left));
+        kept = ap length o ∙ (length-sets out (3 * k) (leBytes 2 i ++ (p ∷ [])) ∙ w .kept);
         so-far = rw t (simp append-assoc s);
       }
 
-  pub written-all : (out : List ℕ) (c i : ℕ) → Written out c i → length f ≤ i → out ≡ beside (chosenFrom 0 f) (partiesOf n bytes)
-  unfolding chosenFrom beside
-  written-all out c i w h =
-      let d : drop i f ≡ [] = drop-of-length-le f {i = i} h in
-      let e : c ≡ length bytes = sym (omega (arith, rw d at (w .left))) in
-      sym (append-nil (take (3 * c) out) ∙ take-all (3 * c) out (omega (arith, w .kept))) ∙ rw d at (w .so-far)
+  pub written-all : (out : List ℕ) (k : ℕ) → Written out k → length is ≤ k → out ≡ beside is (partiesOf n bytes)
+  unfolding beside
+  written-all out k w h =
+      let d : drop k is ≡ [] = drop-of-length-le is {i = k} h in
+      sym (append-nil (take (3 * k) out) ∙ take-all (3 * k) out (omega (arith, w .kept))) ∙ rw d at (w .so-far)
 
--- the same, each party by the next byte of a sponge
-module _ (f : List Bool) (n : ℕ) (s₀ : Sponge) where
-  abbrev bytes : List ℕ
-  bytes = squeezes 136 (length (chosenFrom 0 f)) s₀
+-- instances drawn from the stream S
+module _ (M : ℕ) (S : List ℕ) where
+  -- one more, by the next 8 bytes
+  pub draw-more : (t v : ℕ) (c c′ : List ℕ) → t < M → v ≡ leAt 8 S (8 * t) → take t c ≡ chosenFrom 0 (drawn M S t)
+      → ((f : List Bool) → chosenFrom 0 f ≡ take t c → v % (M - t) + t < length f → take (t + 1) c′ ≡ chosenFrom 0 (choose (v % (M - t)) f))
+      → take (t + 1) c′ ≡ chosenFrom 0 (drawn M S (t + 1))
+  unfolding drawn
+  draw-more t v c c′ h n e g =
+      let l : v % (M - t) < M - t = mod-lt v (omega arith) in
+      g (drawn M S t) (sym e) (omega (arith, length-drawn M S t))
+      ∙ (ap (λ (y : ℕ). chosenFrom 0 (choose (y % (M - t)) (drawn M S t))) n ∙ ap (λ (k : ℕ). chosenFrom 0 (drawn M S k)) (sym (add-one t)))
 
-  pub record Chosen (out : List ℕ) (s : Sponge) (c i : ℕ) : Type 0 where
-    pub written : Written f n bytes out c i
-    pub after : s ≡ squeezed 136 c s₀
+  pub draw-none : (c : List ℕ) → take 0 c ≡ chosenFrom 0 (drawn M S 0)
+  unfolding drawn
+  draw-none c = sym (none-chosen 0 M)
 
-  pub chosen-none : (out : List ℕ) → length out ≡ 3 * length (chosenFrom 0 f) → Chosen out s₀ 0 0
-  unfolding squeezed
-  chosen-none out k =
-      let l : length bytes ≡ length (chosenFrom 0 f) = squeezes-length 136 (length (chosenFrom 0 f)) s₀ in
-      record { written = written-none f n bytes out (k ∙ ap (λ (y : ℕ). 3 * y) (sym l)) (sym l); after = refl }
+  pub draw-all : (t : ℕ) (c : List ℕ) → length c ≤ t → t ≤ length c → take t c ≡ chosenFrom 0 (drawn M S t) → c ≡ instances M (length c) S
+  unfolding instances
+  draw-all t c w h e = let n : t ≡ length c = omega arith in sym (take-all t c w) ∙ (e ∙ ap (λ (k : ℕ). chosenFrom 0 (drawn M S k)) n)
 
-  pub chosen-room : (out : List ℕ) (s : Sponge) (c i : ℕ) → s₀ .fill ≤ 136 → Chosen out s c i → s .fill ≤ 136
-  chosen-room out s c i h w = rw (w .after) (squeezed-room 136 (omega arith) c s₀ h)
-
-  pub chosen-kept : (out : List ℕ) (s : Sponge) (c i : ℕ) → Chosen out s c i → length out ≡ 3 * length (chosenFrom 0 f)
-  chosen-kept out s c i w = w .written .kept ∙ ap (λ (y : ℕ). 3 * y) (squeezes-length 136 (length (chosenFrom 0 f)) s₀)
-
-  pub chosen-left : (out : List ℕ) (s : Sponge) (c i : ℕ) → Chosen out s c i → i < length f → getD f i false ≡ true → 3 * c + 3 ≤ 3 * length (chosenFrom 0 f)
-  chosen-left out s c i w h e = let l = some-left f n bytes out c i (w .written) h e in omega (arith, squeezes-length 136 (length (chosenFrom 0 f)) s₀)
-
-  pub chosen-pass : (out : List ℕ) (s : Sponge) (c i : ℕ) → Chosen out s c i → i < length f → getD f i false ≡ false → Chosen out s c (i + 1)
-  chosen-pass out s c i w h e = record { written = written-pass f n bytes out c i (w .written) h e; after = w .after }
-
-  pub chosen-more : (out out′ : List ℕ) (s : Sponge) (q : Squeezed) (c i : ℕ) → Chosen out s c i → i < length f → getD f i false ≡ true
-      → q ≡ squeezeByte 136 s → out′ ≡ sets out (3 * c) (leBytes 2 i ++ (q .byte % n ∷ [])) → Chosen out′ (q .sponge) (c + 1) (i + 1)
-  chosen-more out out′ s q c i w h e g o =
-      let l = some-left f n bytes out c i (w .written) h e in
-      let k : c < length (chosenFrom 0 f) = omega (arith, squeezes-length 136 (length (chosenFrom 0 f)) s₀) in
-      let b : q .byte ≡ getD bytes c 0 =
-      ap (λ (z : Squeezed). z .byte) g ∙ (ap (λ (z : Sponge). squeezeByte 136 z .byte) (w .after) ∙ sym (byte-at (length (chosenFrom 0 f)) c s₀ k)) in
-      record {
-        written = written-more f n bytes out out′ c i (w .written) h e (o ∙ ap (λ (y : ℕ). sets out (3 * c) (leBytes 2 i ++ (y % n ∷ []))) b);
-        after = ap (λ (z : Squeezed). z .sponge) g ∙ after-byte c s₀ s (w .after);
-      }
-
-  pub chosen-all : (out : List ℕ) (s : Sponge) (c i : ℕ) → Chosen out s c i → length f ≤ i → out ≡ beside (chosenFrom 0 f) (partiesOf n bytes)
-  chosen-all out s c i w h = written-all f n bytes out c i (w .written) h
-
--- the first m of n copies
-pub take-same : {A : Type 0} (m n : ℕ) (x : A) → m ≤ n → take m (replicate n x) ≡ replicate m x
-take-same zero n x h = refl
-take-same (suc m) zero x h = absurd (omega arith)
-take-same (suc m) (suc n) x h = ap (λ (z : List _). x ∷ z) (take-same m n x (omega arith))
-
-pub length-same : {A : Type 0} (m n : ℕ) (x : A) → m ≤ n → length (take m (replicate n x)) ≡ m
-length-same m n x h = ap length (take-same m n x h) ∙ length-replicate m x
-
--- the lent flags, none of them set
-pub all-free : (m n : ℕ) → m ≤ n → take m (replicate n false) ≡ replicate (length (take m (replicate n false))) false
-all-free m n h = take-same m n false h ∙ ap (λ (k : ℕ). replicate k false) (sym (length-same m n false h))
-
--- t draws from the stream of a sponge
-module _ (M tau : ℕ) (s₀ : Sponge) where
-  -- the stream
-  abbrev S : List ℕ
-  S = squeezes 136 (9 * tau) s₀
-
-  -- one draw more, by the next 8 bytes
-  pub draw-more : (t : ℕ) (s : Sponge) (q : SqueezedNumber) (f f′ : List Bool) → t < tau → s ≡ squeezed 136 (8 * t) s₀ → f ≡ drawn M S t
-      → q ≡ squeezeNumber 136 s → f′ ≡ choose (q .number % (M - t)) f → f′ ≡ drawn M S (t + 1)
-  unfolding squeezeNumber
-  draw-more t s q f f′ w a e n g =
-      let v : q .number ≡ leAt 8 S (8 * t) =
-      ap (λ (z : SqueezedNumber). z .number) n ∙ (ap (λ (z : Sponge). leAt 8 (squeezes 136 8 z) 0) a ∙ sym (number-at (9 * tau) (8 * t) s₀ (omega arith))) in
-      g ∙ (ap₂ (λ (x : ℕ) (z : List Bool). choose (x % (M - t)) z) v e ∙ drawn-more M S t)
-
-  -- the sponge after it
-  pub draw-after : (t : ℕ) (s : Sponge) (q : SqueezedNumber) → s ≡ squeezed 136 (8 * t) s₀ → q ≡ squeezeNumber 136 s → q .sponge ≡ squeezed 136 (8 * (t + 1)) s₀
-  unfolding squeezeNumber
-  draw-after t s q a n = ap (λ (z : SqueezedNumber). z .sponge) n ∙ after-number t s₀ s a
-
-  -- the instances are chosen by the first 8 tau bytes, their parties by the bytes after these
-  pub chosen-is : (n : ℕ) (s : Sponge) (f : List Bool) (o : List ℕ) → tau ≤ M → f ≡ drawn M S tau → s ≡ squeezed 136 (8 * tau) s₀
-      → o ≡ beside (chosenFrom 0 f) (partiesOf n (squeezes 136 (length (chosenFrom 0 f)) s))
-      → o ≡ beside (instances M tau S) (hiddenParties tau n S)
-  unfolding instances hiddenParties
-  chosen-is n s f o w e a q =
-      let nine : 9 * tau ≡ 8 * tau + tau = omega arith in
-      let len : length (chosenFrom 0 f) ≡ tau = ap (λ (z : List Bool). length (chosenFrom 0 z)) e ∙ length-instances M S tau w in
-      let rest : drop (8 * tau) S ≡ squeezes 136 tau (squeezed 136 (8 * tau) s₀) =
-      ap (λ (k : ℕ). drop (8 * tau) (squeezes 136 k s₀)) nine ∙ rest-at (8 * tau) tau s₀ in
-      let bytes : squeezes 136 (length (chosenFrom 0 f)) s ≡ drop (8 * tau) S = ap₂ (squeezes 136) len a ∙ sym rest in
-      q ∙ ap₂ (λ (z : List Bool) (y : List ℕ). beside (chosenFrom 0 z) (partiesOf n y)) e bytes
+-- the instances are drawn by the first 8 bytes for each, their parties by the bytes after these
+pub chosen-is : (M n : ℕ) (bytes given cs chosen out : List ℕ) → given ≡ bytes → length bytes ≡ 9 * length cs → chosen ≡ instances M (length cs) given
+    → out ≡ beside chosen (partiesOf n (take (length given - 8 * length cs) (drop (8 * length cs) given)))
+    → out ≡ beside (instances M (length cs) bytes) (hiddenParties (length cs) n bytes)
+unfolding hiddenParties
+chosen-is M n bytes given cs chosen out g l e o =
+    let k : ℕ = 8 * length cs in
+    let r : take (length given - k) (drop k given) ≡ drop k bytes =
+    take-all (length given - k) (drop k given) (omega (arith, length-drop k given)) ∙ ap (drop k) g in
+    o ∙ ap₂ (λ (i p : List ℕ). beside i (partiesOf n p)) (e ∙ ap (instances M (length cs)) g) r
 
 -- the challenge's input is bytes
 bytes-challenge : (h g : List ℕ) → Bytes h → Bytes g → Bytes (challengeInput h g)

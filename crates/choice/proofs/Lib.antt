@@ -1,4 +1,3 @@
-pub mod Streams
 pub mod Choosing
 pub mod Challenges
 pub mod Bounds

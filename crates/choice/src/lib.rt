@@ -1,22 +1,25 @@
 // The challenge: its stream, the instances that it chooses, and their hidden parties.
-// The stream is given out by a sponge, which is handed on after each number and each byte taken.
+// The stream is given out as a whole. The chosen instances are kept ascending, so that a draw goes along them and not along all instances.
 ghost use mathlib.Core.Path.{_≡_};
-ghost use mathlib.Core.Bool.{false};
-ghost use mathlib.Core.List.{[], _∷_, _++_};
+ghost use mathlib.Core.Bool.{Bool};
+ghost use mathlib.Core.List.{List, [], _∷_, _++_};
 ghost use lib.Seq.{sets};
 ghost use Rattle.bits.specs.Bytes.{leBytes};
 ghost use Prim.Native.Nat.{_+_, _*_, _≤_, _<_};
-ghost use lib.ListN.{length, replicate};
-ghost use Rattle.keccak.specs.Steps.{absorbs, squeezes, squeezed};
+ghost use lib.ListN.{length, take};
+ghost use Rattle.keccak.specs.Steps.{absorbs, squeezes};
 ghost use Rattle.hashing.specs.Inputs.{boundOf, challengeInput};
-ghost use Rattle.choice.specs.Challenge.{maxInstances, choose as «choose-at», drawn, chosenFrom, partiesOf, instances, hiddenParties, beside, challengeOf};
-ghost use Rattle.choice.specs.Steps.{ready};
+ghost use Rattle.choice.specs.Challenge.{maxInstances, choose as «choose-at», chosenFrom, partiesOf, instances, hiddenParties, beside, challengeOf};
+ghost use Rattle.choice.specs.Steps.{ready, Room};
 use keccak::SHAKE_FIRST;
 use keccak::SHAKE256_RATE;
 use keccak::sponge::Sponge;
 
 // The limit on the instances of a proof.
 pub const MAX_INSTANCES: usize = 512;
+
+// The bytes of the longest stream, 9 for each of 511 chosen instances.
+const MAX_STREAM: usize = 4599;
 
 // Takes in what the challenge is bound to: the salt, M, τ and n, the digest of the circuit file, y, and the message behind its length.
 fn absorb_bound(
@@ -69,78 +72,82 @@ fn stream(
     absorb_bound(s, salt, m, tau, n, digest, y, message).pad(SHAKE256_RATE, SHAKE_FIRST)
 }
 
-// Chooses the instance at place x among those not yet chosen, ascending.
-fn choose(flags: &mut [bool], x: usize)
-    ensures { λ _. ⌜ now (flags .exit) ≡ «choose-at» x (now (flags .entry)) ⌝ }
+// Of the first t instances, which are ascending, those above the place of the new one go up by one. Tells how many stay.
+fn make_room(chosen: &mut [u16], t: usize, x: usize) -> usize
+    requires { ⌜ (t < length (now chosen)) × (x + t < 65536) ⌝ }
+    ensures { λ r. ⌜ Room t x (now (chosen .entry)) r (now (chosen .exit)) ⌝ }
 {
-    let mut left = x;
-    let mut i = 0;
-    while i < flags.len() {
-        if !flags[i] {
-            if left == 0 {
-                flags[i] = true;
-                return;
-            }
-            left -= 1;
+    let mut k = t;
+    while 0 < k {
+        let c = chosen[k - 1];
+        if (c as usize) < x + k {
+            return k;
         }
-        i += 1;
+        chosen[k] = c;
+        k -= 1;
     }
+    0
 }
 
-// Makes tau draws from the stream: the flags of the chosen instances. Hands back the sponge after them.
-fn draw(tau: usize, sponge: Sponge, flags: &mut [bool]) -> Sponge
-    requires { ⌜ (sponge .fill ≡ 0) × ((tau ≤ length (now flags)) × (now flags ≡ replicate (length (now flags)) false)) ⌝ }
-    ensures flags { λ _. ⌜ now (flags .exit) ≡ drawn (length (now (flags .entry))) (squeezes 136 (9 * tau) sponge) tau ⌝ }
-    ensures sponge { λ r. ⌜ r ≡ squeezed 136 (8 * tau) sponge ⌝ }
+// Chooses the instance at place x among those not yet chosen, ascending. The first t are the chosen ones, ascending.
+fn choose(chosen: &mut [u16], t: usize, x: usize)
+    requires { ⌜ (t < length (now chosen)) × (x + t < 65536) ⌝ }
+    ensures { λ _. ⌜ ((flags : List Bool) → chosenFrom 0 flags ≡ take t (now (chosen .entry)) → x + t < length flags → take (t + 1) (now (chosen .exit)) ≡ chosenFrom 0 («choose-at» x flags)) ⌝ }
 {
-    let m = flags.len();
-    let mut s = sponge;
+    let k = make_room(chosen, t, x);
+    chosen[k] = (x + k) as u16;
+}
+
+// Draws as many instances as the lent slice has, each by 8 bytes of the stream.
+fn draw(m: usize, stream: &[u8], chosen: &mut [u16])
+    requires { ⌜ (m ≤ maxInstances) × ((length (now chosen) ≤ m) × (8 * length (now chosen) ≤ length (now stream))) ⌝ }
+    ensures { λ _. ⌜ now (chosen .exit) ≡ instances m (length (now (chosen .entry))) (now (stream .entry)) ⌝ }
+{
     let mut t = 0;
-    while t < tau {
-        let given = s.squeeze_number(SHAKE256_RATE);
-        let x = given.number % ((m - t) as u64);
-        choose(flags, x as usize);
-        s = given.sponge;
+    while t < chosen.len() {
+        let x = bits::read_u64(stream, 8 * t) % ((m - t) as u64);
+        choose(chosen, t, x as usize);
         t += 1;
     }
-    s
 }
 
 // Writes an instance as u16 and its hidden party as u8.
-fn write_choice(out: &mut [u8], at: usize, i: usize, p: u8)
-    requires { ⌜ (at + 3 ≤ length (now out)) × (i < 65536) ⌝ }
+fn write_choice(out: &mut [u8], at: usize, i: u16, p: u8)
+    requires { ⌜ at + 3 ≤ length (now out) ⌝ }
     ensures { λ _. ⌜ now (out .exit) ≡ sets (now (out .entry)) at (leBytes 2 i ++ (p ∷ [])) ⌝ }
 {
-    bits::write_u16(out, at, i as u16);
+    bits::write_u16(out, at, i);
     out[at + 2] = p;
 }
 
-// Writes the chosen instances, ascending, each with its hidden party by the stream's next byte.
-fn write_chosen(flags: &[bool], n: u8, sponge: Sponge, out: &mut [u8])
-    requires { ⌜ (sponge .fill ≤ 136) × ((0 < n) × ((length (now flags) ≤ 65536) × (length (now out) ≡ 3 * length (chosenFrom 0 (now flags))))) ⌝ }
-    ensures { λ _. ⌜ now (out .exit) ≡ beside (chosenFrom 0 (now (flags .entry))) (partiesOf n (squeezes 136 (length (chosenFrom 0 (now (flags .entry)))) sponge)) ⌝ }
+// Writes the chosen instances, each with its hidden party by its byte.
+fn write_chosen(chosen: &[u16], n: u8, bytes: &[u8], out: &mut [u8])
+    requires { ⌜ (0 < n) × ((length (now bytes) ≡ length (now chosen)) × (length (now out) ≡ 3 * length (now chosen))) ⌝ }
+    ensures { λ _. ⌜ now (out .exit) ≡ beside (now (chosen .entry)) (partiesOf n (now (bytes .entry))) ⌝ }
 {
-    let mut s = sponge;
-    let mut c = 0;
-    let mut i = 0;
-    while i < flags.len() {
-        if flags[i] {
-            let given = s.squeeze_byte(SHAKE256_RATE);
-            write_choice(out, 3 * c, i, given.byte % n);
-            s = given.sponge;
-            c += 1;
-        }
-        i += 1;
+    let mut k = 0;
+    while k < chosen.len() {
+        write_choice(out, 3 * k, chosen[k], bytes[k] % n);
+        k += 1;
     }
 }
 
-// The chosen instances with their hidden parties, from the stream; the flags are lent, none of them set.
-fn choose_with(tau: usize, n: u8, sponge: Sponge, flags: &mut [bool], out: &mut [u8])
-    requires { ⌜ (sponge .fill ≡ 0) × ((length (now flags) ≤ maxInstances) × ((tau ≤ length (now flags)) × ((0 < n) × ((length (now out) ≡ 3 * tau) × (now flags ≡ replicate (length (now flags)) false))))) ⌝ }
-    ensures { λ _. ⌜ now (out .exit) ≡ beside (instances (length (now (flags .entry))) tau (squeezes 136 (9 * tau) sponge)) (hiddenParties tau n (squeezes 136 (9 * tau) sponge)) ⌝ }
+// The chosen instances with their hidden parties, from the sponge that gives out the stream. Lent are the stream's bytes, and a place for each instance.
+fn choose_with(
+    m: usize,
+    n: u8,
+    sponge: Sponge,
+    bytes: &mut [u8],
+    chosen: &mut [u16],
+    out: &mut [u8],
+)
+    requires { ⌜ (sponge .fill ≤ 136) × ((m ≤ maxInstances) × ((length (now chosen) ≤ m) × ((0 < n) × ((length (now bytes) ≡ 9 * length (now chosen)) × (length (now out) ≡ 3 * length (now chosen)))))) ⌝ }
+    ensures { λ _. ⌜ now (out .exit) ≡ beside (instances m (length (now (chosen .entry))) (squeezes 136 (length (now (bytes .entry))) sponge)) (hiddenParties (length (now (chosen .entry))) n (squeezes 136 (length (now (bytes .entry))) sponge)) ⌝ }
 {
-    let s = draw(tau, sponge, flags);
-    write_chosen(flags, n, s, out);
+    let first = 8 * chosen.len();
+    let _ = sponge.squeeze(SHAKE256_RATE, bytes);
+    draw(m, bytes, chosen);
+    write_chosen(chosen, n, &bytes[first..], out);
 }
 
 // The challenge of tau among m instances and n parties, bound to the salt, the digest of the circuit file, y and the message.
@@ -159,6 +166,8 @@ pub fn derive(
     ensures { λ _. ⌜ now (out .exit) ≡ challengeOf m tau n (now (hstar .entry)) (boundOf (now (salt .entry)) m tau n (now (digest .entry)) (now (y .entry)) (now (message .entry))) ⌝ }
 {
     let s = stream(m, tau, n, hstar, salt, digest, y, message);
-    let mut flags = [false; MAX_INSTANCES];
-    choose_with(tau, n, s, &mut flags[..m], out);
+    let mut bytes = [0u8; MAX_STREAM];
+    let mut chosen = [0u16; MAX_INSTANCES];
+    let k = 9 * tau;
+    choose_with(m, n, s, &mut bytes[..k], &mut chosen[..tau], out);
 }

@@ -1,37 +1,29 @@
--- `choice::draw` meets its contract: the loop's invariant is that the flags and the sponge are those after t draws.
+-- `choice::draw` meets its contract: the loop's invariant is that the first t instances are those after t draws.
 -- Assumes nothing.
-use Rattle.keccak.specs.Steps.{squeezes, squeezed}
-use Rattle.keccak.proofs.Steps.{squeezed-room, squeezed-aligned}
-use Rattle.choice.specs.Challenge.{drawn}
-use Rattle.choice.proofs.Choosing.{drawn-none, draw-more, draw-after, length-drawn}
-use borrow.Author.Needs.{needs}
 use native.Mathlib.Omega.{arith}
+use native.Mathlib.Nat.{mod-lt}
 use mathlib.Core.Path.{_≡_, refl, ap, _∙_}
-use Prim.Native.Nat.{ℕ, _-_, _*_, _≤_}
-use lib.ListN.{length}
+use Prim.Native.Nat.{ℕ, _-_, _%_, _≤_, _<_}
+use lib.ListN.{length, take}
+use Rattle.choice.specs.Challenge.{chosenFrom, drawn, instances}
+use Rattle.choice.proofs.Choosing.{draw-none, draw-more, draw-all}
 use Rattle.choice.proofs.draw.Statement.{statement}
 use Rattle.choice.proofs.draw.Tie as tie
 
 abbrev Inv-loop : tie.InvT-loop
-Inv-loop tau flags₀ m s₀ t₀ flags s t = (t ≤ tau) × ((flags ≡ drawn (length flags₀) (squeezes 136 (9 * tau) s₀) t) × (s ≡ squeezed 136 (8 * t) s₀))
+Inv-loop m stream chosen₀ t₀ chosen t = (length chosen ≡ length chosen₀) × ((t ≤ length chosen₀) × (take t chosen ≡ chosenFrom 0 (drawn m stream t)))
 
 abbrev μ-loop : tie.MeasureT-loop
-μ-loop tau flags₀ m s₀ t₀ flags s t = tau - t
+μ-loop m stream chosen₀ t₀ chosen t = length chosen₀ - t
 
 loop-holds : tie.Need-loop-holds Inv-loop μ-loop
-unfolding squeezed
-loop-holds c =
-    let b = c .before in
-    let x = b .args in
-    (omega arith, (drawn-none (length (x .flags .now)) (squeezes 136 (9 * x .tau) (x .sponge)) (x .flags .now) (b .pre .1 .1), refl))
+loop-holds c = let x = c .before .before .args in (refl, (omega arith, draw-none (x .m) (x .stream .now) (x .chosen .now)))
 
-squeeze-number-requires : tie.Need-squeeze-number-requires Inv-loop μ-loop
-squeeze-number-requires c κs =
-    let b = c .before .before .before in
-    let l = c .before .loop in
-    let room = squeezed-room 136 (omega arith) (8 * l .t) (b .args .sponge) (omega (arith, b .pre .0)) in
-    let start = squeezed-aligned 136 (omega arith) refl (8 * l .t) (b .args .sponge) (omega (arith, b .pre .0)) in
-    (omega arith, (omega arith, (refl, rw (l .inv .1 .1) (omega (arith, start, b .pre .0), room))))
+mul-read-u64 : tie.Need-mul-read-u64 Inv-loop μ-loop
+mul-read-u64 c = omega arith
+
+read-u64-requires : tie.Need-read-u64-requires Inv-loop μ-loop
+read-u64-requires c κs = omega arith
 
 sub-x : tie.Need-sub-x Inv-loop μ-loop
 sub-x c = omega arith
@@ -40,7 +32,11 @@ rem-x : tie.Need-rem-x Inv-loop μ-loop
 rem-x c = omega arith
 
 choose-requires : tie.Need-choose-requires Inv-loop μ-loop
-choose-requires c κs = search needs
+choose-requires c κs =
+    let x = c .before .before .before .before .before .before .args in
+    let l = c .before .before .before .loop in
+    let w : c .before .read-u64 .result % (x .m - l .t) < x .m - l .t = mod-lt (c .before .read-u64 .result) (omega arith) in
+    (omega arith, omega arith)
 
 add-t : tie.Need-add-t Inv-loop μ-loop
 add-t c = omega arith
@@ -50,29 +46,20 @@ loop-less c = omega arith
 
 loop-again : tie.Need-loop-again Inv-loop μ-loop
 loop-again c =
-    let x = c .before .before .before .before .before .before .before .before .before .before .args in
-    let l = c .before .before .before .before .before .before .before .before .loop in
-    let q = c .before .before .before .before .before .before .squeeze-number in
-    let M : ℕ = length (x .flags .now) in (
-      omega arith,
-      (
-        draw-more M (x .tau) (x .sponge) (l .t) (l .s) (q .result) (l .flags) (c .before .before .before .choose .last .0) (omega arith) (l .inv .1 .1) (l .inv .1 .0) (q .ensures) (c .before .before .before .choose .ensures),
-        draw-after M (x .tau) (x .sponge) (l .t) (l .s) (q .result) (l .inv .1 .1) (q .ensures),
-      ),
-    )
+    let x = c .before .before .before .before .before .before .before .before .before .args in
+    let l = c .before .before .before .before .before .before .loop in
+    let d = c .before .before .choose in
+    let r = c .before .before .before .before .read-u64 in
+    (omega arith, (omega arith, draw-more (x .m) (x .stream .now) (l .t) (r .result) (l .chosen) (d .last .0) (omega arith) (r .ensures) (l .inv .1 .1) (d .ensures)))
 
 same-length : tie.Need-same-length Inv-loop μ-loop
-same-length c =
-    let x = c .before .before .before .args in
-    let l = c .before .loop in
-    ap length (l .inv .1 .0) ∙ length-drawn (length (x .flags .now)) (squeezes 136 (9 * x .tau) (x .sponge)) (l .t)
+same-length c = c .before .loop .inv .0
 
 returns : tie.Need-returns Inv-loop μ-loop
 returns c =
-    let x = c .before .before .before .args in
+    let x = c .before .before .before .before .args in
     let l = c .before .loop in
-    let e : l .t ≡ x .tau = omega arith in
-    (l .inv .1 .0 ∙ ap (drawn (length (x .flags .now)) (squeezes 136 (9 * x .tau) (x .sponge))) e, l .inv .1 .1 ∙ ap (λ (k : ℕ). squeezed 136 (8 * k) (x .sponge)) e)
+    draw-all (x .m) (x .stream .now) (l .t) (l .chosen) (omega arith) (omega arith) (l .inv .1 .1) ∙ ap (λ (k : ℕ). instances (x .m) k (x .stream .now)) (l .inv .0)
 
 pub draw-spec : {M : Type 1} → statement M
 draw-spec =
@@ -81,7 +68,8 @@ draw-spec =
     Inv-loop
     μ-loop
     loop-holds
-    squeeze-number-requires
+    mul-read-u64
+    read-u64-requires
     sub-x
     rem-x
     choose-requires

@@ -9,9 +9,6 @@ use borrow.Author.Needs.{needs}
 use Rattle.choice.proofs.write_choice.Statement.{statement}
 use Rattle.choice.proofs.write_choice.Tie as tie
 
-cast-write-u16 : tie.Need-cast-write-u16
-cast-write-u16 c = search needs
-
 write-u16-requires : tie.Need-write-u16-requires
 write-u16-requires c κs = search needs
 
@@ -30,4 +27,4 @@ returns c = ap (λ (o : List ℕ). set o (c .before .before .before .before .bef
 pub write-choice-spec : {M : Type 1} → statement M
 write-choice-spec =
     tie.close
-    (tie.spec cast-write-u16 write-u16-requires add-out slice-write-out same-length returns)
+    (tie.spec write-u16-requires add-out slice-write-out same-length returns)
