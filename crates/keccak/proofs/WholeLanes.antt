@@ -4,7 +4,7 @@ use mathlib.Core.Path.{ap₂, _≡_, refl, sym, ap, _∙_}
 use mathlib.Core.Logic.{⊎-elim}
 use mathlib.Core.List.{[], List, _∷_, _++_}
 use Prim.Native.Nat.{ℕ, zero, suc, _+_, _*_, _/_, _%_, _^_, _≤_, _<_}
-use native.Mathlib.Nat.{mod-eq-of-lt, mul-assoc, pow-suc, add-mul, div-add-mod', mul-lt-mul-of-pos-right}
+use native.Mathlib.Nat.{mul-assoc, pow-suc, add-mul, div-add-mod', mul-lt-mul-of-pos-right}
 use native.Mathlib.Omega.{arith}
 use lib.Bits.{xor-zero-r, bitXor, xor-comm, xor-shifted}
 use lib.ListN.{length, getD, set, take, drop, length-append, length-set, length-take, take-append-drop}
@@ -12,12 +12,11 @@ use lib.Pow.{pow-add, pow-pos, shr-shr}
 use lib.Seq.{set-getD, set-out, getD-set-same, set-set, drop-drop, sets, sets-eq, take-at}
 use Rattle.bits.specs.Bytes.{leAt, leBytes}
 use Rattle.bits.proofs.Numbers.{lt-or-le}
-use Rattle.bits.proofs.Little.{leAt-lt, leAt-leBytes, leBytes-leAt, length-leBytes}
+use Rattle.bits.proofs.Little.{leAt-lt, leBytes-leAt, length-leBytes}
 use Rattle.bits.proofs.Ops.{bitXor-assoc}
 use Rattle.keccak.specs.declared.sponge.Sponge.{Sponge}
 use Rattle.keccak.specs.declared.sponge.Squeezed.{Squeezed}
-use Rattle.keccak.specs.declared.sponge.SqueezedNumber.{SqueezedNumber}
-use Rattle.keccak.specs.Steps.{byteAt, xorByte, xorBytes, turned, squeezeByte, squeezes, squeezed, squeezeNumber}
+use Rattle.keccak.specs.Steps.{byteAt, xorByte, xorBytes, turned, squeezeByte, squeezes, squeezed}
 use Rattle.keccak.proofs.Steps.{xorBytes-append, turned-part, turned-room, turned-aligned}
 
 -- the lowest byte of y and the rest, j bytes up, do not overlap
@@ -160,15 +159,3 @@ xorBytes-turn P k i l x small w start e =
     ap₂ (λ (t : List ℕ) (m : ℕ). xorBytes t m (drop (i + 8) P)) lane (let z : k + (i + 8) ≡ k + i + length M = omega arith in z)
     ∙ sym (xorBytes-append M (drop (i + 8) P) l (k + i))
     ∙ ap (xorBytes l (k + i)) (next-lane P i small w)
-
--- a lane read as the number in its 8 bytes
-pub number-is : (rate : ℕ) (s t : Sponge) (x : ℕ) → 0 < rate → rate % 8 ≡ 0 → s .fill % 8 ≡ 0 → s .fill ≤ rate → t ≡ turned rate s
-    → x ≡ getD (t .lanes) (t .fill / 8) 0 → x < 256 ^ 8
-    → _≡_ {A = SqueezedNumber} (record { sponge = record { lanes = t .lanes; fill = t .fill + 8 }; number = x }) (squeezeNumber rate s)
-unfolding squeezeNumber
-number-is rate s t x some whole start room e g h =
-    let n = squeeze-next-lane rate s some whole start room in
-    let v : x ≡ leAt 8 (squeezes rate 8 s) 0 =
-    sym (mod-eq-of-lt {n = x} {m = 256 ^ 8} h) ∙ (sym (leAt-leBytes 8 x)
-    ∙ (ap (λ (y : ℕ). leAt 8 (leBytes 8 y) 0) (g ∙ ap (λ (u : Sponge). getD (u .lanes) (u .fill / 8) 0) e) ∙ ap (λ (l : List ℕ). leAt 8 l 0) (sym (n .0)))) in
-    ap₂ (λ (u : Sponge) (y : ℕ). record { sponge = u; number = y }) (ap (λ (u : Sponge). record { lanes = u .lanes; fill = u .fill + 8 }) e ∙ sym (n .1)) v

@@ -4,10 +4,8 @@ use mathlib.Core.Path.{_≡_}
 use mathlib.Core.List.{List, [], _∷_}
 use Prim.Native.Nat.{ℕ, zero, suc, _+_, _-_}
 use lib.ListN.{length}
-use Rattle.bits.specs.Bytes.{leAt}
 use Rattle.keccak.specs.declared.sponge.Sponge.{Sponge}
 use Rattle.keccak.specs.declared.sponge.Squeezed.{Squeezed}
-use Rattle.keccak.specs.declared.sponge.SqueezedNumber.{SqueezedNumber}
 unfoldable pub use Rattle.keccak.specs.Streaming.{permuted, byteAt, xorByte, empty, turned, absorbByte, absorbs, padded, squeezeByte, squeezes}
 
 -- the lanes with bytes XORed in, from byte k of the state on
@@ -27,10 +25,6 @@ givenByte s = record { sponge = record { lanes = s .lanes; fill = s .fill + 1 };
 unfoldable pub squeezed : ℕ → ℕ → Sponge → Sponge
 squeezed rate zero s = s
 squeezed rate (suc n) s = squeezed rate n (squeezeByte rate s .sponge)
-
--- the next 8 bytes as a number, beside the sponge after them
-unfoldable pub squeezeNumber : ℕ → Sponge → SqueezedNumber
-squeezeNumber rate s = record { sponge = squeezed rate 8 s; number = leAt 8 (squeezes rate 8 s) 0 }
 
 -- what giving out as many bytes as the lent slice has leaves: the sponge after them, and the slice holding them
 pub record Given (rate : ℕ) (s : Sponge) (lent : List ℕ) (after : Sponge) (left : List ℕ) : Type 0 where

@@ -3,9 +3,8 @@
 ghost use mathlib.Core.Path.{_≡_};
 ghost use Prim.Native.Nat.{_+_, _≤_, _<_, _%_, min};
 ghost use lib.ListN.{length};
-ghost use Rattle.keccak.specs.Steps.{empty, turned, absorbByte, absorbs, closed, padded, givenByte, squeezeByte, squeezeNumber, Given};
+ghost use Rattle.keccak.specs.Steps.{empty, turned, absorbByte, absorbs, closed, padded, givenByte, squeezeByte, Given};
 use crate::state::byte_at;
-use crate::state::lane_at;
 use crate::state::xor_byte;
 use crate::state::xor_lanes;
 use permutation::permute;
@@ -20,12 +19,6 @@ pub struct Sponge {
 pub struct Squeezed {
     pub sponge: Sponge,
     pub byte: u8,
-}
-
-// The number in 8 bytes given out, and the sponge after them.
-pub struct SqueezedNumber {
-    pub sponge: Sponge,
-    pub number: u64,
 }
 
 // The lesser of two numbers.
@@ -174,21 +167,6 @@ impl Sponge {
             return self.turn(rate).give();
         }
         self.give()
-    }
-
-    // Gives out the next 8 bytes as a number: at a lane's start they are a lane.
-    pub fn squeeze_number(self, rate: usize) -> SqueezedNumber
-        requires { ⌜ (0 < rate) × ((rate < 200) × ((rate % 8 ≡ 0) × ((self .fill % 8 ≡ 0) × (self .fill ≤ rate)))) ⌝ }
-        ensures { λ r. ⌜ r ≡ squeezeNumber rate self ⌝ }
-    {
-        let mut s = self.turn(rate);
-        let at = s.fill;
-        let x = lane_at(&s.lanes, at / 8);
-        s.fill = at + 8;
-        SqueezedNumber {
-            sponge: s,
-            number: x,
-        }
     }
 
     // Gives out bytes one by one.

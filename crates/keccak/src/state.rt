@@ -1,7 +1,7 @@
 // Bytes of the state in its lanes: byte k is byte k mod 8 of lane k / 8, lowest first.
 ghost use mathlib.Core.Path.{_≡_};
-ghost use Prim.Native.Nat.{_+_, _%_, _^_, _≤_, _<_};
-ghost use lib.ListN.{length, getD};
+ghost use Prim.Native.Nat.{_+_, _%_, _≤_, _<_};
+ghost use lib.ListN.{length};
 ghost use Rattle.keccak.specs.Steps.{byteAt, xorByte, xorBytes};
 
 // XORs b into byte k of the state.
@@ -32,12 +32,4 @@ pub(crate) fn byte_at(l: &[u64; 25], k: usize) -> u8
     ensures { λ r. ⌜ r ≡ byteAt (now (l .entry)) k ⌝ }
 {
     ((l[k / 8] >> ((8 * (k % 8)) as u64)) % 256) as u8
-}
-
-// Lane k of the state.
-pub(crate) fn lane_at(l: &[u64], k: usize) -> u64
-    requires { ⌜ k < length (now l) ⌝ }
-    ensures { λ r. ⌜ (r ≡ getD (now (l .entry)) k 0) × (r < 256 ^ 8) ⌝ }
-{
-    l[k]
 }
