@@ -84,13 +84,13 @@ static const uint8_t old_k[18] = {
 #define K_WORK 4288
 static uint8_t work[K_WORK + 100];
 
-/* Is every byte of the work buffer the one given? */
-static size_t work_is(uint8_t byte)
+/* Is every byte the one given? */
+static size_t all(const uint8_t *bytes, size_t len, uint8_t byte)
 {
     size_t i;
 
-    for (i = 0; i < sizeof work; i++)
-        if (work[i] != byte)
+    for (i = 0; i < len; i++)
+        if (bytes[i] != byte)
             return 0;
     return 1;
 }
@@ -113,7 +113,7 @@ static void prove_in(size_t proof_len, size_t salt_len, uint32_t expected)
                       root, sizeof root, salt, salt_len, 4, 1, 2,
                       proof, proof_len, &written, work, sizeof work);
     equal("prove", answer, expected);
-    equal("its work buffer", work_is(0), 1);
+    equal("its work buffer", all(work, sizeof work, 0), 1);
     if (answer == WV_ACCEPTED) {
         equal("its length", written == 248 || written == 249, 1);
         equal("its salt", memcmp(proof + WV_PROOF_HEADER_LEN - WV_SALT_LEN, salt,
@@ -122,7 +122,7 @@ static void prove_in(size_t proof_len, size_t salt_len, uint32_t expected)
         equal("check", wv_check(k, sizeof k, &y, 1, &message, 1,
                                 proof, (size_t)written, work, sizeof work),
               WV_ACCEPTED);
-        equal("its work buffer", work_is(0), 1);
+        equal("its work buffer", all(work, sizeof work, 0), 1);
     }
 }
 
@@ -135,8 +135,8 @@ static void check_in(size_t circuit_len, size_t work_len, uint32_t answer,
     memset(work, 0xee, sizeof work);
     equal("check nothing", wv_check(k, circuit_len, &y, 1, &y, 1, &y, 1,
                                     work, work_len), answer);
-    memset(work + work_len, left, sizeof work - work_len);
-    equal("the work buffer after it", work_is(left), 1);
+    equal("the work buffer after it", all(work, work_len, left), 1);
+    equal("what is behind it", all(work + work_len, sizeof work - work_len, 0xee), 1);
 }
 
 static void work_buffers(void)
@@ -155,6 +155,51 @@ static void work_buffers(void)
 }
 
 /*
+ * The marked cases m6 to m9 of document 01: K by two parties with the tapes 13 and 3,
+ * and what m8 shows replayed.
+ */
+static void runs(void)
+{
+    const uint8_t tapes[2] = {13, 3}, opened[2] = {0, 3}, ones = 3, one = 1, none = 0;
+    uint8_t corrections = 77, masked = 77, rows[2] = {77, 77}, y = 77;
+    uint8_t shown[2] = {77, 77}, row = 77;
+
+    equal("prepare", wv_prepare(k, sizeof k, 2, tapes, 2, &corrections, 1,
+                                work, K_WORK), WV_ACCEPTED);
+    equal("its correction", corrections, 1);
+    equal("run", wv_run(k, sizeof k, 2, &ones, 1, tapes, 2, &corrections, 1,
+                        &masked, 1, rows, 2, &y, 1, work, K_WORK), WV_ACCEPTED);
+    equal("its masked inputs", masked, 1);
+    equal("its rows", rows[0] + 256u * rows[1], 2);
+    equal("its output", y, 1);
+    equal("show", wv_show(k, sizeof k, 2, 0, 1, &one, 1, tapes, 2, shown, 2,
+                          &corrections, 1, &masked, 1, &row, 1, work, K_WORK),
+          WV_ACCEPTED);
+    equal("its tapes", shown[0] + 256u * shown[1], 256 * 3);
+    equal("its correction", corrections, 1);
+    equal("its masked inputs", masked, 3);
+    equal("its row", row, 3);
+    equal("replay", wv_replay(k, sizeof k, 2, 0, opened, 2, &one, 1, &ones, 1,
+                              &ones, 1, &none, 1, rows, 2, work, K_WORK),
+          WV_ACCEPTED);
+    equal("its rows", rows[0] + 256u * rows[1], 3 + 256);
+    equal("replay to another output",
+          wv_replay(k, sizeof k, 2, 0, opened, 2, &one, 1, &ones, 1,
+                    &ones, 1, &one, 1, rows, 2, work, K_WORK),
+          WV_REFUSED_OUTPUT);
+}
+
+/* SHA3-256 of no bytes begins with a7 and ends with 4a, in FIPS 202's own examples. */
+static void digest(void)
+{
+    uint8_t found[WV_DIGEST_LEN] = {0};
+
+    equal("SHA3-256", wv_sha3_256(k, 0, found), WV_ACCEPTED);
+    equal("its first byte", found[0], 0xa7);
+    equal("its last byte", found[31], 0x4a);
+}
+
+/*
  * The masters' tree as the header says: the children of node k are SHAKE128 of
  * a byte 2, the salt, 65535, k and its value. Five masters are leaves of a tree of eight.
  * With leaf 2 hidden, nodes 3, 4 and 11 are opened.
@@ -164,7 +209,7 @@ static void masters_and_cover(void)
     static const uint8_t root[WV_ROOT_LEN] = {3};
     uint8_t values[16 * 16], input[53] = {2};
     const uint8_t *salt = input + 1;
-    uint8_t masters[5 * 16], nodes[3 * 16];
+    uint8_t masters[5 * 16], nodes[3 * 16], leaves[8 * 16], siblings[3 * 16];
     const uint8_t hidden[7] = {2, 0, 2, 0, 2, 0, 0}, beyond[2] = {5, 0};
     uint8_t node;
 
@@ -185,6 +230,12 @@ static void masters_and_cover(void)
     equal("node 3", memcmp(nodes, values + 16 * 3, 16) == 0, 1);
     equal("node 4", memcmp(nodes + 16, values + 16 * 4, 16) == 0, 1);
     equal("node 11", memcmp(nodes + 32, values + 16 * 11, 16) == 0, 1);
+    equal("expand", wv_expand(65535, 8, salt, 32, root, sizeof root,
+                              leaves, sizeof leaves), WV_ACCEPTED);
+    equal("its leaves", memcmp(leaves, values + 16 * 8, sizeof leaves) == 0, 1);
+    equal("open", wv_open(65535, 8, 2, salt, 32, root, sizeof root,
+                          siblings, sizeof siblings), WV_ACCEPTED);
+    equal("its siblings", memcmp(siblings, nodes, sizeof nodes) == 0, 1);
     equal("masters of one instance",
           wv_masters(1, salt, 32, root, sizeof root, masters, 16),
           WV_REFUSED_COUNTS);
@@ -235,23 +286,15 @@ static uint8_t state[WV_SHARED_STATE], shared_work[WV_SHARED_WORK];
 static uint32_t checked;
 static uint8_t verdicts[WV_MAX_CALLERS];
 
-/* Is every byte the one given? */
-static size_t all(const uint8_t *bytes, size_t len, uint8_t byte)
-{
-    size_t i;
-
-    for (i = 0; i < len; i++)
-        if (bytes[i] != byte)
-            return 0;
-    return 1;
-}
-
 /* An entry. A refused one leaves the state as it was. */
 static void enter(uint32_t caller, const uint64_t places[8],
                   const uint8_t *buffer, size_t buffer_len, size_t work_len,
                   uint32_t answer)
 {
     static uint8_t before[WV_SHARED_STATE];
+    const uint8_t left = work_len < sizeof shared_work
+        || answer == WV_REFUSED_CALLER || answer == WV_REFUSED_WAITING
+        || answer == WV_REFUSED_LENGTH ? 0xee : 0;
 
     memcpy(before, state, sizeof state);
     memset(shared_work, 0xee, sizeof shared_work);
@@ -260,10 +303,7 @@ static void enter(uint32_t caller, const uint64_t places[8],
                           shared_work, work_len), answer);
     if (answer != WV_ACCEPTED)
         equal("its state", memcmp(before, state, sizeof state) == 0, 1);
-    equal("its work buffer", shared_work[0],
-          work_len < sizeof shared_work || answer == WV_REFUSED_CALLER
-          || answer == WV_REFUSED_WAITING || answer == WV_REFUSED_LENGTH
-          ? 0xee : 0);
+    equal("its work buffer", all(shared_work, sizeof shared_work, left), 1);
 }
 
 /* A call, with the verdicts of callers 0 and 3. A refused one leaves all. */
@@ -605,6 +645,10 @@ int main(void)
     equal("the longest circuit",
           16 + 4 * WV_MAX_OUTPUTS + 16 * WV_MAX_GATES, WV_MAX_CIRCUIT);
     equal("read", wv_read(k, sizeof k, sizes), WV_ACCEPTED);
+    equal("its inputs", sizes[0], 2);
+    equal("its outputs", sizes[1], 1);
+    equal("its gates", sizes[2], 1);
+    equal("its AND gates", sizes[3], 1);
     equal("read a part", wv_read(k, 15, sizes), WV_REFUSED_CIRCUIT_LENGTH);
     equal("read the old form", wv_read(old_k, sizeof old_k, sizes),
           WV_REFUSED_CIRCUIT_SIZES);
@@ -613,6 +657,8 @@ int main(void)
     prove_in(wv_proof_len(2, 1, 1, 4, 1, 2), WV_SALT_LEN - 1, WV_REFUSED_LENGTH);
     prove_in(wv_proof_len(2, 1, 1, 4, 1, 2), WV_SALT_LEN + 1, WV_REFUSED_LENGTH);
     work_buffers();
+    runs();
+    digest();
     old_files();
     read_buffers_overlap();
     shared_checker();

@@ -85,6 +85,12 @@ static void accepted(const char *what, uint32_t answer)
     failures++;
 }
 
+/* An output before its call: what is undefined in it afterwards is from the call. */
+static void is_known(uint8_t *bytes, size_t len)
+{
+    VALGRIND_MAKE_MEM_DEFINED(bytes, len);
+}
+
 /* What is made of a secret is one: else this test sees nothing. */
 static void follows(const char *what, const uint8_t *bytes, size_t len)
 {
@@ -142,6 +148,7 @@ static void hide_tapes(uint32_t n)
 static void test_evaluate(void)
 {
     hide_bits(witness, sizes[0]);
+    is_known(y, sizeof y);
     accepted("evaluate", wv_evaluate(circuit, circuit_len, witness,
                                      OCT(sizes[0]), y, OCT(sizes[1])));
     follows("y", y, OCT(sizes[1]));
@@ -153,6 +160,10 @@ static void test_run(uint32_t n)
     size_t row_len = OCT(sizes[3] + sizes[1]);
 
     hide_tapes(n);
+    is_known(corrections, sizeof corrections);
+    is_known(masked_inputs, sizeof masked_inputs);
+    is_known(rows, sizeof rows);
+    is_known(y, sizeof y);
     accepted("prepare", wv_prepare(circuit, circuit_len, n, tapes, tapes_len,
                                    corrections, OCT(sizes[3]),
                                    work, work_len()));
@@ -167,6 +178,7 @@ static void test_run(uint32_t n)
     is_clear("run");
     follows("rows", rows, n * row_len);
     follows("masked inputs", masked_inputs, OCT(sizes[0]));
+    follows("y of the run", y, OCT(sizes[1]));
 }
 
 /* Which party is hidden is no secret, nor where the run is cut. */
@@ -177,6 +189,10 @@ static void test_show(uint32_t n, uint32_t p, uint32_t cut)
 
     hide_tapes(n);
     hide_bits(witness, sizes[0]);
+    is_known(shown_tapes, sizeof shown_tapes);
+    is_known(shown_corrections, sizeof shown_corrections);
+    is_known(masked_inputs, sizeof masked_inputs);
+    is_known(row, sizeof row);
     accepted("show", wv_show(circuit, circuit_len, n, p, cut,
                              witness, OCT(sizes[0]), tapes, tapes_len,
                              shown_tapes, tapes_len,
@@ -185,6 +201,11 @@ static void test_show(uint32_t n, uint32_t p, uint32_t cut)
                              work, work_len()));
     is_clear("show");
     follows("shown tapes", shown_tapes, tapes_len);
+    follows("shown masked inputs", masked_inputs, OCT(sizes[0]));
+    if (p != n - 1)
+        follows("shown corrections", shown_corrections, OCT(sizes[3]));
+    if (cut == sizes[2])
+        follows("the shown row", row, row_len);
 }
 
 static void test_circuit(const char *circuit_path, const char *row_path)
@@ -209,11 +230,15 @@ static void test_hashes(void)
     uint8_t data[300], out[300];
 
     hide_bits(data, 8 * sizeof data);
+    is_known(out, sizeof out);
     accepted("SHA3-256", wv_sha3_256(data, sizeof data, out));
     follows("a digest", out, 32);
+    is_known(out, sizeof out);
     accepted("SHAKE128", wv_shake128(data, sizeof data, out, sizeof out));
+    follows("what SHAKE128 gives", out, sizeof out);
+    is_known(out, sizeof out);
     accepted("SHAKE256", wv_shake256(data, sizeof data, out, sizeof out));
-    follows("what a SHAKE gives", out, sizeof out);
+    follows("what SHAKE256 gives", out, sizeof out);
 }
 
 /* The salt is no secret: it stands in the proof. */
@@ -224,6 +249,8 @@ static void test_tree(void)
     uint8_t master[16], leaves[16 * PARTIES_MOST], siblings[96];
 
     hide_bits(master, 128);
+    is_known(leaves, sizeof leaves);
+    is_known(siblings, sizeof siblings);
     accepted("expand", wv_expand(7, PARTIES_MOST, salt, sizeof salt, master, 16,
                                  leaves, sizeof leaves));
     follows("leaves", leaves, sizeof leaves);
@@ -242,6 +269,8 @@ static void test_masters(void)
     uint8_t root[16], masters[16 * 9], nodes[16 * 4];
 
     hide_bits(root, 128);
+    is_known(masters, sizeof masters);
+    is_known(nodes, sizeof nodes);
     accepted("masters", wv_masters(9, salt, sizeof salt, root, 16,
                                    masters, sizeof masters));
     follows("masters", masters, sizeof masters);
@@ -264,7 +293,7 @@ static void test_shelf(void)
     }
     follows("the page", page, sizeof page);
     for (i = 0; i < 3; i++) {
-        VALGRIND_MAKE_MEM_DEFINED(root, 16);
+        is_known(root, 16);
         accepted("draw", wv_draw(page, sizeof page, (uint64_t)i, root));
         follows("the root", root, 16);
     }
