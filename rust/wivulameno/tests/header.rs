@@ -1,10 +1,12 @@
-//! The C header has the same refusals, limits and version as this crate.
+//! The C header has the same refusals, limits and version as this crate, and the functions of
+//! the proved library.
 
-use std::collections::HashMap;
+use std::collections::{BTreeMap, HashMap};
 use wivulameno::limits::*;
 use wivulameno::Refusal;
 
 const HEADER: &str = include_str!("../../../include/wivulameno.h");
+const LIBRARY: &str = include_str!("../../../crates/wivulameno/src/lib.rt");
 
 /// The `#define`s with a value, by name; comments are left out.
 fn defines() -> HashMap<&'static str, &'static str> {
@@ -89,4 +91,92 @@ fn the_version() {
     assert_eq!(parts.join("."), version);
     let linked = wivulameno::library_version().map(|part| part.to_string());
     assert_eq!(linked.join("."), version);
+}
+
+/// The parameters of each function, one to a string: its type and its name.
+type Functions = BTreeMap<String, Vec<String>>;
+
+/// The functions that stand behind `start`, with their parameters as they are written.
+fn functions<'a>(text: &'a str, start: &str) -> Vec<(&'a str, Vec<&'a str>)> {
+    let parts = text.split(start).skip(1);
+    let found = parts.map(|part| {
+        let (name, rest) = part.split_once('(').expect("a bracket");
+        let (list, _) = rest.split_once(')').expect("its end");
+        let list = list.split(',').map(str::trim);
+        (name, list.filter(|one| !one.is_empty()).collect())
+    });
+    found.collect()
+}
+
+/// The functions that the header declares; an array is a pointer with so many places.
+fn declared() -> Functions {
+    let code = HEADER.split("*/").map(|part| part.split("/*").next());
+    let code: String = code.map(|part| part.expect("a part")).collect();
+    let defines = defines();
+    let written = |one: &&str| {
+        let one = one.split_whitespace().collect::<Vec<_>>().join(" ");
+        match one.split_once('[') {
+            None => one,
+            Some((front, places)) => {
+                let places = places.trim_end_matches(']');
+                let places = defines.get(places).copied().unwrap_or(places);
+                let (kind, name) = front.rsplit_once(' ').expect("a name");
+                format!("{kind}[{places}] {name}")
+            }
+        }
+    };
+    let of = |(name, list): (&str, Vec<&str>)| {
+        let list = list.iter().filter(|one| **one != "void");
+        (name.to_string(), list.map(written).collect())
+    };
+    functions(&code, "\nuint32_t ")
+        .into_iter()
+        .map(of)
+        .collect()
+}
+
+/// How C writes a parameter of the library: a slice is a pointer and its length, an array of
+/// one is a pointer.
+fn in_c(function: &str, parameter: &str) -> Vec<String> {
+    let (name, kind) = parameter.split_once(": ").expect("a type");
+    let name = match (function, name) {
+        (_, "masked") => "masked_inputs",
+        (_, "blanked") => "shown_tapes",
+        ("wv_masters", "out") => "masters",
+        ("wv_cover", "out") => "nodes",
+        _ => name,
+    };
+    let len = match name {
+        "data" => "len".to_string(),
+        _ => format!("{name}_len"),
+    };
+    let (written, kind) = match kind.strip_prefix("&mut ") {
+        Some(kind) => ("", kind),
+        None => ("const ", kind.trim_start_matches('&')),
+    };
+    let word = |kind: &str| format!("uint{}_t", &kind[1..]);
+    let inner = kind.trim_start_matches('[').trim_end_matches(']');
+    match inner.split_once("; ") {
+        Some((kind, "1")) => vec![format!("{written}{} *{name}", word(kind))],
+        Some((kind, places)) => vec![format!("{written}{}[{places}] {name}", word(kind))],
+        None if inner == kind => vec![format!("{} {name}", word(kind))],
+        None => vec![
+            format!("{written}{} *{name}", word(inner)),
+            format!("size_t {len}"),
+        ],
+    }
+}
+
+/// Every function of the library is declared, with its parameters in their order, and no
+/// other.
+#[test]
+fn all_functions() {
+    let of = |(name, list): (&str, Vec<&str>)| {
+        let list = list.iter().flat_map(|one| in_c(name, one));
+        (name.to_string(), list.collect())
+    };
+    let library = functions(LIBRARY, "pub extern \"C\" fn ");
+    let library: Functions = library.into_iter().map(of).collect();
+    assert_eq!(declared(), library);
+    assert_eq!(library.len(), 29);
 }
