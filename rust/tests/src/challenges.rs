@@ -71,6 +71,11 @@ impl Challenge {
         challenge_by!(wivulameno::seeds, self.counts, inputs, out)
     }
 
+    /// The reference's answer, without guards.
+    pub fn by_reference(&self, out: &mut [u8]) -> Result<(), u32> {
+        challenge_by!(reference::seeds, self.counts, self.inputs(), out)
+    }
+
     /// For the message of a failure.
     pub fn shown(&self) -> String {
         format!(

@@ -596,16 +596,7 @@ fn by_library(call: &Challenge) -> Vec<u8> {
 
 fn by_second(call: &Challenge) -> Vec<u8> {
     let mut out = vec![0; call.out_len];
-    let [m, tau, n] = call.counts;
-    let [h_star, salt, circuit_digest, y, message] = call.inputs();
-    let input = reference::seeds::ChallengeInput {
-        h_star,
-        salt,
-        circuit_digest,
-        y,
-        message,
-    };
-    reference::seeds::challenge(m, tau, n, input, &mut out).expect("no refusal");
+    call.by_reference(&mut out).expect("no refusal");
     out
 }
 

@@ -342,7 +342,7 @@ fn proofs() {
 #[test]
 fn showings() {
     let mut random = Random::new(12);
-    let [mut same, mut different] = [0; 2];
+    let [mut same, mut different, mut with_and] = [0; 3];
     while same < 40 || different < 10 {
         let inputs = random.from_to(2, 4);
         let [first, second] = [(); 2].map(|()| {
@@ -370,8 +370,10 @@ fn showings() {
             }
         }
         same += usize::from(equal == [true, true]);
-        different += usize::from(equal != [true, true]);
+        with_and += usize::from(equal == [true, true] && setting.sizes.ands > 0);
+        different += usize::from(equal.contains(&true) && equal.contains(&false));
     }
+    assert!(with_and > 10, "{with_and} of {same}");
 }
 
 #[test]

@@ -250,6 +250,7 @@ fn states_of_any_bytes() {
     let mut random = Random::new(0x9d2);
     let (buffer, all) = a_buffer(&mut random);
     let mut lent = Lent::new(&mut random, &[0; SHARED_STATE], &buffer);
+    let [mut entries, mut verdicts] = [(); 2].map(|()| Outcomes::default());
     for round in 0..120 {
         let state = match round % 6 {
             0 => random.bytes(SHARED_STATE),
@@ -269,8 +270,12 @@ fn states_of_any_bytes() {
             let [caller, which] = [16, all.len()].map(|bound| random.below(bound));
             let answer = lent.enter(&mut random, caller as u32, all[which]);
             assert!(ENTRIES.contains(&answer.err().unwrap_or(0)), "{answer:?}");
+            entries.add_answer(&answer);
             let quota = random_quota(&mut random);
-            expect_in_bounds(lent.check(&mut random, quota), quota);
+            let answer = lent.check(&mut random, quota);
+            expect_in_bounds(answer, quota);
+            let told = answer.iter().flat_map(|(_, verdicts)| verdicts);
+            told.for_each(|&number| verdicts.add(number.into()));
         }
         // No proof has more than 512 instances, so 16 calls are enough for all.
         let calls = (0..17).take_while(|_| {
@@ -285,6 +290,9 @@ fn states_of_any_bytes() {
         let (count, verdicts) = lent.check(&mut random, 512).expect("no refusal");
         assert_eq!((count, verdicts[15]), (6, 0));
     }
+    entries.expect_some(&[0, 27], 20);
+    // Places of any bytes lie outside; some waiting proofs are as they were.
+    verdicts.expect_some(&[0, 6, 10, 13, 255], 5);
 }
 
 /// Does a call with a good quota answer what a call can answer?
