@@ -15,6 +15,8 @@ pub enum Plan {
     CutAfter(usize),
     /// One step is an error, counted from 0; those after it are made.
     FailAt(usize),
+    /// One reading of a file is an error, counted from 0.
+    FailRead(usize),
 }
 
 /// The bytes of a file: as read now, and as they are on disk for certain.
@@ -30,6 +32,7 @@ type Names = BTreeMap<Name, usize>;
 struct State {
     plan: Plan,
     steps: usize,
+    reads: usize,
     names: Names,
     /// The names as they may be on disk, the certain ones first.
     names_on_disk: Vec<Names>,
@@ -47,6 +50,7 @@ impl CutDisk {
         CutDisk::with(State {
             plan,
             steps: 0,
+            reads: 0,
             names: Names::new(),
             names_on_disk: vec![Names::new()],
             contents: vec![],
@@ -80,6 +84,7 @@ impl CutDisk {
         CutDisk::with(State {
             plan,
             steps: 0,
+            reads: 0,
             ..state
         })
     }
@@ -157,6 +162,7 @@ impl State {
         CutDisk::with(State {
             plan: Plan::AllGoWell,
             steps: 0,
+            reads: 0,
             names: names.clone(),
             names_on_disk: vec![names.clone()],
             contents: contents.to_vec(),
@@ -174,6 +180,16 @@ impl State {
         self.steps += 1;
         match failed || self.is_cut() {
             true => Err(io::Error::other("cut off")),
+            false => Ok(()),
+        }
+    }
+
+    /// Before each reading: is it made?
+    fn reading(&mut self) -> io::Result<()> {
+        let failed = self.plan == Plan::FailRead(self.reads);
+        self.reads += 1;
+        match failed || self.is_cut() {
+            true => Err(io::Error::other("cannot be read")),
             false => Ok(()),
         }
     }
@@ -232,10 +248,8 @@ impl Files for CutDisk {
     }
 
     fn read(&mut self, name: Name) -> io::Result<Option<Vec<u8>>> {
-        match self.0.borrow().is_cut() {
-            true => Err(io::Error::other("cut off")),
-            false => Ok(self.bytes(name)),
-        }
+        self.0.borrow_mut().reading()?;
+        Ok(self.bytes(name))
     }
 
     fn create(&mut self, name: Name, bytes: &[u8]) -> io::Result<()> {

@@ -176,6 +176,29 @@ fn one_error_anywhere() {
     }
 }
 
+/// A file that cannot be read is told as such, also after a cut. No root is lost
+/// by it, and the shelf goes on when it is opened again.
+#[test]
+fn one_unread_file_anywhere() {
+    let new = CutDisk::new(Plan::AllGoWell);
+    let mut cuts = cuts_of(&new, &Host::default(), &FIRST);
+    cuts.push((new, Host::default()));
+    for (disk, host) in cuts {
+        for read in 0.. {
+            assert!(read < MOST_STEPS, "it never ends well");
+            let (disk, mut host) = (disk.copy(Plan::FailRead(read)), host.clone());
+            match host.play(&disk, &THEN) {
+                Err(trouble) => assert!(matches!(trouble, Trouble::File(..)), "{trouble}"),
+                Ok(()) => {
+                    assert!(read >= 6, "{read} readings");
+                    break;
+                }
+            }
+            host.finish(&disk.copy(Plan::AllGoWell));
+        }
+    }
+}
+
 #[test]
 fn a_failed_write_stops_the_shelf() {
     let disk = CutDisk::new(Plan::AllGoWell);
