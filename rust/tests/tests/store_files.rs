@@ -161,6 +161,11 @@ fn a_log_counts_on() {
 #[test]
 fn nobody_else_reads_the_page() {
     use std::os::unix::fs::PermissionsExt;
+    extern "C" {
+        fn umask(mask: std::ffi::c_uint) -> std::ffi::c_uint;
+    }
+    // SAFETY: new files of this process may be read by others, unless it asks for less.
+    unsafe { umask(0o022) };
     let folder = Folder::new("mode");
     let mut shelf = Shelf::create(folder.page(), folder.log(), 4).expect("a new shelf");
     shelf.stock(&[1; 16]).expect("room");
