@@ -2,6 +2,7 @@ pub mod Histories
 pub mod Instances
 pub mod Onward
 pub mod Told
+pub mod Numbers
 pub mod Theorem
 pub mod Entries
 pub mod Slots
