@@ -386,7 +386,8 @@ fn draw(random: &mut Random, page: &[u8], count: u64) -> Result<(), u32> {
 #[test]
 fn trees_and_challenges() {
     let mut random = Random::new(0x6a4);
-    let calls: [(fn(&mut Random) -> Result<(), u32>, &[u32]); 5] = [
+    type Call = fn(&mut Random) -> Result<(), u32>;
+    let calls: [(Call, &[u32]); 5] = [
         (expand, &[0, 6, 8]),
         (open, &[0, 6, 8, 9]),
         (masters, &[0, 6, 8]),
