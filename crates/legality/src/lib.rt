@@ -1,22 +1,19 @@
-// The tests of reading a circuit, each on its own, and the count of its AND gates: for files with fields of `bytes` bytes.
+// The tests of reading a circuit but for the chain, each on its own, and the count of its AND gates: for files with fields of `bytes` bytes.
 ghost use mathlib.Core.Path.{_≡_};
 ghost use mathlib.Core.Bool.{_&&_, _||_};
 ghost use lib.ListN.{length};
-ghost use Rattle.circuit.specs.Chain.{walkFrom};
 ghost use Rattle.circuit.specs.Circuit.{ands};
-ghost use Rattle.circuit.specs.Fields.{field, goodRecord, goodRecords, goodOutputs, chainWalk};
-ghost use Rattle.circuit.specs.FieldSteps.{Inside, Laid, Chained, Framed, limits, gatesFrom, inputsFirst};
-ghost use Rattle.circuit.specs.Steps.{wireBytes, walkPaper, readable, seen};
+ghost use Rattle.circuit.specs.Fields.{field, goodRecord, goodRecords, goodOutputs};
+ghost use Rattle.circuit.specs.FieldSteps.{Inside, Laid, Chained, limits, gatesFrom, inputsFirst};
+ghost use Rattle.circuit.specs.Steps.{wireBytes, readable, seen};
 use circuit::Gate;
 use circuit::MAX_INPUTS;
 use circuit::MAX_OUTPUTS;
 use circuit::MAX_WIRES;
 use circuit::WIRE_BYTES;
-use circuit::Walk;
 use circuit::records::and_one;
 use circuit::records::field;
 use circuit::records::record_with;
-use refusal::Refusal;
 
 // Both of two tests.
 fn both(a: bool, b: bool) -> bool
@@ -65,49 +62,6 @@ pub fn good_records(s: &[u8], bytes: usize, inputs: usize, outputs: usize, gates
         k += 1;
     }
     good
-}
-
-// Refusals 19, 20 and 21: the walk from the head along the links, up to its end or to the first fault.
-pub fn walk_chain(
-    s: &[u8],
-    bytes: usize,
-    inputs: usize,
-    outputs: usize,
-    gates: usize,
-    head: usize,
-) -> Walk
-    requires { ⌜ Framed bytes (now s) inputs outputs gates head ⌝ }
-    ensures { λ r. ⌜ walkPaper r ≡ chainWalk (field bytes (now (s .entry))) ⌝ }
-{
-    let mut left = gates;
-    let mut holder = 0;
-    let mut link = head;
-    while 0 < left {
-        if gates < link {
-            return Walk::Fault(Refusal::BeyondGates, holder);
-        }
-        if link == 0 {
-            return Walk::Fault(Refusal::EndsEarly, holder);
-        }
-        let r = record_with(s, bytes, outputs, link);
-        holder = link;
-        link = r.next;
-        left -= 1;
-    }
-    last_link(gates, holder, link)
-}
-
-// Refusals 19 and 21, after G visits: what the walk comes to by the last link, which slot `at` holds.
-fn last_link(gates: usize, at: usize, last: usize) -> Walk
-    ensures { λ r. ⌜ walkPaper r ≡ walkFrom gates (λ _. last) 0 at ⌝ }
-{
-    if gates < last {
-        return Walk::Fault(Refusal::BeyondGates, at);
-    }
-    if last == 0 {
-        return Walk::Ends;
-    }
-    Walk::Fault(Refusal::GoesOn, at)
 }
 
 // Refusal 5, the outputs: each wire below I + G.

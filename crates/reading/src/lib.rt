@@ -6,6 +6,7 @@ ghost use Rattle.circuit.specs.Fields.{field, readFields, readWith};
 ghost use Rattle.circuit.specs.FieldSteps.{Known, Framed, Linked};
 ghost use Rattle.circuit.specs.File.{maxGates};
 ghost use Rattle.circuit.specs.Operations.{readAnswer, readOp};
+use chain::walk_chain;
 use circuit::MAX_GATES;
 use circuit::ReadAnswer;
 use circuit::Sizes;
@@ -16,7 +17,6 @@ use legality::and_count;
 use legality::good_outputs;
 use legality::good_reads;
 use legality::good_records;
-use legality::walk_chain;
 use legality::within_limits;
 use refusal::Refusal;
 

@@ -1,10 +1,10 @@
--- `legality::last_link` meets its contract.
+-- `chain::last_link` meets its contract.
 -- Assumes nothing.
 use native.Mathlib.Omega.{arith}
 use borrow.Author.Tests.{lt-ltb, le-ltb, eq-eqb, ne-eqb}
 use Rattle.circuit.specs.Chain.{walkFrom}
-use Rattle.legality.proofs.last_link.Statement.{statement}
-use Rattle.legality.proofs.last_link.Tie as tie
+use Rattle.chain.proofs.last_link.Statement.{statement}
+use Rattle.chain.proofs.last_link.Tie as tie
 
 returns : tie.Need-returns
 unfolding walkFrom

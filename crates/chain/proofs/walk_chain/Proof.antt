@@ -1,4 +1,4 @@
--- `legality::walk_chain` meets its contract. The loop's invariant: the walk from the slot in hand, with the visits that are left,
+-- `chain::walk_chain` meets its contract. The loop's invariant: the walk from the slot in hand, with the visits that are left,
 -- comes to what the walk from head comes to.
 -- Assumes nothing.
 use mathlib.Core.Path.{_≡_, sym, ap, ap₂, _∙_}
@@ -9,8 +9,8 @@ use Rattle.circuit.specs.Chain.{walkFrom}
 use Rattle.circuit.specs.Fields.{field, gatesOf, linkOf, chainWalk}
 use Rattle.circuit.proofs.Slots.{inside, next-read}
 use Rattle.circuit.proofs.Walking.{at-beyond, at-early, at-next, at-last, link-head, link-slot}
-use Rattle.legality.proofs.walk_chain.Statement.{statement}
-use Rattle.legality.proofs.walk_chain.Tie as tie
+use Rattle.chain.proofs.walk_chain.Statement.{statement}
+use Rattle.chain.proofs.walk_chain.Tie as tie
 
 abbrev Inv-loop : tie.InvT-loop
 Inv-loop s bytes inputs outputs gates head left₀ holder₀ link₀ left holder link =
