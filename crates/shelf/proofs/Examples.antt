@@ -9,7 +9,8 @@ use Rattle.bits.specs.Bytes.{leAt, leBytes, sameBytes}
 use Rattle.bits.specs.Counting.{count}
 use Rattle.refusal.specs.Outcome.{refuses as refused, done}
 use Rattle.shelf_page.specs.Page.{sizeOf, readyHead, spareHead, zeroField, drawsOf, nextOf, rootOf, chain, ended, allOne, blank, headerSound, chainsFrom, sound}
-use Rattle.shelf.specs.Operations.{putSlot, putHeads, stocked, drawn, stockOp, gives, drawOp}
+use Rattle.shelf_slots.specs.Slots.{putSlot, putHeads}
+use Rattle.shelf.specs.Operations.{stocked, drawn, stockOp, gives, drawOp}
 
 -- one slot, spare
 unfoldable pub fresh : List ℕ

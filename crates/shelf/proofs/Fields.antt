@@ -11,8 +11,8 @@ use Rattle.bits.specs.Bytes.{leAt, leBytes}
 use Rattle.bits.proofs.Numbers.{lt-or-le}
 use Rattle.bits.proofs.Little.{leAt-sets, leAt-sets-other, length-leBytes, getD-sets-other}
 use Rattle.shelf_page.specs.Page.{sizeOf, readyHead, spareHead, zeroField, drawsOf, slotAt, nextOf, rootOf}
-use Rattle.shelf.specs.Operations.{putSlot, putHeads}
-use Rattle.shelf.proofs.Bytes.{part-put}
+use Rattle.shelf_slots.specs.Slots.{putSlot, putHeads}
+use Rattle.shelf_slots.proofs.Bytes.{part-put}
 
 -- a part that a run of stores does not reach
 pub part-same : (vs l : List ℕ) (j k n : ℕ) → (k + n ≤ j) ⊎ (j + length vs ≤ k) → take n (drop k (sets l j vs)) ≡ take n (drop k l)

@@ -1,4 +1,3 @@
-pub mod Bytes
 pub mod Operations
 pub mod Fields
 pub mod Moves

@@ -14,7 +14,8 @@ use Rattle.bits.specs.Counting.{count}
 use Rattle.bits.proofs.Counting.{count-same, count-other, count-cons}
 use Rattle.shelf_page.specs.Page.{sizeOf, readyHead, spareHead, drawsOf, slotAt, nextOf, rootOf, zeroRoot, readySlots, spareSlots, sound, readyRoots}
 use Rattle.shelf_page.specs.Meaning.{Leads, HasChains}
-use Rattle.shelf.specs.Operations.{putSlot, putHeads, stocked, drawn}
+use Rattle.shelf_slots.specs.Slots.{putSlot, putHeads}
+use Rattle.shelf.specs.Operations.{stocked, drawn}
 use Rattle.shelf_page.proofs.Slots.{absent, leads-frame, leads-zero, sound-chains, chains-sound, chains-length}
 use Rattle.shelf.proofs.Fields.{Moved, moved, moved-draws, moved-counted, counted-draws}
 

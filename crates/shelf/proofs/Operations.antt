@@ -3,23 +3,23 @@
 use mathlib.Core.Path.{_≡_, refl, sym, ap, ap₂, _∙_}
 use mathlib.Core.Bool.{true, false}
 use mathlib.Core.List.{List, [], _∷_}
-use mathlib.Core.Logic.{_≢_, ⊎-elim}
-use Prim.Native.Nat.{ℕ, _+_, _*_, _≤_}
-use native.Mathlib.Omega.{arith}
+use mathlib.Core.Logic.{_≢_}
+use Prim.Native.Nat.{ℕ, _+_}
 use borrow.Author.Tests.{eq-eqb, ne-eqb}
 use lib.ListN.{length, take, drop}
 use lib.Seq.{sets}
-use Rattle.shelf.specs.Steps.{movedAfter, linkAfter, noRoot}
+use Rattle.shelf.specs.Steps.{noRoot}
 use Rattle.bits.specs.Bytes.{leBytes}
-use Rattle.bits.proofs.Numbers.{eq-or-ne}
 use Rattle.refusal.specs.declared.Refusal.{Refusal}
 use Rattle.refusal.specs.Refusal.{numberOf}
 use Rattle.refusal.specs.Outcome.{Outcome, refuses, done}
 use Rattle.shelf.specs.declared.Drawn.{Drawn}
 use Rattle.shelf_page.specs.declared.Shelf.{Shelf}
 use Rattle.shelf_page.specs.Page.{slotAt, readyHead, spareHead, drawsOf, nextOf, rootOf, zeroRoot, sound}
-use Rattle.shelf.specs.Operations.{putSlot, putHeads, stocked, drawn, stockOp, drawOp, outcome, rootOut, gives}
+use Rattle.shelf.specs.Operations.{stocked, drawn, stockOp, drawOp, outcome, rootOut, gives}
 use Rattle.shelf_page.proofs.Soundness.{shelfOf}
+use Rattle.shelf_slots.specs.Slots.{putSlot, putHeads}
+use Rattle.shelf_slots.specs.Steps.{movedAfter, linkAfter}
 
 module _ (p root : List ℕ) where
   pub stock-14 : sound p ≡ false → stockOp p root ≡ refuses 14 (p ∷ [])
@@ -82,12 +82,6 @@ pub stock-done : (p root : List ℕ) (s : Shelf) (next : ℕ) (a b : List ℕ) �
     → a ≡ putSlot (s .spare) (s .ready) root p → b ≡ putHeads (s .spare) next a → b ≡ stocked p root
 unfolding stocked
 stock-done p root s next a b e f g h = cc
-
--- the link that leads to a spare slot is inside the page
-pub link-room : (before n : ℕ) → 12 + 18 * before ≤ n → linkAfter before + 2 ≤ n
-unfolding linkAfter
-link-room before n h =
-    ⊎-elim (λ e. rw (eq-eqb before 0 e) (omega arith)) (λ e. rw (ne-eqb before 0 e) (omega (arith, e))) (eq-or-ne before 0)
 
 -- a slot at the front of spare
 moved-front : (k next : ℕ) (root p : List ℕ) → movedAfter 0 k next root p ≡ putHeads next k (putSlot k (spareHead p) root p)

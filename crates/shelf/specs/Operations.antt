@@ -6,14 +6,15 @@ use Prim.Native.Nat.{ℕ, _+_}
 use lib.Dec.{eqb}
 use lib.ListN.{length, getD}
 use lib.Seq.{sets}
-use Rattle.bits.specs.Bytes.{leBytes, leAt}
+use Rattle.bits.specs.Bytes.{leBytes}
 use Rattle.refusal.specs.declared.Refusal.the-variants.{BufferLength, Shelf, Count, Empty, Full, Exhausted}
 use Rattle.refusal.specs.declared.Refusal.{Refusal}
 use Rattle.refusal.specs.Refusal.{numberOf}
 use Rattle.refusal.specs.Outcome.{Answer, refusalAt, refusal, success, Outcome, done, unless}
 use Rattle.shelf.specs.declared.Answer as declared
 use Rattle.shelf.specs.declared.Answer.the-variants.{Accepted, Refused}
-use Rattle.shelf_page.specs.Page.{readyHead, spareHead, drawsOf, slotAt, nextOf, rootOf, zeroRoot, sound}
+use Rattle.shelf_page.specs.Page.{readyHead, spareHead, drawsOf, nextOf, rootOf, zeroRoot, sound}
+use Rattle.shelf_slots.specs.Slots.{putSlot, putHeads}
 
 -- the answer of stock and of draw in the paper's terms, where a success has these values: of stock none, of draw the root's bytes
 abbrev pub paper : declared.Answer → List ℕ → Answer
@@ -32,14 +33,6 @@ pageLeft o = getD (o .left) 0 []
 abbrev pub rootOut : Answer → List ℕ
 rootOut (refusalAt k x) = zeroRoot
 rootOut (success root) = root
-
--- slot k with this next slot and this root
-unfoldable pub putSlot : ℕ → ℕ → List ℕ → List ℕ → List ℕ
-putSlot k next root p = sets (sets p (slotAt k) (leBytes 2 next)) (slotAt k + 2) root
-
--- the heads of the ready chain and of the spare chain
-unfoldable pub putHeads : ℕ → ℕ → List ℕ → List ℕ
-putHeads ready spare p = sets (sets p 2 (leBytes 2 ready)) 4 (leBytes 2 spare)
 
 -- "Stocking writes the lent root into the first spare slot and moves that slot to the front of ready."
 unfoldable pub stocked : List ℕ → List ℕ → List ℕ

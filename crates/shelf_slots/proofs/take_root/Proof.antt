@@ -1,12 +1,12 @@
--- `shelf::take_root` meets its contract. The loop's invariant: the first i bytes are the page's.
+-- `shelf_slots::take_root` meets its contract. The loop's invariant: the first i bytes are the page's.
 -- Assumes nothing.
 use mathlib.Core.Path.{_≡_, refl, _∙_}
 use Prim.Native.Nat.{ℕ, _+_, _-_, _≤_, _<_}
 use native.Mathlib.Omega.{arith}
 use lib.ListN.{length, getD, length-set}
-use Rattle.shelf.proofs.Bytes.{copy-more, part-ext}
-use Rattle.shelf.proofs.take_root.Statement.{statement}
-use Rattle.shelf.proofs.take_root.Tie as tie
+use Rattle.shelf_slots.proofs.Bytes.{copy-more, part-ext}
+use Rattle.shelf_slots.proofs.take_root.Statement.{statement}
+use Rattle.shelf_slots.proofs.take_root.Tie as tie
 
 abbrev Inv-loop : tie.InvT-loop
 Inv-loop page at root₀ i₀ root i = (i ≤ 16) × ((length root ≡ 16) × ((k : ℕ) → k < i → getD root k 0 ≡ getD page (at + k) 0))

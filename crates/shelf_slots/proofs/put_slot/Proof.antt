@@ -1,9 +1,9 @@
--- `shelf::put_slot` meets its contract: the next slot, then the root.
+-- `shelf_slots::put_slot` meets its contract: the next slot, then the root.
 -- Assumes nothing.
 use borrow.Author.Needs.{needs}
-use Rattle.shelf.specs.Operations.{putSlot}
-use Rattle.shelf.proofs.put_slot.Statement.{statement}
-use Rattle.shelf.proofs.put_slot.Tie as tie
+use Rattle.shelf_slots.specs.Slots.{putSlot}
+use Rattle.shelf_slots.proofs.put_slot.Statement.{statement}
+use Rattle.shelf_slots.proofs.put_slot.Tie as tie
 
 slot-at-requires : tie.Need-slot-at-requires
 slot-at-requires c κs = search needs

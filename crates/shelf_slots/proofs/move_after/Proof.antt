@@ -1,12 +1,12 @@
--- `shelf::move_after` meets its contract: the slot, then the two links.
+-- `shelf_slots::move_after` meets its contract: the slot, then the two links.
 -- Assumes nothing.
 use native.Mathlib.Omega.{arith}
 use borrow.Author.Needs.{needs}
 use lib.ListN.{length}
-use Rattle.shelf.specs.Steps.{movedAfter}
-use Rattle.shelf.proofs.Operations.{link-room}
-use Rattle.shelf.proofs.move_after.Statement.{statement}
-use Rattle.shelf.proofs.move_after.Tie as tie
+use Rattle.shelf_slots.specs.Steps.{movedAfter}
+use Rattle.shelf_slots.proofs.Links.{link-room}
+use Rattle.shelf_slots.proofs.move_after.Statement.{statement}
+use Rattle.shelf_slots.proofs.move_after.Tie as tie
 
 link-after-requires : tie.Need-link-after-requires
 link-after-requires c κs = search needs

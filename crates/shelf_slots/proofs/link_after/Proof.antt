@@ -1,10 +1,10 @@
--- `shelf::link_after` meets its contract.
+-- `shelf_slots::link_after` meets its contract.
 -- Assumes nothing.
 use borrow.Author.Needs.{needs}
 use borrow.Author.Tests.{eq-eqb, ne-eqb}
-use Rattle.shelf.specs.Steps.{linkAfter}
-use Rattle.shelf.proofs.link_after.Statement.{statement}
-use Rattle.shelf.proofs.link_after.Tie as tie
+use Rattle.shelf_slots.specs.Steps.{linkAfter}
+use Rattle.shelf_slots.proofs.link_after.Statement.{statement}
+use Rattle.shelf_slots.proofs.link_after.Tie as tie
 
 slot-at-requires : tie.Need-slot-at-requires
 slot-at-requires c κs = search needs

@@ -1,9 +1,9 @@
--- `shelf::put_heads` meets its contract: one head, then the other.
+-- `shelf_slots::put_heads` meets its contract: one head, then the other.
 -- Assumes nothing.
 use borrow.Author.Needs.{needs}
-use Rattle.shelf.specs.Operations.{putHeads}
-use Rattle.shelf.proofs.put_heads.Statement.{statement}
-use Rattle.shelf.proofs.put_heads.Tie as tie
+use Rattle.shelf_slots.specs.Slots.{putHeads}
+use Rattle.shelf_slots.proofs.put_heads.Statement.{statement}
+use Rattle.shelf_slots.proofs.put_heads.Tie as tie
 
 write-u16-requires : tie.Need-write-u16-requires
 write-u16-requires c κs = search needs

@@ -1,4 +1,4 @@
--- `shelf::put_root` meets its contract. The loop's invariant: the first i bytes of the root are stored.
+-- `shelf_slots::put_root` meets its contract. The loop's invariant: the first i bytes of the root are stored.
 -- Assumes nothing.
 use mathlib.Core.List.{List}
 use mathlib.Core.Path.{_≡_, refl, sym, ap, _∙_}
@@ -6,9 +6,9 @@ use Prim.Native.Nat.{ℕ, _+_, _-_, _≤_, _<_}
 use native.Mathlib.Omega.{arith}
 use lib.Seq.{take-all, sets}
 use lib.ListN.{take, length, getD, set, length-set}
-use Rattle.shelf.proofs.Bytes.{sets-more}
-use Rattle.shelf.proofs.put_root.Statement.{statement}
-use Rattle.shelf.proofs.put_root.Tie as tie
+use Rattle.shelf_slots.proofs.Bytes.{sets-more}
+use Rattle.shelf_slots.proofs.put_root.Statement.{statement}
+use Rattle.shelf_slots.proofs.put_root.Tie as tie
 
 abbrev Inv-loop : tie.InvT-loop
 Inv-loop page₀ at root i₀ page i = (i ≤ 16) × ((length page ≡ length page₀) × (page ≡ sets page₀ at (take i root)))
