@@ -16,7 +16,8 @@ use Rattle.bits.proofs.Xor.{taut, xors-and, xors-change, xors-cong, xors-xor}
 use Rattle.words.specs.Words.{parity, every, place, broadcastWord, chosen}
 use Rattle.words.proofs.Columns.{chosen-bit}
 use Rattle.packing.proofs.Agree.{every-bit}
-use Rattle.correcting.specs.Steps.{wireByte, maskOf, correctionByte, outputByte}
+use Rattle.correcting_gate.specs.Steps.{correctionByte, outputByte}
+use Rattle.correcting.specs.Steps.{wireByte, maskOf}
 
 -- parity goes over XOR
 pub parity-xor : (n x y : ℕ) → parity n (bitXor x y) ≡ parity n x ⊕ parity n y

@@ -30,7 +30,8 @@ use Rattle.planes.proofs.Views.{masked-share, masked-tape, masked-masked}
 use Rattle.gates.specs.Steps.{putWire, xorStep, invStep}
 use Rattle.gates.proofs.Holding.{put-at, put-same, put-other, Holds, wire-step, sent-step, xor-holds, inv-holds}
 use Rattle.gates.proofs.Steps.{room-kept}
-use Rattle.correcting.specs.Steps.{maskOf, correctionByte, outputByte, sentWord, correctStep}
+use Rattle.correcting_gate.specs.Steps.{correctionByte, outputByte, sentWord}
+use Rattle.correcting.specs.Steps.{maskOf, correctStep}
 use Rattle.correcting.proofs.Bytes.{parity-xor, masked-right, correction-odd, output-odd, output-mask, xor-mask, inv-mask}
 
 -- memories with the same bytes in the planes

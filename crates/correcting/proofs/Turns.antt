@@ -1,13 +1,11 @@
 -- Each step from its parts, and each loop's turn.
 -- Assumes nothing.
 use mathlib.Core.Path.{_≡_, refl, sym, ap, ap₂, _∙_}
-use mathlib.Core.Bool.{Bool, true, false}
 use mathlib.Core.List.{List, _++_, append-assoc}
-use Prim.Native.Nat.{ℕ, zero, suc, _+_, _-_, _*_, _/_, _%_, _≤_, _<_}
+use Prim.Native.Nat.{ℕ, zero, suc, _+_, _-_, _*_, _≤_, _<_}
 use native.Mathlib.Numerals.{add-one}
 use native.Mathlib.Omega.{arith}
 use borrow.Rule.Slice.PartMut.{midOf, postOf, putMid, mid-len, post-is}
-use lib.Bits.{bitXor, bitAnd}
 use lib.ListN.{length, take, drop, replicate, length-replicate}
 use lib.Seq.{sets, sets-eq}
 use Rattle.bits.specs.Bits.{odd, oct, bitVal, bitAt}
@@ -17,23 +15,13 @@ use Rattle.circuit.specs.Steps.{gateOf, recordOf, andOne}
 use Rattle.circuit.specs.declared.Gate as declared
 use Rattle.circuit.specs.declared.Record.{Record}
 use Rattle.circuit.proofs.Chain.{next-read, gate-read}
-use Rattle.words.specs.Words.{parity, every, broadcastWord, chosen}
+use Rattle.words.specs.Words.{parity}
 use Rattle.planes.specs.Steps as planes
 use Rattle.planes.specs.Steps.{rowsAt, correctionsAt, maskWord, share, putShare, tape, putTape, masked, putMasked, loadedRows}
 use Rattle.planes.specs.declared.Layout.{Layout}
 use Rattle.packed.specs.Steps.{wordsCleared}
-use Rattle.correcting.specs.Steps.{wireByte, correctionByte, outputByte, sentWord, correctStep, gateStep, walked, correctionsCleared, tapesLoaded, masksLoaded}
-
--- a bit is at most 1
-pub bit-low : (x : ℕ) (b : Bool) → x ≡ bitVal b → x ≤ 1
-bit-low x true e = omega (arith, e)
-bit-low x false e = omega (arith, e)
-
--- the broadcasts: the words u and v have masked a and masked b at each place, e the correction, h the product shares with it
-pub word-done : (x y sa sb z o last q e h u v : ℕ) → q ≡ bitVal (parity 64 z) → e ≡ every 64 (odd (bitXor (bitAnd (x / 2) (y / 2)) q)) → h ≡ chosen last e z
-    → u ≡ every 64 (odd x) → v ≡ every 64 (odd y) → bitXor (bitXor (bitXor (bitAnd u sb) (bitAnd v sa)) h) o ≡ sentWord x y sa sb z o last
-unfolding sentWord broadcastWord
-word-done x y sa sb z o last q e h u v eq ee eh eu ev = rw (eh, ee, eq, eu, ev)
+use Rattle.correcting_gate.specs.Steps.{correctionByte, outputByte, sentWord}
+use Rattle.correcting.specs.Steps.{wireByte, correctStep, gateStep, walked, correctionsCleared, tapesLoaded, masksLoaded}
 
 -- an AND gate: the memory is h after the correction is put, then k, r and u
 pub and-done : (l : Layout) (a b c t i j last x y sa sb o z word wire bit at : ℕ) (m h k r u : List ℕ) → i ≡ maskWord l t → j ≡ planes.broadcastWord l t

@@ -4,8 +4,7 @@
 -- Assumes nothing.
 use mathlib.Core.Bool.{Bool}
 use mathlib.Core.List.{List}
-use Prim.Native.Nat.{ℕ, zero, suc, _+_, _-_, _*_, _/_, _%_}
-use lib.Bits.{bitXor, bitAnd}
+use Prim.Native.Nat.{ℕ, zero, suc, _+_, _-_, _*_}
 use lib.ListN.{replicate}
 use lib.Seq.{sets}
 use Rattle.bits.specs.Bits.{odd, oct, bitVal, testBit, bitAt}
@@ -16,11 +15,12 @@ use Rattle.circuit.specs.declared.Gate.{Gate}
 use Rattle.circuit.specs.declared.Gate.the-variants.{Xor, And, Inv}
 use Rattle.circuit.specs.declared.Sizes.{Sizes}
 use Rattle.plain.specs.Showing.{maskedInputs}
-use Rattle.words.specs.Words.{parity, every, place, broadcastWord, chosen}
+use Rattle.words.specs.Words.{parity, place}
 use Rattle.planes.specs.Steps as planes
 use Rattle.planes.specs.Steps.{correctionsAt, maskWord, share, putShare, tape, putTape, masked, putMasked, loadedTapes}
 use Rattle.planes.specs.declared.Layout.{Layout}
 use Rattle.gates.specs.Steps.{putWire, xorStep, invStep}
+use Rattle.correcting_gate.specs.Steps.{correctionByte, outputByte, sentWord}
 use Rattle.walk.specs.Steps.{layoutOf, outputsSent}
 use Rattle.packed.specs.Steps.{wordsCleared, tapeBytes, tapesHeld}
 
@@ -31,19 +31,6 @@ wireByte b k = bitVal b + 2 * bitVal k
 -- the mask in a wire's byte
 abbrev pub maskOf : ℕ → Bool
 maskOf x = testBit x 1
-
--- "the correction bit: the product of the two input masks XOR the other parties' product shares", in the lowest bit; wires with bytes x
--- and y, product shares z, of which party n − 1's is zero
-abbrev pub correctionByte : ℕ → ℕ → ℕ → ℕ
-correctionByte x y z = bitXor (bitAnd (x / 2) (y / 2)) (bitVal (parity 64 z))
-
--- "A wire's masked value is its value XOR its mask": the byte of an AND gate's output, whose mask is k
-abbrev pub outputByte : ℕ → ℕ → Bool → ℕ
-outputByte x y k = bitXor (bitAnd (bitXor x (x / 2)) (bitXor y (y / 2)) % 2) (3 * bitVal k)
-
--- "a party broadcasts the XOR of four bits", and "Party n − 1's product share is the correction bit": at the place `last`
-unfoldable pub sentWord : ℕ → ℕ → ℕ → ℕ → ℕ → ℕ → ℕ → ℕ
-sentWord x y sa sb z o last = broadcastWord 64 (odd x) (odd y) sa sb (chosen last (every 64 (odd (correctionByte x y z))) z) o
 
 -- AND gate t of wires a and b into c
 unfoldable pub correctStep : Layout → ℕ → ℕ → ℕ → ℕ → ℕ → List ℕ → List ℕ

@@ -2,4 +2,3 @@
 // of another gate's broadcasts.
 pub mod loading;
 pub mod running;
-pub mod words_and;

@@ -8,7 +8,8 @@ use Rattle.bits.specs.Bits.{bitAt}
 use Rattle.words.specs.Words.{parity}
 use Rattle.gates.proofs.Steps.{room-kept}
 use Rattle.correcting.specs.Steps.{masksLoaded}
-use Rattle.correcting.proofs.Turns.{bit-low, masks-none, masks-turn}
+use Rattle.correcting_gate.proofs.Words.{bit-low}
+use Rattle.correcting.proofs.Turns.{masks-none, masks-turn}
 use Rattle.correcting.proofs.loading.load_masks.Statement.{statement}
 use Rattle.correcting.proofs.loading.load_masks.Tie as tie
 

@@ -1,4 +1,4 @@
--- `correcting::words_and::correct` meets its contract.
+-- `correcting_gate::correct` meets its contract.
 -- Assumes nothing.
 use borrow.Author.Needs.{needs}
 use native.Mathlib.Omega.{arith}
@@ -6,9 +6,9 @@ use mathlib.Core.Path.{ap}
 use Prim.Native.Nat.{ℕ, _*_, _/_, _%_}
 use lib.Bits.{bitXor, bitAnd}
 use Rattle.words.specs.Words.{parity}
-use Rattle.correcting.proofs.Turns.{bit-low, word-done}
-use Rattle.correcting.proofs.words_and.correct.Statement.{statement}
-use Rattle.correcting.proofs.words_and.correct.Tie as tie
+use Rattle.correcting_gate.proofs.Words.{bit-low, word-done}
+use Rattle.correcting_gate.proofs.correct.Statement.{statement}
+use Rattle.correcting_gate.proofs.correct.Tie as tie
 
 parity-requires : tie.Need-parity-requires
 parity-requires c κs = search needs

@@ -1,7 +1,7 @@
 // An AND gate on words that makes its correction.
 ghost use mathlib.Core.Path.{_≡_};
 ghost use Rattle.words.specs.Words.{parity};
-ghost use Rattle.correcting.specs.Steps.{correctionByte, outputByte, sentWord};
+ghost use Rattle.correcting_gate.specs.Steps.{correctionByte, outputByte, sentWord};
 use words::chosen;
 use words::every;
 use words::parity;
