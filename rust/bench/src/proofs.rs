@@ -80,6 +80,11 @@ impl Example {
         Example::of((name, price::circuit(gates), witness))
     }
 
+    /// So many AND gates, on ones.
+    fn ands(name: &'static str, gates: u32) -> Example {
+        Example::of((name, published::ands(gates), vec![0xff; 16]))
+    }
+
     fn statement(&self) -> Statement<'_> {
         Statement {
             circuit: &self.circuit,
@@ -296,13 +301,14 @@ pub fn print(openssl: Option<&OpenSsl>) {
     print_table(&[Example::worst()], UP_TO_16, 6, openssl);
     print_many_parties(openssl);
     print_prices(openssl);
+    print_ands(openssl);
     print_parties_and_instances(openssl);
     published::print();
 }
 
 /// Error 2^-128 with 32 parties as table 1 of Katz, Kolesnikov and Wang has it, and with 64:
 /// the table's M, 631, is above 512, so tau is the least one for which an M is not.
-const MANY_PARTIES: [Counts; 2] = [
+pub const MANY_PARTIES: [Counts; 2] = [
     Counts {
         m: 462,
         tau: 27,
@@ -355,6 +361,26 @@ fn print_prices(openssl: Option<&OpenSsl>) {
     for example in &examples[1..] {
         print_memory(example);
     }
+    println!();
+}
+
+/// Circuits of AND gates alone, 9,000 and 90,000 of them: their time is nearly all the
+/// gates'.
+fn print_ands(openssl: Option<&OpenSsl>) {
+    let examples = [
+        Example::ands("1 AND gate", 1),
+        Example::ands("9000 AND gates", 9_000),
+        Example::ands("90000 AND gates", 90_000),
+    ];
+    let rows = examples
+        .iter()
+        .flat_map(|example| rows_without_second(example, PRICE_COUNTS, openssl));
+    let best = print_rows(&mut rows.collect::<Vec<Row>>(), 3, LEAST_TAU, openssl);
+    print_growth(
+        ["90000 against 9000 AND gates", "AND gate", "1 gate"],
+        examples.each_ref().map(|example| example.sizes.ands),
+        &best,
+    );
     println!();
 }
 

@@ -27,7 +27,7 @@ const INSTANCES: u32 = 512;
 const ROUNDS: usize = 3;
 
 /// Each gate is an AND of the last two wires; the output is the last one, 1 for ones.
-fn ands(gates: u32) -> Vec<u8> {
+pub fn ands(gates: u32) -> Vec<u8> {
     let inputs = 128;
     let mut words = vec![inputs, 1, gates, 1, inputs + gates - 1];
     for k in 0..gates {

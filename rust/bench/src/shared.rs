@@ -1,6 +1,6 @@
 //! 16 callers on one shared checker, beside 16 checks alone.
 
-use crate::proofs::{Example, MESSAGE};
+use crate::proofs::{Example, MANY_PARTIES, MESSAGE};
 use crate::rows::{best_times, call, cell, print_line, Call, Row};
 use reference::proof::Counts;
 use wivulameno::limits::MAX_CALLERS;
@@ -78,13 +78,18 @@ impl Callers {
     }
 }
 
-/// Small circuits, then what it costs that every call reads the large circuits again.
+/// Small circuits, by few parties and by more, then what it costs that every call reads the
+/// large circuits again.
 pub fn print() {
     let counts = |m, tau, n| Counts { m, tau, n };
     let small = Callers::of(Example::covers16(), counts(145, 66, 8));
     let large = Callers::of(Example::price("100000 gates", 100_000), counts(16, 4, 16));
     let mut rows = [16, 64, 512].map(|quota| small.row(quota));
     print_rows(&mut rows, 5);
+    let more = [counts(352, 33, 16), MANY_PARTIES[0], MANY_PARTIES[1]];
+    let more = more.map(|counts| Callers::of(Example::covers16(), counts));
+    let mut rows = more.each_ref().map(|callers| callers.row(64));
+    print_rows(&mut rows, 2);
     let mut rows = [16, 64, 512].map(|quota| large.row(quota));
     print_rows(&mut rows, 2);
     println!();
