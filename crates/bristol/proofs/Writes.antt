@@ -20,7 +20,7 @@ use Rattle.building.specs.Steps.{fourBytes}
 use Rattle.building.proofs.Built.{built, not-built}
 use Rattle.bristol_text.specs.Text.{Line, lines}
 use Rattle.bristol_text.specs.declared.Cursor.{Cursor}
-use Rattle.bristol_lines.specs.Rules.{GateLine, Text, Reading, refused, says, isKnown, kindOn, gateOn, writes, fitsBelow, lastWire, gateElse22, gateLines}
+use Rattle.bristol_lines.specs.Rules.{GateLine, Text, Reading, refused, says, Below, isKnown, kindOn, gateOn, writes, fitsBelow, lastWire, gateElse22, gateLines}
 use Rattle.bristol_lines.specs.Conversion.{slotOf, firstSlot, textFile}
 use Rattle.bristol.specs.Operations.{conversion}
 use Rattle.bristol_lines.specs.Steps.{recordBytes, Begun, HeaderTold, lineOf, gateOf, readAs, gateRead, firstGate, GateAt, Few, gatesAt, refusalOf, gateBefore, gatesFrom, Going, Output, Room, Started, stored, filed}
@@ -271,10 +271,10 @@ convert-refused (says t) n out e =
     let z : _≡_ {A = ℕ} 0 1 = cc in
     absurd (omega arith)
 
-pub header-refused : (s : List ℕ) (x : Reading) (r : Header) (k : Refusal) → r ≡ header.Refused k → HeaderTold s x r → x ≡ refused (numberOf k)
+pub header-refused : (s : List ℕ) (x : Below → Reading) (r : Header) (k : Refusal) → r ≡ header.Refused k → HeaderTold s x r → (below : Below) → x below ≡ refused (numberOf k)
 header-refused s x r k e h = subst (HeaderTold s x) e h
 
-pub header-good : (s : List ℕ) (x : Reading) (r : Header) (z : Sizes) (c : Cursor) → r ≡ header.Good z c → HeaderTold s x r → Begun s x z (c .at)
+pub header-good : (s : List ℕ) (x : Below → Reading) (r : Header) (z : Sizes) (c : Cursor) → r ≡ header.Good z c → HeaderTold s x r → Begun s x z (c .at)
 header-good s x r z c e h = subst (HeaderTold s x) e h
 
 pub room-same : (z : Sizes) (out new : List ℕ) → Room z out → length new ≡ length out → Room z new

@@ -12,7 +12,7 @@ use borrow.Author.Tests.{leb-true}
 use Rattle.bits.proofs.Tests.{and-true-left, and-true-right}
 use Rattle.bristol_text.specs.Text.{Line, lines}
 use Rattle.circuit.specs.File.{maxInputs, maxOutputs, maxGates}
-use Rattle.bristol_lines.specs.Rules.{GateLine, Text, Reading, refused, says, isCounts, isGroups, groupSum, numbersOn, isKnown, kindOn, gateOn, fitsBelow, gateElse22, gateLines, outputLine, inputLine, countLine, readText}
+use Rattle.bristol_lines.specs.Rules.{GateLine, Text, Reading, refused, says, isCounts, isGroups, groupSum, numbersOn, isKnown, kindOn, gateOn, fitsBelow, gateElse22, gateLines, outputLine, inputLine, countLine, readText, gatesBelow}
 
 -- each of the gate lines fits below the ones above it
 unfoldable pub Fits : ℕ → ℕ → List GateLine → List GateLine → Type 0
@@ -106,7 +106,7 @@ module _ (t : Text) where
         fits = rw g (m .fits);
       }
 
-  outputs-accepted : (I G : ℕ) (ls : List Line) → outputLine I G ls ≡ says t → Below I G t
+  outputs-accepted : (I G : ℕ) (ls : List Line) → outputLine gatesBelow I G ls ≡ says t → Below I G t
   unfolding outputLine
   outputs-accepted I G [] e =
       let z : _≡_ {A = ℕ} 0 1 = cc in
@@ -136,7 +136,7 @@ module _ (t : Text) where
         fits = rw (i, g) (k .fits);
       }
 
-  inputs-accepted : (G wires : ℕ) (ls : List Line) → G ≤ maxGates → inputLine G wires ls ≡ says t → Accepted t
+  inputs-accepted : (G wires : ℕ) (ls : List Line) → G ≤ maxGates → inputLine gatesBelow G wires ls ≡ says t → Accepted t
   unfolding inputLine
   inputs-accepted G wires [] h e =
       let z : _≡_ {A = ℕ} 0 1 = cc in
@@ -145,19 +145,19 @@ module _ (t : Text) where
       let I : ℕ = groupSum l in
       let formed : Bool = isGroups l && eqb wires (I + G) in
       let limited : Bool = leb 1 I && leb I maxInputs in
-      let e₂ = after formed 22 (cond (not limited) (refused 24) (outputLine I G ls)) e in
-      let q = passed limited 24 (outputLine I G ls) e₂ in
+      let e₂ = after formed 22 (cond (not limited) (refused 24) (outputLine gatesBelow I G ls)) e in
+      let q = passed limited 24 (outputLine gatesBelow I G ls) e₂ in
       accepted I G (leb-true 1 I (and-true-left (leb 1 I) (leb I maxInputs) q)) (leb-true I maxInputs (and-true-right (leb 1 I) (leb I maxInputs) q))
-      h (outputs-accepted I G ls (after limited 24 (outputLine I G ls) e₂))
+      h (outputs-accepted I G ls (after limited 24 (outputLine gatesBelow I G ls) e₂))
 
-  counts-accepted : (ls : List Line) → countLine ls ≡ says t → Accepted t
+  counts-accepted : (ls : List Line) → countLine gatesBelow ls ≡ says t → Accepted t
   unfolding countLine
   counts-accepted [] e =
       let z : _≡_ {A = ℕ} 0 1 = cc in
       absurd (omega arith)
   counts-accepted (l ∷ ls) e =
       let G : ℕ = getD (numbersOn l) 0 0 in
-      let rest : Reading = inputLine G (getD (numbersOn l) 1 0) ls in
+      let rest : Reading = inputLine gatesBelow G (getD (numbersOn l) 1 0) ls in
       let e₂ = after (isCounts l) 22 (cond (not (leb G maxGates)) (refused 24) rest) e in
       inputs-accepted G (getD (numbersOn l) 1 0) ls (leb-true G maxGates (passed (leb G maxGates) 24 rest e₂)) (after (leb G maxGates) 24 rest e₂)
 

@@ -20,8 +20,8 @@ use Rattle.bristol_text.proofs.Along.{tokens-step, token-inside, number-read, n
 use Rattle.bristol_text.proofs.Before.{field-read, field-unread, last-here, more-here}
 use Rattle.bristol_text.proofs.Lines.{no-line, line-here}
 use Rattle.circuit.specs.File.{maxInputs, maxOutputs, maxGates}
-use Rattle.bristol_lines.specs.Rules.{Reading, refused, isHeader, numbersOn, isCounts, isGroups, groupSum, gateLines, outputLine, inputLine, countLine, readText}
-use Rattle.bristol_lines.specs.Steps.{whole, countsOf, groupsOf, sizesOf, firstGroups, SumAt, GroupsAt, gatesAt, Begun, HeaderTold}
+use Rattle.bristol_lines.specs.Rules.{Reading, refused, Below, isHeader, numbersOn, isCounts, isGroups, groupSum, outputLine, inputLine, countLine}
+use Rattle.bristol_lines.specs.Steps.{whole, countsOf, groupsOf, sizesOf, firstGroups, SumAt, GroupsAt, Begun, HeaderTold}
 use Rattle.bristol_lines.specs.declared.Counts.{Counts}
 use Rattle.bristol_lines.specs.declared.Counts.the-variants as counts
 use Rattle.bristol_lines.specs.declared.Groups.{Groups}
@@ -29,6 +29,7 @@ use Rattle.bristol_lines.specs.declared.Groups.the-variants as groups
 use Rattle.bristol_lines.specs.declared.GroupLine.{GroupLine}
 use Rattle.bristol_lines.specs.declared.GroupLine.the-variants as groupLine
 use Rattle.bristol_lines.specs.declared.Header.{Header}
+use Rattle.bristol_lines.specs.declared.Header.the-variants as header
 
 pub and-false : (a : Bool) → a && false ≡ false
 and-false true = refl
@@ -298,74 +299,75 @@ some-true false x n e =
     let z : _≡_ {A = ℕ} 0 1 = cc in
     absurd (omega arith)
 
-pub outputs-none : (I G : ℕ) (ls : List Line) → firstGroups ls ≡ none → outputLine I G ls ≡ refused 22
-unfolding firstGroups outputLine
-outputs-none I G [] e = refl
-outputs-none I G (l ∷ ls) e = rw (none-false (isGroups l) (groupSum l) e)
+module _ (below : Below) where
+  pub outputs-none : (I G : ℕ) (ls : List Line) → firstGroups ls ≡ none → outputLine below I G ls ≡ refused 22
+  unfolding firstGroups outputLine
+  outputs-none I G [] e = refl
+  outputs-none I G (l ∷ ls) e = rw (none-false (isGroups l) (groupSum l) e)
 
-pub inputs-none : (G W : ℕ) (ls : List Line) → firstGroups ls ≡ none → inputLine G W ls ≡ refused 22
-unfolding firstGroups inputLine
-inputs-none G W [] e = refl
-inputs-none G W (l ∷ ls) e = rw (none-false (isGroups l) (groupSum l) e)
+  pub inputs-none : (G W : ℕ) (ls : List Line) → firstGroups ls ≡ none → inputLine below G W ls ≡ refused 22
+  unfolding firstGroups inputLine
+  inputs-none G W [] e = refl
+  inputs-none G W (l ∷ ls) e = rw (none-false (isGroups l) (groupSum l) e)
 
-outputs-some : (I G n : ℕ) (ls : List Line) → firstGroups ls ≡ some n
-    → outputLine I G ls ≡ cond (not (leb n (I + G))) (refused 22) (cond (not (leb 1 n && leb n maxOutputs)) (refused 24) (gateLines I n G G [] (drop 1 ls)))
-unfolding firstGroups outputLine
-outputs-some I G n [] e =
-    let z : _≡_ {A = ℕ} 0 1 = cc in
-    absurd (omega arith)
-outputs-some I G n (l ∷ ls) e =
-    let w = some-true (isGroups l) (groupSum l) n e in
-    rw (w .0, w .1)
+  outputs-some : (I G n : ℕ) (ls : List Line) → firstGroups ls ≡ some n
+      → outputLine below I G ls ≡ cond (not (leb n (I + G))) (refused 22) (cond (not (leb 1 n && leb n maxOutputs)) (refused 24) (below I n G (drop 1 ls)))
+  unfolding firstGroups outputLine
+  outputs-some I G n [] e =
+      let z : _≡_ {A = ℕ} 0 1 = cc in
+      absurd (omega arith)
+  outputs-some I G n (l ∷ ls) e =
+      let w = some-true (isGroups l) (groupSum l) n e in
+      rw (w .0, w .1)
 
-inputs-some : (G W n : ℕ) (ls : List Line) → firstGroups ls ≡ some n
-    → inputLine G W ls ≡ cond (not (eqb W (n + G))) (refused 22) (cond (not (leb 1 n && leb n maxInputs)) (refused 24) (outputLine n G (drop 1 ls)))
-unfolding firstGroups inputLine
-inputs-some G W n [] e =
-    let z : _≡_ {A = ℕ} 0 1 = cc in
-    absurd (omega arith)
-inputs-some G W n (l ∷ ls) e =
-    let w = some-true (isGroups l) (groupSum l) n e in
-    rw (w .0, w .1)
+  inputs-some : (G W n : ℕ) (ls : List Line) → firstGroups ls ≡ some n
+      → inputLine below G W ls ≡ cond (not (eqb W (n + G))) (refused 22) (cond (not (leb 1 n && leb n maxInputs)) (refused 24) (outputLine below n G (drop 1 ls)))
+  unfolding firstGroups inputLine
+  inputs-some G W n [] e =
+      let z : _≡_ {A = ℕ} 0 1 = cc in
+      absurd (omega arith)
+  inputs-some G W n (l ∷ ls) e =
+      let w = some-true (isGroups l) (groupSum l) n e in
+      rw (w .0, w .1)
 
-module _ (I G n : ℕ) (ls : List Line) (e : firstGroups ls ≡ some n) where
-  pub outputs-above : I + G < n → outputLine I G ls ≡ refused 22
-  outputs-above h = outputs-some I G n ls e ∙ rw (lt-leb n (I + G) h)
+  module _ (I G n : ℕ) (ls : List Line) (e : firstGroups ls ≡ some n) where
+    pub outputs-above : I + G < n → outputLine below I G ls ≡ refused 22
+    outputs-above h = outputs-some I G n ls e ∙ rw (lt-leb n (I + G) h)
 
-  pub outputs-few : n ≤ I + G → n < 1 → outputLine I G ls ≡ refused 24
-  outputs-few h l = outputs-some I G n ls e ∙ rw (le-leb n (I + G) h, lt-leb 1 n l)
+    pub outputs-few : n ≤ I + G → n < 1 → outputLine below I G ls ≡ refused 24
+    outputs-few h l = outputs-some I G n ls e ∙ rw (le-leb n (I + G) h, lt-leb 1 n l)
 
-  pub outputs-many : n ≤ I + G → 1 ≤ n → maxOutputs < n → outputLine I G ls ≡ refused 24
-  outputs-many h l m = outputs-some I G n ls e ∙ rw (le-leb n (I + G) h, le-leb 1 n l, lt-leb n 256 m)
+    pub outputs-many : n ≤ I + G → 1 ≤ n → maxOutputs < n → outputLine below I G ls ≡ refused 24
+    outputs-many h l m = outputs-some I G n ls e ∙ rw (le-leb n (I + G) h, le-leb 1 n l, lt-leb n 256 m)
 
-  pub outputs-good : n ≤ I + G → 1 ≤ n → n ≤ maxOutputs → outputLine I G ls ≡ gateLines I n G G [] (drop 1 ls)
-  outputs-good h l m = outputs-some I G n ls e ∙ rw (le-leb n (I + G) h, le-leb 1 n l, le-leb n 256 m)
+    pub outputs-good : n ≤ I + G → 1 ≤ n → n ≤ maxOutputs → outputLine below I G ls ≡ below I n G (drop 1 ls)
+    outputs-good h l m = outputs-some I G n ls e ∙ rw (le-leb n (I + G) h, le-leb 1 n l, le-leb n 256 m)
 
-module _ (G W n : ℕ) (ls : List Line) (e : firstGroups ls ≡ some n) where
-  pub inputs-other : (W ≡ n + G → ⊥) → inputLine G W ls ≡ refused 22
-  inputs-other h = inputs-some G W n ls e ∙ rw (ne-eqb W (n + G) h)
+  module _ (G W n : ℕ) (ls : List Line) (e : firstGroups ls ≡ some n) where
+    pub inputs-other : (W ≡ n + G → ⊥) → inputLine below G W ls ≡ refused 22
+    inputs-other h = inputs-some G W n ls e ∙ rw (ne-eqb W (n + G) h)
 
-  pub inputs-few : W ≡ n + G → n < 1 → inputLine G W ls ≡ refused 24
-  inputs-few h l = inputs-some G W n ls e ∙ rw (eq-eqb W (n + G) h, lt-leb 1 n l)
+    pub inputs-few : W ≡ n + G → n < 1 → inputLine below G W ls ≡ refused 24
+    inputs-few h l = inputs-some G W n ls e ∙ rw (eq-eqb W (n + G) h, lt-leb 1 n l)
 
-  pub inputs-many : W ≡ n + G → 1 ≤ n → maxInputs < n → inputLine G W ls ≡ refused 24
-  inputs-many h l m = inputs-some G W n ls e ∙ rw (eq-eqb W (n + G) h, le-leb 1 n l, lt-leb n 512 m)
+    pub inputs-many : W ≡ n + G → 1 ≤ n → maxInputs < n → inputLine below G W ls ≡ refused 24
+    inputs-many h l m = inputs-some G W n ls e ∙ rw (eq-eqb W (n + G) h, le-leb 1 n l, lt-leb n 512 m)
 
-  pub inputs-good : W ≡ n + G → 1 ≤ n → n ≤ maxInputs → inputLine G W ls ≡ outputLine n G (drop 1 ls)
-  inputs-good h l m = inputs-some G W n ls e ∙ rw (eq-eqb W (n + G) h, le-leb 1 n l, le-leb n 512 m)
+    pub inputs-good : W ≡ n + G → 1 ≤ n → n ≤ maxInputs → inputLine below G W ls ≡ outputLine below n G (drop 1 ls)
+    inputs-good h l m = inputs-some G W n ls e ∙ rw (eq-eqb W (n + G) h, le-leb 1 n l, le-leb n 512 m)
 
 -- the header is whole
 pub outputs-begun : (s : List ℕ) (at I G n next : ℕ) → SumAt s at n next → n ≤ I + G → 1 ≤ n → n ≤ maxOutputs → 1 ≤ I → I ≤ maxInputs → G ≤ maxGates
-    → Begun s (outputLine I G (lines (drop at s))) (record { inputs = I; outputs = n; gates = G }) next
-unfolding gatesAt
+    → Begun s (λ (below : Below). outputLine below I G (lines (drop at s))) (record { inputs = I; outputs = n; gates = G }) next
 outputs-begun s at I G n next k a b c d e f =
     record {
-      same = outputs-good I G n (lines (drop at s)) (k .found) a b c ∙ ap (gateLines I n G G []) (sym (k .rest));
+      same = λ below. outputs-good below I G n (lines (drop at s)) (k .found) a b c ∙ ap (below I n G) (sym (k .rest));
       few = record { some-inputs = d; few-inputs = e; some-outputs = b; few-outputs = c; few-gates = f; enough = a };
     }
 
-pub header-same : (s : List ℕ) (r : Header) (x y : Reading) → x ≡ y → HeaderTold s y r → HeaderTold s x r
-header-same s r x y e h = subst (λ (z : Reading). HeaderTold s z r) (sym e) h
+pub header-same : (s : List ℕ) (r : Header) (x y : Below → Reading) → ((below : Below) → x below ≡ y below) → HeaderTold s y r → HeaderTold s x r
+header-same s (header.Good z c) x y e h = record { same = λ below. e below ∙ h .same below; few = h .few }
+header-same s (header.Refused k) x y e h = λ below. e below ∙ h below
 
 -- line 1
 of-when : (b : Bool) (x y n m : ℕ) → cond b (counts.Of x y) counts.Malformed ≡ counts.Of n m → (b ≡ true) × ((x ≡ n) × (y ≡ m))
@@ -384,45 +386,45 @@ uncounted : (l : List ℕ) (b : Bool) → b ≡ false → isCounts (record { byt
 unfolding isCounts isHeader
 uncounted l b e = rw e
 
-count-bad : (l : Line) (ls : List Line) → isCounts l ≡ false → countLine (l ∷ ls) ≡ refused 22
-unfolding countLine
-count-bad l ls e = rw e
+module _ (below : Below) where
+  count-bad : (l : Line) (ls : List Line) → isCounts l ≡ false → countLine below (l ∷ ls) ≡ refused 22
+  unfolding countLine
+  count-bad l ls e = rw e
 
-count-good : (l : Line) (ls : List Line) (G W : ℕ) → isCounts l ≡ true → getD (numbersOn l) 0 0 ≡ G → getD (numbersOn l) 1 0 ≡ W
-    → countLine (l ∷ ls) ≡ cond (not (leb G maxGates)) (refused 24) (inputLine G W ls)
-unfolding countLine
-count-good l ls G W e p q = rw (e, p, q)
+  count-good : (l : Line) (ls : List Line) (G W : ℕ) → isCounts l ≡ true → getD (numbersOn l) 0 0 ≡ G → getD (numbersOn l) 1 0 ≡ W
+      → countLine below (l ∷ ls) ≡ cond (not (leb G maxGates)) (refused 24) (inputLine below G W ls)
+  unfolding countLine
+  count-good l ls G W e p q = rw (e, p, q)
 
-module _ (s : List ℕ) (first last : ℕ) (k : LineAt s 0 first last) where
-  pub text-none : length s ≤ first → readText s ≡ refused 22
-  unfolding readText countLine
-  text-none h = ap countLine (no-line s 0 first last k h)
+  module _ (s : List ℕ) (first last : ℕ) (k : LineAt s 0 first last) where
+    pub text-none : length s ≤ first → countLine below (lines s) ≡ refused 22
+    unfolding countLine
+    text-none h = ap (countLine below) (no-line s 0 first last k h)
 
-  module _ (inside : first < length s) where
-    pub text-broken : length s ≤ last → readText s ≡ refused 22
-    unfolding readText
-    text-broken h =
-        ap countLine (line-here s 0 first last k inside) ∙ count-bad _ _ (uncounted (part s 0 first last k inside) (ltb last (length s)) (le-ltb last (length s) h))
+    module _ (inside : first < length s) where
+      pub text-broken : length s ≤ last → countLine below (lines s) ≡ refused 22
+      text-broken h =
+          ap (countLine below) (line-here s 0 first last k inside) ∙ count-bad _ _ (uncounted (part s 0 first last k inside) (ltb last (length s)) (le-ltb last (length s) h))
 
-    module _ (ended : last < length s) where
-      abbrev l₁ : Line
-      l₁ = whole (part s 0 first last k inside)
+      module _ (ended : last < length s) where
+        abbrev l₁ : Line
+        l₁ = whole (part s 0 first last k inside)
 
-      pub text-bad : countsOf (part s 0 first last k inside) ≡ counts.Malformed → readText s ≡ refused 22
-      unfolding readText countsOf
-      text-bad e =
-          ap countLine (line-is s 0 first last k inside ended)
-          ∙ count-bad l₁ _ (unof-when (isCounts l₁) (getD (numbersOn l₁) 0 0) (getD (numbersOn l₁) 1 0) e)
+        pub text-bad : countsOf (part s 0 first last k inside) ≡ counts.Malformed → countLine below (lines s) ≡ refused 22
+        unfolding countsOf
+        text-bad e =
+            ap (countLine below) (line-is s 0 first last k inside ended)
+            ∙ count-bad l₁ _ (unof-when (isCounts l₁) (getD (numbersOn l₁) 0 0) (getD (numbersOn l₁) 1 0) e)
 
-      module _ (G W : ℕ) (e : countsOf (part s 0 first last k inside) ≡ counts.Of G W) where
-        counted : readText s ≡ cond (not (leb G maxGates)) (refused 24) (inputLine G W (lines (drop last s)))
-        unfolding readText countsOf
-        counted =
-            let w = of-when (isCounts l₁) (getD (numbersOn l₁) 0 0) (getD (numbersOn l₁) 1 0) G W e in
-            ap countLine (line-is s 0 first last k inside ended) ∙ count-good l₁ _ G W (w .0) (w .1 .0) (w .1 .1)
+        module _ (G W : ℕ) (e : countsOf (part s 0 first last k inside) ≡ counts.Of G W) where
+          counted : countLine below (lines s) ≡ cond (not (leb G maxGates)) (refused 24) (inputLine below G W (lines (drop last s)))
+          unfolding countsOf
+          counted =
+              let w = of-when (isCounts l₁) (getD (numbersOn l₁) 0 0) (getD (numbersOn l₁) 1 0) G W e in
+              ap (countLine below) (line-is s 0 first last k inside ended) ∙ count-good l₁ _ G W (w .0) (w .1 .0) (w .1 .1)
 
-        pub text-many : maxGates < G → readText s ≡ refused 24
-        text-many h = counted ∙ rw (lt-leb G maxGates h)
+          pub text-many : maxGates < G → countLine below (lines s) ≡ refused 24
+          text-many h = counted ∙ rw (lt-leb G maxGates h)
 
-        pub text-good : G ≤ maxGates → readText s ≡ inputLine G W (lines (drop last s))
-        text-good h = counted ∙ rw (le-leb G maxGates h)
+          pub text-good : G ≤ maxGates → countLine below (lines s) ≡ inputLine below G W (lines (drop last s))
+          text-good h = counted ∙ rw (le-leb G maxGates h)

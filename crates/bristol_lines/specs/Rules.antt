@@ -156,30 +156,39 @@ gateLines I O G (suc n) above (l ∷ ls) =
     cond (not (isKnown (kindOn (l .bytes)))) (refused 23)
     (gateElse22 (gateOn l) (λ g. cond (not (fitsBelow I G above g)) (refused 22) (gateLines I O G n (above ++ (g ∷ [])) ls)))
 
--- line 3: 22 malformed or O above the wires; 24 O not 1..256
-unfoldable pub outputLine : ℕ → ℕ → List Line → Reading
-outputLine I G [] = refused 22
-outputLine I G (l ∷ ls) =
-    cond (not (isGroups l && leb (groupSum l) (I + G))) (refused 22)
-    (cond (not (leb 1 (groupSum l) && leb (groupSum l) maxOutputs)) (refused 24)
-    (gateLines I (groupSum l) G G [] ls))
+-- a reading of the lines below the header, by I, O and G
+abbrev pub Below : Type 0
+Below = ℕ → ℕ → ℕ → List Line → Reading
 
--- line 2: 22 malformed or wires other than I + G; 24 I not 1..512
-unfoldable pub inputLine : ℕ → ℕ → List Line → Reading
-inputLine G wires [] = refused 22
-inputLine G wires (l ∷ ls) =
-    cond (not (isGroups l && eqb wires (groupSum l + G))) (refused 22)
-    (cond (not (leb 1 (groupSum l) && leb (groupSum l) maxInputs)) (refused 24)
-    (outputLine (groupSum l) G ls))
+module _ (below : Below) where
+  -- line 3: 22 malformed or O above the wires; 24 O not 1..256
+  unfoldable pub outputLine : ℕ → ℕ → List Line → Reading
+  outputLine I G [] = refused 22
+  outputLine I G (l ∷ ls) =
+      cond (not (isGroups l && leb (groupSum l) (I + G))) (refused 22)
+      (cond (not (leb 1 (groupSum l) && leb (groupSum l) maxOutputs)) (refused 24)
+      (below I (groupSum l) G ls))
 
--- line 1: 22 malformed; 24 G above 100,000
-unfoldable pub countLine : List Line → Reading
-countLine [] = refused 22
-countLine (l ∷ ls) =
-    cond (not (isCounts l)) (refused 22)
-    (cond (not (leb (getD (numbersOn l) 0 0) maxGates)) (refused 24)
-    (inputLine (getD (numbersOn l) 0 0) (getD (numbersOn l) 1 0) ls))
+  -- line 2: 22 malformed or wires other than I + G; 24 I not 1..512
+  unfoldable pub inputLine : ℕ → ℕ → List Line → Reading
+  inputLine G wires [] = refused 22
+  inputLine G wires (l ∷ ls) =
+      cond (not (isGroups l && eqb wires (groupSum l + G))) (refused 22)
+      (cond (not (leb 1 (groupSum l) && leb (groupSum l) maxInputs)) (refused 24)
+      (outputLine (groupSum l) G ls))
+
+  -- line 1: 22 malformed; 24 G above 100,000
+  unfoldable pub countLine : List Line → Reading
+  countLine [] = refused 22
+  countLine (l ∷ ls) =
+      cond (not (isCounts l)) (refused 22)
+      (cond (not (leb (getD (numbersOn l) 0 0) maxGates)) (refused 24)
+      (inputLine (getD (numbersOn l) 0 0) (getD (numbersOn l) 1 0) ls))
+
+-- all lines below the header are gate lines
+abbrev pub gatesBelow : Below
+gatesBelow I O G ls = gateLines I O G G [] ls
 
 -- reading a text: the first refusal in line order, or what the text says
 unfoldable pub readText : List ℕ → Reading
-readText s = countLine (lines s)
+readText s = countLine gatesBelow (lines s)

@@ -14,7 +14,7 @@ use Rattle.bits.specs.Bits.{bitVal, bitAt}
 use Rattle.circuit.specs.Building.{front}
 use Rattle.circuit.specs.File.{maxInputs, maxOutputs, maxGates}
 use Rattle.circuit.specs.Steps.{recordPlace}
-use Rattle.bristol_lines.specs.Rules.{GateLine, xor, and, inv, Reading, refused, says, numbersOn, isCounts, isGroups, groupSum, kindOn, isKnown, gateOn, writes, gateLines}
+use Rattle.bristol_lines.specs.Rules.{GateLine, xor, and, inv, Reading, refused, says, Below, numbersOn, isCounts, isGroups, groupSum, kindOn, isKnown, gateOn, writes, gateLines}
 use Rattle.building.specs.Files.{Four}
 use Rattle.building.specs.Steps.{fourBytes}
 use Rattle.bristol_lines.specs.Conversion.{firstSlot, recordOf, textFile}
@@ -83,14 +83,14 @@ pub record Few (z : Sizes) : Type 0 where
 unfoldable pub gatesAt : List ℕ → Sizes → ℕ → Reading
 gatesAt s z at = gateLines (z .inputs) (z .outputs) (z .gates) (z .gates) [] (lines (drop at s))
 
--- what is told of a header whose reading is x: it goes on with the gate lines, or is refused
-pub record Begun (s : List ℕ) (x : Reading) (z : Sizes) (at : ℕ) : Type 0 where
-  pub same : x ≡ gatesAt s z at
+-- what is told of a header whose reading is x, whatever is read below it: it goes on with the lines there, or is refused
+pub record Begun (s : List ℕ) (x : Below → Reading) (z : Sizes) (at : ℕ) : Type 0 where
+  pub same : (below : Below) → x below ≡ below (z .inputs) (z .outputs) (z .gates) (lines (drop at s))
   pub few : Few z
 
-abbrev pub HeaderTold : List ℕ → Reading → Header → Type 0
+abbrev pub HeaderTold : List ℕ → (Below → Reading) → Header → Type 0
 HeaderTold s x (header.Good z c) = Begun s x z (c .at)
-HeaderTold s x (header.Refused k) = x ≡ refused (numberOf k)
+HeaderTold s x (header.Refused k) = (below : Below) → x below ≡ refused (numberOf k)
 
 -- a gate as a gate line
 abbrev pub lineOf : Gate → GateLine

@@ -5,7 +5,7 @@ ghost use lib.ListN.{length, drop};
 ghost use Rattle.bristol_text.specs.Text.{lines};
 ghost use Rattle.bristol_text.specs.Steps.{tokensAfter};
 ghost use Rattle.circuit.specs.File.{maxInputs, maxGates};
-ghost use Rattle.bristol_lines.specs.Rules.{readText, inputLine, outputLine};
+ghost use Rattle.bristol_lines.specs.Rules.{Below, countLine, inputLine, outputLine};
 ghost use Rattle.bristol_lines.specs.Steps.{countsOf, sizesOf, groupsOf, GroupsAt, HeaderTold};
 use crate::Counts;
 use crate::GroupLine;
@@ -97,7 +97,7 @@ fn group_line(s: &[u8], c: Cursor) -> GroupLine
 // Line 3: the outputs.
 fn read_outputs(s: &[u8], inputs: usize, gates: usize, c: Cursor) -> Header
     requires { ⌜ (1 ≤ inputs) × ((inputs ≤ maxInputs) × (gates ≤ maxGates)) ⌝ }
-    ensures { λ r. ⌜ HeaderTold (now (s .entry)) (outputLine inputs gates (lines (drop (c .at) (now (s .entry))))) r ⌝ }
+    ensures { λ r. ⌜ HeaderTold (now (s .entry)) (λ (b : Below). outputLine b inputs gates (lines (drop (c .at) (now (s .entry))))) r ⌝ }
 {
     let GroupLine::Sum(outputs, next) = group_line(s, c) else {
         return Header::Refused(Refusal::Text);
@@ -124,7 +124,7 @@ fn read_outputs(s: &[u8], inputs: usize, gates: usize, c: Cursor) -> Header
 // Line 2: the inputs.
 fn read_inputs(s: &[u8], gates: usize, wires: usize, c: Cursor) -> Header
     requires { ⌜ gates ≤ maxGates ⌝ }
-    ensures { λ r. ⌜ HeaderTold (now (s .entry)) (inputLine gates wires (lines (drop (c .at) (now (s .entry))))) r ⌝ }
+    ensures { λ r. ⌜ HeaderTold (now (s .entry)) (λ (b : Below). inputLine b gates wires (lines (drop (c .at) (now (s .entry))))) r ⌝ }
 {
     let GroupLine::Sum(inputs, next) = group_line(s, c) else {
         return Header::Refused(Refusal::Text);
@@ -146,7 +146,7 @@ fn read_inputs(s: &[u8], gates: usize, wires: usize, c: Cursor) -> Header
 
 // The header lines.
 pub fn read_header(s: &[u8]) -> Header
-    ensures { λ r. ⌜ HeaderTold (now (s .entry)) (readText (now (s .entry))) r ⌝ }
+    ensures { λ r. ⌜ HeaderTold (now (s .entry)) (λ (b : Below). countLine b (lines (now (s .entry)))) r ⌝ }
 {
     let line = next_line(s, Cursor { at: 0 });
     let first = line.first;

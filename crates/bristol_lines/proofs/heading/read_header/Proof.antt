@@ -14,12 +14,12 @@ next-line-requires c κs = search needs
 returns : tie.Need-returns
 returns c =
     let x = c .before .before .before .args in
-    text-none (x .s .now) _ _ (c .before .next-line .ensures) (omega arith)
+    λ below. text-none below (x .s .now) _ _ (c .before .next-line .ensures) (omega arith)
 
 returns-2 : tie.Need-returns-2
 returns-2 c =
     let x = c .before .before .before .before .args in
-    text-broken (x .s .now) _ _ (c .before .before .next-line .ensures) (omega arith) (omega arith)
+    λ below. text-broken below (x .s .now) _ _ (c .before .before .next-line .ensures) (omega arith) (omega arith)
 
 sub-counts : tie.Need-sub-counts
 sub-counts c =
@@ -48,12 +48,12 @@ enum-told c = search needs
 returns-3 : tie.Need-returns-3
 returns-3 c =
     let x = c .before .before .before .before .before .before .before .before .args in
-    text-bad (x .s .now) _ _ (c .before .before .before .before .before .before .next-line .ensures) (omega arith) (omega arith) (sym (c .before .before .counts .ensures) ∙ c .enum-told .given .1)
+    λ below. text-bad below (x .s .now) _ _ (c .before .before .before .before .before .before .next-line .ensures) (omega arith) (omega arith) (sym (c .before .before .counts .ensures) ∙ c .enum-told .given .1)
 
 returns-4 : tie.Need-returns-4
 returns-4 c =
     let x = c .before .before .before .before .before .before .before .before .before .before .args in
-    text-many (x .s .now) _ _ (c .before .before .before .before .before .before .before .before .next-line .ensures) (omega arith) (omega arith) _ _ (sym (c .before .before .before .before .counts .ensures) ∙ c .before .before .gates .given .1) (omega arith)
+    λ below. text-many below (x .s .now) _ _ (c .before .before .before .before .before .before .before .before .next-line .ensures) (omega arith) (omega arith) _ _ (sym (c .before .before .before .before .counts .ensures) ∙ c .before .before .gates .given .1) (omega arith)
 
 read-inputs-requires : tie.Need-read-inputs-requires
 read-inputs-requires c κs = omega arith
@@ -62,7 +62,7 @@ returns-5 : tie.Need-returns-5
 returns-5 c =
     let x = c .before .before .before .before .before .before .before .before .before .before .before .args in
     header-same (x .s .now) (c .read-inputs .result) _ _
-    (text-good (x .s .now) _ _ (c .before .before .before .before .before .before .before .before .before .next-line .ensures) (omega arith) (omega arith) _ _ (sym (c .before .before .before .before .before .counts .ensures) ∙ c .before .before .before .gates .given .1) (omega arith))
+    (λ below. text-good below (x .s .now) _ _ (c .before .before .before .before .before .before .before .before .before .next-line .ensures) (omega arith) (omega arith) _ _ (sym (c .before .before .before .before .before .counts .ensures) ∙ c .before .before .before .gates .given .1) (omega arith))
     (c .read-inputs .ensures)
 
 pub read-header-spec : {M : Type 1} → statement M

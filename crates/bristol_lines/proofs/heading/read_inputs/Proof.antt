@@ -20,31 +20,31 @@ enum-told c = search needs
 returns : tie.Need-returns
 returns c =
     let x = c .before .before .before .before .args in
-    inputs-none (x .gates) (x .wires) _ (sum-none (x .s .now) (x .c .at) _ (c .enum-told .given .1) (c .before .before .group-line .ensures))
+    λ below. inputs-none below (x .gates) (x .wires) _ (sum-none (x .s .now) (x .c .at) _ (c .enum-told .given .1) (c .before .before .group-line .ensures))
 
 returns-2 : tie.Need-returns-2
 returns-2 c =
     let x = c .before .before .before .before .before .before .args in
     let k = sum-at (x .s .now) (x .c .at) _ _ _ (c .before .before .inputs .given .1) (c .before .before .before .before .group-line .ensures) in
-    inputs-other (x .gates) (x .wires) _ _ (k .found) (λ e. omega arith)
+    λ below. inputs-other below (x .gates) (x .wires) _ _ (k .found) (λ e. omega arith)
 
 returns-3 : tie.Need-returns-3
 returns-3 c =
     let x = c .before .before .before .before .before .before .before .args in
     let k = sum-at (x .s .now) (x .c .at) _ _ _ (c .before .before .before .inputs .given .1) (c .before .before .before .before .before .group-line .ensures) in
-    inputs-other (x .gates) (x .wires) _ _ (k .found) (λ e. c .if2 .taken (omega arith))
+    λ below. inputs-other below (x .gates) (x .wires) _ _ (k .found) (λ e. c .if2 .taken (omega arith))
 
 returns-4 : tie.Need-returns-4
 returns-4 c =
     let x = c .before .before .before .before .before .before .before .before .args in
     let k = sum-at (x .s .now) (x .c .at) _ _ _ (c .before .before .before .before .inputs .given .1) (c .before .before .before .before .before .before .group-line .ensures) in
-    inputs-few (x .gates) (x .wires) _ _ (k .found) (omega arith) (omega arith)
+    λ below. inputs-few below (x .gates) (x .wires) _ _ (k .found) (omega arith) (omega arith)
 
 returns-5 : tie.Need-returns-5
 returns-5 c =
     let x = c .before .before .before .before .before .before .before .before .before .args in
     let k = sum-at (x .s .now) (x .c .at) _ _ _ (c .before .before .before .before .before .inputs .given .1) (c .before .before .before .before .before .before .before .group-line .ensures) in
-    inputs-many (x .gates) (x .wires) _ _ (k .found) (omega arith) (omega arith) (omega arith)
+    λ below. inputs-many below (x .gates) (x .wires) _ _ (k .found) (omega arith) (omega arith) (omega arith)
 
 read-outputs-requires : tie.Need-read-outputs-requires
 read-outputs-requires c κs =
@@ -56,7 +56,7 @@ returns-6 c =
     let x = c .before .before .before .before .before .before .before .before .before .before .args in
     let k = sum-at (x .s .now) (x .c .at) _ _ _ (c .before .before .before .before .before .before .inputs .given .1) (c .before .before .before .before .before .before .before .before .group-line .ensures) in
     header-same (x .s .now) (c .read-outputs .result) _ _
-    (inputs-good (x .gates) (x .wires) _ _ (k .found) (omega arith) (omega arith) (omega arith) ∙ ap (outputLine _ (x .gates)) (sym (k .rest)))
+    (λ below. inputs-good below (x .gates) (x .wires) _ _ (k .found) (omega arith) (omega arith) (omega arith) ∙ ap (outputLine below _ (x .gates)) (sym (k .rest)))
     (c .read-outputs .ensures)
 
 pub read-inputs-spec : {M : Type 1} → statement M

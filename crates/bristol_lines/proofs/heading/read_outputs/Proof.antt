@@ -18,7 +18,7 @@ enum-told c = search needs
 returns : tie.Need-returns
 returns c =
     let x = c .before .before .before .before .args in
-    outputs-none (x .inputs) (x .gates) _ (sum-none (x .s .now) (x .c .at) _ (c .enum-told .given .1) (c .before .before .group-line .ensures))
+    λ below. outputs-none below (x .inputs) (x .gates) _ (sum-none (x .s .now) (x .c .at) _ (c .enum-told .given .1) (c .before .before .group-line .ensures))
 
 add-if1 : tie.Need-add-if1
 add-if1 c = omega arith
@@ -27,19 +27,19 @@ returns-2 : tie.Need-returns-2
 returns-2 c =
     let x = c .before .before .before .before .before .before .args in
     let k = sum-at (x .s .now) (x .c .at) _ _ _ (c .before .before .outputs .given .1) (c .before .before .before .before .group-line .ensures) in
-    outputs-above (x .inputs) (x .gates) _ _ (k .found) (omega arith)
+    λ below. outputs-above below (x .inputs) (x .gates) _ _ (k .found) (omega arith)
 
 returns-3 : tie.Need-returns-3
 returns-3 c =
     let x = c .before .before .before .before .before .before .before .args in
     let k = sum-at (x .s .now) (x .c .at) _ _ _ (c .before .before .before .outputs .given .1) (c .before .before .before .before .before .group-line .ensures) in
-    outputs-few (x .inputs) (x .gates) _ _ (k .found) (omega arith) (omega arith)
+    λ below. outputs-few below (x .inputs) (x .gates) _ _ (k .found) (omega arith) (omega arith)
 
 returns-4 : tie.Need-returns-4
 returns-4 c =
     let x = c .before .before .before .before .before .before .before .before .args in
     let k = sum-at (x .s .now) (x .c .at) _ _ _ (c .before .before .before .before .outputs .given .1) (c .before .before .before .before .before .before .group-line .ensures) in
-    outputs-many (x .inputs) (x .gates) _ _ (k .found) (omega arith) (omega arith) (omega arith)
+    λ below. outputs-many below (x .inputs) (x .gates) _ _ (k .found) (omega arith) (omega arith) (omega arith)
 
 returns-5 : tie.Need-returns-5
 returns-5 c =
