@@ -364,24 +364,30 @@ fn print_prices(openssl: Option<&OpenSsl>) {
     println!();
 }
 
-/// Circuits of AND gates alone, 9,000 and 90,000 of them: their time is nearly all the
-/// gates'.
+/// By 4 parties the gates are nearly all that a proof of many AND gates takes.
+const FEW_PARTIES: Counts = Counts {
+    m: 256,
+    tau: 64,
+    n: 4,
+};
+
+/// Circuits of AND gates alone, 9,000 and 90,000 of them, by 16 parties and by 4.
 fn print_ands(openssl: Option<&OpenSsl>) {
     let examples = [
         Example::ands("1 AND gate", 1),
         Example::ands("9000 AND gates", 9_000),
         Example::ands("90000 AND gates", 90_000),
     ];
-    let rows = examples
-        .iter()
-        .flat_map(|example| rows_without_second(example, PRICE_COUNTS, openssl));
-    let best = print_rows(&mut rows.collect::<Vec<Row>>(), 3, LEAST_TAU, openssl);
-    print_growth(
-        ["90000 against 9000 AND gates", "AND gate", "1 gate"],
-        examples.each_ref().map(|example| example.sizes.ands),
-        &best,
-    );
-    println!();
+    let ands = examples.each_ref().map(|example| example.sizes.ands);
+    for counts in [PRICE_COUNTS, FEW_PARTIES] {
+        let rows = examples
+            .iter()
+            .flat_map(|example| rows_without_second(example, counts, openssl));
+        let best = print_rows(&mut rows.collect::<Vec<Row>>(), 3, LEAST_TAU, openssl);
+        let against = format!("90000 against 9000 AND gates, n {}", counts.n);
+        print_growth([&against, "AND gate", "1 gate"], ands, &best);
+        println!();
+    }
 }
 
 /// The least number of parties, few, and many, with M 64, and an eighth of the instances
