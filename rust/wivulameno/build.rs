@@ -1,11 +1,11 @@
-//! Links the static library that stands in the repository's target folder.
+//! Links the static library that `make lib` builds in `crates/wivulameno/out`.
 
 use std::path::Path;
 
 fn main() {
     let package = Path::new(env!("CARGO_MANIFEST_DIR"));
     let repository = package.ancestors().nth(2).expect("rust/wivulameno");
-    let folder = repository.join("target/staticlib");
+    let folder = repository.join("crates/wivulameno/out");
     let archive = folder.join("libwivulameno.a");
     println!("cargo::rerun-if-changed=build.rs");
     println!("cargo::rerun-if-changed={}", archive.display());

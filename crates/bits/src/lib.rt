@@ -1,4 +1,6 @@
 // Bits and numbers in byte strings, lowest first, and the rows of a flat buffer.
+#![tactic(auto)]
+
 ghost use Rattle.std.specs.Prelude.{◌≡◌, ◌+◌, ◌*◌, ◌≤◌, ◌<◌, length, replicate};
 ghost use Rattle.std.proofs.lemmas.List.Edits.{sets};
 ghost use Rattle.bits.specs.Bits.{oct, bit_val, odd, bit_at, unused_zero};

@@ -1,5 +1,7 @@
 // Eight blocks of 8 by 8 bits at once, block b in byte b of each of 8 words: 8 bytes of each of 8 rows, or the bytes of 64 places, transposed
 // and stored.
+#![tactic(auto)]
+
 ghost use Rattle.std.specs.Prelude.{◌≡◌, ◌+◌, ◌*◌, ◌≤◌, ◌<◌, length};
 ghost use Rattle.blocks.specs.Steps.{row_words, column_words, exchanged, transposed_rows, stored_column};
 

@@ -1,4 +1,6 @@
 // The lines of a Bristol Fashion text: what its header lines and each of its gate lines say.
+#![tactic(auto)]
+
 ghost use Rattle.std.specs.Prelude.{◌≡◌, ◌&&◌};
 
 pub mod gates;
@@ -8,7 +10,7 @@ use bristol_text::Cursor;
 use refusal::Refusal;
 
 // The numbers I, O and G of a text.
-#[derive(Drop)]
+#[derive(Clone, Copy)]
 pub struct Sizes {
     pub inputs: usize,
     pub outputs: usize,
@@ -16,35 +18,35 @@ pub struct Sizes {
 }
 
 // The two numbers of line 1.
-#[derive(Drop)]
+#[derive(Clone, Copy)]
 pub(crate) enum Counts {
     Of(usize, usize),
     Malformed,
 }
 
 // The sum of the sizes on a line of groups.
-#[derive(Drop)]
+#[derive(Clone, Copy)]
 pub(crate) enum Groups {
     Sum(usize),
     Malformed,
 }
 
 // The sum on a text's next line, and the place after it.
-#[derive(Drop)]
+#[derive(Clone, Copy)]
 pub(crate) enum GroupLine {
     Sum(usize, Cursor),
     Malformed,
 }
 
 // What the header lines answer: the sizes, and the place after them.
-#[derive(Drop)]
+#[derive(Clone, Copy)]
 pub enum Header {
     Good(Sizes, Cursor),
     Refused(Refusal),
 }
 
 // What follows the last space of a gate line.
-#[derive(Drop)]
+#[derive(Clone, Copy)]
 pub(crate) enum Kind {
     Xor,
     And,
@@ -53,7 +55,7 @@ pub(crate) enum Kind {
 }
 
 // A gate: the wires that it reads and, last, the wire that it writes.
-#[derive(Drop)]
+#[derive(Clone, Copy)]
 pub enum Gate {
     Xor(usize, usize, usize),
     And(usize, usize, usize),
@@ -61,7 +63,7 @@ pub enum Gate {
 }
 
 // What a gate line holds.
-#[derive(Drop)]
+#[derive(Clone, Copy)]
 pub enum GateRead {
     Read(Gate),
     Unknown,
@@ -69,14 +71,14 @@ pub enum GateRead {
 }
 
 // A text's next line as a gate line, and the place after it.
-#[derive(Drop)]
+#[derive(Clone, Copy)]
 pub struct NextGate {
     pub read: GateRead,
     pub next: Cursor,
 }
 
 // What is found of a gate line's kind, or of its form.
-#[derive(Drop)]
+#[derive(Clone, Copy)]
 pub(crate) enum Finding {
     Good,
     Unknown,
@@ -84,14 +86,14 @@ pub(crate) enum Finding {
 }
 
 // What a gate line answers: the wire that it writes and the place after it.
-#[derive(Drop)]
+#[derive(Clone, Copy)]
 pub enum LineCheck {
     Writes(usize, Cursor),
     Refused(Refusal),
 }
 
 // What the gate lines answer.
-#[derive(Drop)]
+#[derive(Clone, Copy)]
 pub enum Check {
     Good,
     Refused(Refusal),

@@ -1,24 +1,26 @@
 // The lines, tokens and numbers of a text.
+#![tactic(auto)]
+
 ghost use Rattle.std.specs.Prelude.{◌≡◌, not, ◌&&◌, ◌||◌, ◌≤◌, eqb, leb};
 ghost use Rattle.std.proofs.Math.Seq.{slice};
 ghost use Rattle.bristol_text.specs.Text.{value_of};
 ghost use Rattle.bristol_text.specs.Steps.{passes, stop, number_at, field_at, LineAt, Digits, LastToken, FieldsTold};
 
 // A place in a text or in a line.
-#[derive(Drop)]
+#[derive(Clone, Copy)]
 pub struct Cursor {
     pub at: usize,
 }
 
 // A line of a text: where it starts, and where its LF stands or the text ends.
-#[derive(Drop)]
+#[derive(Clone, Copy)]
 pub struct Span {
     pub first: usize,
     pub last: usize,
 }
 
 // A class of bytes.
-#[derive(Drop)]
+#[derive(Clone, Copy)]
 pub enum Class {
     // The digits.
     Digit,
@@ -31,7 +33,7 @@ pub enum Class {
 }
 
 // What stands at a cursor where a number should.
-#[derive(Drop)]
+#[derive(Clone, Copy)]
 pub enum Number {
     // Its value, and the place after it.
     Value(usize, Cursor),
@@ -39,7 +41,7 @@ pub enum Number {
 }
 
 // The tokens before a line's last: whether all are numbers; if so, how many, and the first five.
-#[derive(Drop)]
+#[derive(Clone, Copy)]
 pub struct Fields {
     pub good: bool,
     pub count: usize,

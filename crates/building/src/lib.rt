@@ -1,4 +1,6 @@
 // A circuit file built from its parts: its definition and laws, and four fields written at once.
+#![tactic(auto)]
+
 ghost use Rattle.std.specs.Prelude.{◌≡◌, ◌+◌, ◌*◌, ◌≤◌, length};
 ghost use Rattle.std.proofs.lemmas.List.Edits.{sets};
 ghost use Rattle.circuit.specs.File.{width};

@@ -1,4 +1,6 @@
 // A call to the shared checker: instances of the waiting proofs, in cyclic order.
+#![tactic(auto)]
+
 ghost use Rattle.std.specs.Prelude.{◌≡◌, true, false, cond, [], ◌≤◌, ◌<◌, length};
 ghost use Rattle.std.proofs.Math.Option.{none, some};
 ghost use Rattle.refusal.specs.Refusal.{number_of};
@@ -22,7 +24,7 @@ use shared::{Job, Places, Served, Shared};
 
 // What a call answers: its refusal; or how many instances were checked, and each caller's verdict, 0 for accepted and 255 for none in
 // this call. And the state that it leaves.
-#[derive(Drop)]
+#[derive(Clone, Copy)]
 pub struct Called {
     pub refused: bool,
     pub number: u32,
@@ -33,7 +35,7 @@ pub struct Called {
 
 // What a call keeps of the tests of a caller's bytes: the number of a refusal, or the shape of a proof that passes, with the table of its
 // challenge and the marks of its masters' tree.
-#[derive(Drop)]
+#[derive(Clone, Copy)]
 pub struct Kept {
     pub ready: bool,
     pub number: u32,

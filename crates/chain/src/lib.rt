@@ -1,4 +1,6 @@
 // The chain of a circuit's gates: the walk from the head along the links, for files with fields of `bytes` bytes.
+#![tactic(auto)]
+
 ghost use Rattle.std.specs.Prelude.{◌≡◌};
 ghost use Rattle.circuit.specs.Chain.{walk_from};
 ghost use Rattle.circuit.specs.Fields.{field, chain_walk};

@@ -1,4 +1,6 @@
 // The operation check.
+#![tactic(auto)]
+
 ghost use Rattle.std.specs.Prelude.{◌≡◌, ◌+◌, ◌*◌, ◌≤◌, length};
 ghost use Rattle.circuit.specs.File.{read_circuit, legal, circuit_of};
 ghost use Rattle.circuit.specs.Operations.{leaving};
@@ -22,7 +24,7 @@ use refusal::Refusal;
 use verifying::{proof_tree, recompute};
 
 // What check answers.
-#[derive(Drop)]
+#[derive(Clone, Copy)]
 pub enum Answer {
     Accepted,
     Refused(Refusal),

@@ -1,5 +1,7 @@
 // The challenge: its stream, the instances that it chooses, and their hidden parties.
 // The stream is given out as a whole. The chosen instances are kept ascending, so that a draw goes along them and not along all instances.
+#![tactic(auto)]
+
 ghost use Rattle.std.specs.Prelude.{◌≡◌, Bool, List, [], ◌∷◌, ◌++◌, ◌+◌, ◌*◌, ◌≤◌, ◌<◌, length, take};
 ghost use Rattle.std.proofs.lemmas.List.Edits.{sets};
 ghost use Rattle.bits.specs.Bytes.{le_bytes};

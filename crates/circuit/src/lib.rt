@@ -1,4 +1,6 @@
 // The circuit file: its fields and gate records, and the answers of reading and evaluating it.
+#![tactic(auto)]
+
 pub mod records;
 
 use refusal::Refusal;
@@ -19,7 +21,7 @@ pub const MAX_WIRES: usize = 100512;
 pub const WIRE_BYTES: usize = 12564;
 
 // A gate and the wires it reads.
-#[derive(Drop)]
+#[derive(Clone, Copy)]
 pub enum Gate {
     Xor(usize, usize),
     And(usize, usize),
@@ -27,14 +29,14 @@ pub enum Gate {
 }
 
 // A gate record: the next slot, and the gate.
-#[derive(Drop)]
+#[derive(Clone, Copy)]
 pub struct Record {
     pub next: usize,
     pub gate: Gate,
 }
 
 // The numbers I, O, G and A of a circuit.
-#[derive(Drop)]
+#[derive(Clone, Copy)]
 pub struct Sizes {
     pub inputs: usize,
     pub outputs: usize,
@@ -43,21 +45,21 @@ pub struct Sizes {
 }
 
 // What the walk along the chain comes to: a good end, or a fault and the slot that holds the offending link (0 for the head).
-#[derive(Drop)]
+#[derive(Clone, Copy)]
 pub enum Walk {
     Ends,
     Fault(Refusal, usize),
 }
 
 // What reading a circuit answers: a refusal goes with the slot that it tells, 0 where it tells none.
-#[derive(Drop)]
+#[derive(Clone, Copy)]
 pub enum ReadAnswer {
     Legal(Sizes),
     Refused(Refusal, usize),
 }
 
 // What evaluating a circuit answers.
-#[derive(Drop)]
+#[derive(Clone, Copy)]
 pub enum EvaluateAnswer {
     Done,
     Refused(Refusal),

@@ -1,4 +1,6 @@
 // An AND gate on words that makes its correction.
+#![tactic(auto)]
+
 ghost use Rattle.std.specs.Prelude.{◌≡◌};
 ghost use Rattle.words.specs.Words.{parity};
 ghost use Rattle.correcting_gate.specs.Steps.{correction_byte, output_byte, sent_word};
@@ -6,7 +8,7 @@ ghost use Rattle.correcting_gate.specs.Steps.{correction_byte, output_byte, sent
 use words::{chosen, every, parity};
 
 // What an AND gate makes: its broadcasts, the byte of its output wire, and its correction in the lowest bit.
-#[derive(Drop)]
+#[derive(Clone, Copy)]
 pub struct Corrected {
     pub word: u64,
     pub wire: u8,

@@ -1,4 +1,6 @@
 // The tree over the masters: how its hashes name it, its height and its leaves; and which of its nodes are opened for a set of hidden leaves.
+#![tactic(auto)]
+
 ghost use Rattle.std.specs.Prelude.{◌≡◌, ◌^◌, ◌≤◌};
 ghost use Rattle.cover.specs.Masters.{height as «height-of», masters_context};
 

@@ -1,4 +1,6 @@
 // The entry of a proof at the shared checker.
+#![tactic(auto)]
+
 ghost use Rattle.std.specs.Prelude.{◌≡◌, true, ◌<◌, length, set, replicate};
 ghost use Rattle.std.proofs.Math.Option.{none, some};
 ghost use Rattle.shared.specs.Service.{all_inside, entry_at, unless_refused, job_at};
@@ -12,7 +14,7 @@ use shared::entering::{Looked, SHARED_WORK, all_inside, look};
 use shared::{Job, Places, Shared, job_at};
 
 // What an entry answers, and the state that it leaves.
-#[derive(Drop)]
+#[derive(Clone, Copy)]
 pub struct Entered {
     pub refused: bool,
     pub number: u32,

@@ -1,4 +1,6 @@
 // Evaluating a circuit. No branch and no index depends on the witness.
+#![tactic(auto)]
+
 ghost use Rattle.std.specs.Prelude.{◌≡◌, ◌*◌, ◌≤◌, ◌<◌, length, get_or, false};
 ghost use Rattle.bits.specs.Bits.{bit_val, bit_at, oct, pack};
 ghost use Rattle.circuit.specs.Circuit.{evaluate};

@@ -1,4 +1,6 @@
 // Keccak-f[1600] on four states at once, lane i of state k at 4 i + k: a loop over the four that the compiler turns into one of vectors.
+#![tactic(auto)]
+
 ghost use Rattle.std.specs.Prelude.{◌≡◌, ◌<◌, length};
 ghost use Rattle.permutation.specs.Permutation.{Rnd, rounds, lanes, lane_array};
 ghost use Rattle.four.specs.Steps.{Lanes64, state_of, each, put_state, joined, stepped, rounded_by, plane};

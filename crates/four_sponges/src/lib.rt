@@ -1,4 +1,6 @@
 // Four sponges at once: their blocks are full, and the bytes that they give out go into four rows of equal length.
+#![tactic(auto)]
+
 ghost use Rattle.std.specs.Prelude.{◌≡◌, ◌+◌, ◌*◌, ◌/◌, ◌%◌, ◌≤◌, ◌<◌, min, length};
 ghost use Rattle.bits.specs.Bits.{tabulate};
 ghost use Rattle.keccak.specs.Steps.{byte_at, squeezes};

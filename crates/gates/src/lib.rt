@@ -1,4 +1,6 @@
 // The gates and an output wire on the work memory: a word has the bits of all parties, and one path serves every number of them.
+#![tactic(auto)]
+
 ghost use Rattle.std.specs.Prelude.{◌≡◌, ◌+◌, ◌<◌};
 ghost use Rattle.circuit.specs.Steps.{within};
 ghost use Rattle.planes.specs.Steps.{Room};

@@ -1,4 +1,6 @@
 // The nodes of the tree over the masters: their marks, those that are opened for a set of hidden leaves, and the nodes that follow from these.
+#![tactic(auto)]
+
 ghost use Rattle.std.specs.Prelude.{◌≡◌, suc, ◌+◌, ◌*◌, ◌^◌, ◌≤◌, ◌<◌, length, replicate};
 ghost use mathlib.Core.List.{◌++◌, map, flatten};
 ghost use Rattle.bits.specs.Bytes.{row_of};

@@ -1,6 +1,8 @@
 // The hashes of document 01: SHAKE128 of a tagged and salted input, and the digests of a transcript. Every input's tag is taken in as one
 // byte.
 // A caller starts a digest, lends its parts to `absorb` at the rate of SHA3-256, and finishes it.
+#![tactic(auto)]
+
 ghost use Rattle.std.specs.Prelude.{◌≡◌, [], ◌∷◌, ◌++◌, ◌<◌, length};
 ghost use Rattle.keccak.specs.Steps.{empty, absorbs, closed};
 ghost use Rattle.keccak.specs.Sponge.{shake128 as «shake128-of», sha3_256 as «sha3-of»};
@@ -12,7 +14,7 @@ use keccak::sponge::{Sponge, absorb_in};
 use keccak::{SHA3_256_RATE, SHA3_FIRST, SHAKE_FIRST, SHAKE128_RATE};
 
 // An instance of a proof, as its hashes name it: the salt of the proof, and the instance's number j.
-#[derive(Drop)]
+#[derive(Clone, Copy)]
 pub struct Context {
     pub salt: [u8; 32],
     pub number: u32,

@@ -29,7 +29,7 @@ use Rattle.instance.specs.Instance.{hiding, seeds_but}
 use Rattle.instance.specs.Stretch.{correction_bytes, stretch_bytes, siblings_part, corrections_part, commitment_part, masked_part, row_part}
 use Rattle.instance.specs.Opened.{opened_seeds, opened_showing, stretch_unused}
 use Rattle.instance.specs.Steps.{Tree, seeds_held, tapes_but}
-use Rattle.deriving.proofs.Together.{part-first}
+use Rattle.derivation.proofs.Together.{part-first}
 use Rattle.instance.proofs.Tapes.{tapes-hidden}
 use Rattle.instance.proofs.Rooms.{part-kept, corrections-inside, corrections-size}
 

@@ -24,8 +24,8 @@ use Rattle.party.specs.Derive.{commitment_to, commitment_of}
 use Rattle.hashing.specs.Digest.{taken, given}
 use Rattle.hashing.proofs.Hashes.{bytes-append, bytes_one}
 use Rattle.hashing.proofs.Digests.{given-taken}
-use Rattle.deriving.specs.Steps.{commitment_but}
-use Rattle.deriving.proofs.Committed.{coms-room, coms-turn, taken-all}
+use Rattle.derivation.specs.Steps.{commitment_but}
+use Rattle.derivation.proofs.Committed.{coms-room, coms-turn, taken-all}
 use Rattle.instance.specs.Instance.{commitments_digest, commitments_of}
 use Rattle.instance.specs.Steps.{FirstTaken}
 use Rattle.instance.proofs.Hashed.{sha3-bytes}

@@ -35,7 +35,7 @@ use Rattle.hashing.proofs.Hashes.{bytes-append, bytes_one}
 use Rattle.hashing.proofs.Digests.{taken_more, online-more, given-taken}
 use Rattle.instance.specs.Instance.{online_digest}
 use Rattle.instance.proofs.Committed.{bytes_take, bytes_drop, bytes-rows}
-use Rattle.deriving.proofs.Together.{flatten-add}
+use Rattle.derivation.proofs.Together.{flatten-add}
 
 -- a part of n rows is these rows
 rows-part : (len a : ℕ) (m : List ℕ) (f : ℕ → List ℕ) (n : ℕ) → ((i : ℕ) → i < n → take len (drop (a + i * len) m) ≡ f i)

@@ -9,7 +9,7 @@ use lib.ListN.{length}
 use lib.Seq.{sets}
 use Rattle.bits.specs.Bits.{tabulate}
 use Rattle.bits.proofs.Rows.{row_fits}
-use Rattle.deriving.proofs.Together.{flatten-add}
+use Rattle.derivation.proofs.Together.{flatten-add}
 use Rattle.instance.proofs.Written.{sets_more, rows-length}
 
 -- rows after those that are written

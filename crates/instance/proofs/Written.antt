@@ -13,7 +13,7 @@ use Rattle.bits.specs.Bits.{tabulate}
 use Rattle.bits.specs.Bytes.{row_of}
 use Rattle.bits.proofs.Rows.{row_inside, row_fits, flatten-more, length-flatten}
 use Rattle.bits.proofs.Tabulate.{length-tabulate, get_d_tabulate, tabulate-cong}
-use Rattle.deriving.proofs.Together.{part-first, flatten-add}
+use Rattle.derivation.proofs.Together.{part-first, flatten-add}
 
 -- bytes after others
 pub sets_more : (m : List ℕ) (i : ℕ) (u v : List ℕ) → sets m i (u ++ v) ≡ sets (sets m i u) (i + length u) v

@@ -13,8 +13,8 @@ ghost use Rattle.instance.specs.Steps.{seeds_held, Seeded, FirstTaken};
 
 use crate::Instance;
 use circuit::Sizes;
-use deriving::committing::{take_first, take_one};
-use hashing::{finish, start_online};
+use derivation::committing::{take_first, take_one};
+use hashing::{finish, start_commitments, start_online};
 use keccak::SHA3_256_RATE;
 use keccak::sponge::Sponge;
 use packed::running::row_bytes;
@@ -32,11 +32,14 @@ pub(crate) fn commit(
     seeds: &[u8],
     corrections: &[u8],
 ) -> [u8; 32]
-    requires { (1 ≤ inst.parties) × ((inst.parties ≤ 64) × (length seeds.now ≡ 32 * inst.parties)) }
+    requires { (inst.parties ≤ 64) × (length seeds.now ≡ 32 * inst.parties) }
     ensures { result ≡ commitments_digest inst.context.number (flatten (tabulate inst.parties (λ i. cond (eqb i p) theirs.now (commitment_of inst.context inst.parties i seeds.now corrections.now)))) }
 {
     let j = inst.context;
     let n = inst.parties;
+    if n == 0 {
+        return finish(start_commitments(j.number));
+    }
     let first = take_first(j, n, p, theirs, seeds);
     finish(take_one(first, j, n, n - 1, p, theirs, seeds, corrections))
 }

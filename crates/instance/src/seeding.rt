@@ -16,7 +16,7 @@ ghost use Rattle.instance.specs.Steps.{Lent, Seeded, seeds_held, seed_but, tape_
 use crate::Instance;
 use bits::{clear, copy};
 use circuit::Sizes;
-use deriving::{four_seeds_at, four_tapes_at, four_without, seed_at, tape_at};
+use derivation::{four_seeds_at, four_tapes_at, four_without, seed_at, tape_at};
 use mpc::tests::used_bits;
 use planes::places::{leaves_at, rows_at, seeds_at, seeds_end};
 use tree::{leaves_below, opened_below};

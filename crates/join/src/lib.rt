@@ -1,4 +1,6 @@
 // Two circuits with the same inputs joined to one.
+#![tactic(auto)]
+
 ghost use Rattle.std.specs.Prelude.{◌≡◌, ◌&&◌, ◌+◌, ◌*◌, ◌≤◌, ◌<◌, leb, length};
 ghost use Rattle.std.proofs.lemmas.List.Edits.{sets};
 ghost use Rattle.circuit.specs.Building.{builds};
@@ -14,7 +16,7 @@ use reading::read;
 use refusal::Refusal;
 
 // What joining two circuits answers: the length written, or a refusal.
-#[derive(Drop)]
+#[derive(Clone, Copy)]
 pub enum Answer {
     Written(usize),
     Refused(Refusal),

@@ -1,4 +1,6 @@
 // FIPS 202: SHA3-256, SHAKE128 and SHAKE256 over the permutation Keccak-f[1600].
+#![tactic(auto)]
+
 ghost use Rattle.std.specs.Prelude.{◌≡◌, ◌%◌, ◌<◌, length};
 ghost use Rattle.keccak.specs.Sponge.{sponge as construction, «sha3_256», shake128 as «shake128-of», shake256 as «shake256-of»};
 

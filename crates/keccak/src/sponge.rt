@@ -7,14 +7,14 @@ use crate::state::{byte_at, xor_byte, xor_lanes};
 use permutation::permute;
 
 // The state of 25 lanes, and the bytes taken of the present block.
-#[derive(Drop)]
+#[derive(Clone, Copy)]
 pub struct Sponge {
     pub lanes: [u64; 25],
     pub fill: usize,
 }
 
 // A byte given out, and the sponge after it.
-#[derive(Drop)]
+#[derive(Clone, Copy)]
 pub struct Squeezed {
     pub sponge: Sponge,
     pub byte: u8,

@@ -1,4 +1,6 @@
 // The tests of reading a circuit but for the chain, each on its own, and the count of its AND gates: for files with fields of `bytes` bytes.
+#![tactic(auto)]
+
 ghost use Rattle.std.specs.Prelude.{◌≡◌, ◌&&◌, ◌||◌, length};
 ghost use Rattle.circuit.specs.Circuit.{ands};
 ghost use Rattle.circuit.specs.Fields.{field, good_record, good_records, good_outputs};

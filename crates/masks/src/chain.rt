@@ -24,7 +24,7 @@ fn load_inputs(memory: &mut [u8], wires: usize, inputs: usize)
 }
 
 // What a gate leaves beside the memory: the AND gates passed, and the byte that the next correction comes into.
-#[derive(Drop)]
+#[derive(Clone, Copy)]
 struct Passed {
     ands: usize,
     byte: u8,

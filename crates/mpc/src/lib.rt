@@ -1,4 +1,6 @@
 // A circuit run by n parties on masked values: preparing the corrections, and the run.
+#![tactic(auto)]
+
 pub mod holding;
 pub mod lending;
 pub mod preparing;
@@ -8,7 +10,7 @@ pub mod tests;
 use refusal::Refusal;
 
 // What an operation answers.
-#[derive(Drop)]
+#[derive(Clone, Copy)]
 pub enum Answer {
     Done,
     Refused(Refusal),

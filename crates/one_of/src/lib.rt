@@ -1,4 +1,6 @@
 // A circuit whose one output is 1 exactly if the output of another is in a list. docs/one-of.md has its gates.
+#![tactic(auto)]
+
 ghost use Rattle.std.specs.Prelude.{◌≡◌, [], ◌∷◌, ◌≤◌};
 ghost use Rattle.std.proofs.lemmas.List.Edits.{sets};
 ghost use Rattle.circuit.specs.Building.{builds};
@@ -24,14 +26,14 @@ use refusal::Refusal;
 pub const MAX_ENTRIES: usize = 16;
 
 // What building answers: the length written, or a refusal.
-#[derive(Drop)]
+#[derive(Clone, Copy)]
 pub enum Answer {
     Written(usize),
     Refused(Refusal),
 }
 
 // The fields of a gate record.
-#[derive(Drop)]
+#[derive(Clone, Copy)]
 pub(crate) struct Record {
     pub kind: u32,
     pub a: u32,

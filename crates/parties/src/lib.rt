@@ -1,4 +1,6 @@
 // The numbers of parties: document 01, and document 02, order 13.
+#![tactic(auto)]
+
 ghost use Rattle.std.specs.Prelude.{◌≡◌};
 ghost use Rattle.parties.specs.Parties.{height_of};
 

@@ -1,4 +1,6 @@
 // What a party has in an instance: its seed and r from its leaf, its tape row from its seed, its commitment.
+#![tactic(auto)]
+
 ghost use Rattle.std.specs.Prelude.{◌≡◌, List, ℕ, ◌+◌, ◌*◌, ◌/◌, ◌%◌, ◌≤◌, ◌<◌, length, get_or, take, drop};
 ghost use Rattle.keccak.specs.Sponge.{shake128};
 ghost use Rattle.keccak.specs.Steps.{empty, absorbs, closed};

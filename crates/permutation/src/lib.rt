@@ -1,5 +1,7 @@
 // Keccak-f[1600] on 25 lanes (FIPS 202, section 3): the five step mappings of 3.2, the round of 3.3 and the 24 rounds of 3.4.
 // Lane (x, y) stands at 5 y + x, as in 3.1.3.
+#![tactic(auto)]
+
 ghost use Rattle.std.specs.Prelude.{◌≡◌, ◌<◌};
 ghost use Rattle.permutation.specs.Permutation.{θ, ρ, π, χ, ι, Rnd, rounds, lanes, lane_array};
 ghost use Rattle.permutation.specs.Steps.{round_constant};

@@ -1,1 +1,2 @@
 // Definitions and laws alone: tapes, the run by n parties, and showings, on bits, for any number of parties.
+#![tactic(auto)]

@@ -1,4 +1,6 @@
 // The tests of a proof that need no run of an instance: all that check refuses with, but for 10 and 13.
+#![tactic(auto)]
+
 ghost use Rattle.std.specs.Prelude.{◌≡◌, suc, ◌^◌, length, []};
 ghost use Rattle.refusal.specs.Outcome.{done};
 ghost use Rattle.circuit.specs.File.{read_circuit, legal, circuit_of};
@@ -21,7 +23,7 @@ use seeds::{MAX_MESSAGE, counts};
 use unused_bits::all_unused;
 
 // The numbers that say where each part of a proof lies: the circuit's sizes, the header's counts, and the bytes of the opened nodes.
-#[derive(Drop)]
+#[derive(Clone, Copy)]
 pub struct Shape {
     pub sizes: Sizes,
     pub counts: Counts,
@@ -29,7 +31,7 @@ pub struct Shape {
 }
 
 // What the tests answer.
-#[derive(Drop)]
+#[derive(Clone, Copy)]
 pub enum Entry {
     Refused(Refusal),
     Taken(Shape),

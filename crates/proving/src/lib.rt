@@ -1,4 +1,6 @@
 // The operation prove.
+#![tactic(auto)]
+
 ghost use Rattle.std.specs.Prelude.{◌≡◌, ◌&&◌, ◌+◌, ◌*◌, ◌≤◌, eqb, leb, length};
 ghost use Rattle.bits.specs.Bits.{oct};
 ghost use Rattle.circuit.specs.File.{read_circuit, legal, circuit_of};
@@ -26,7 +28,7 @@ use seeds::{MAX_MESSAGE, counts};
 use writing::prove_in;
 
 // What prove answers.
-#[derive(Drop)]
+#[derive(Clone, Copy)]
 pub enum Answer {
     Written(usize),
     Refused(Refusal),

@@ -1,4 +1,6 @@
 // Reading a circuit.
+#![tactic(auto)]
+
 ghost use Rattle.std.specs.Prelude.{◌≡◌, ◌≤◌};
 ghost use Rattle.circuit.specs.Answers.{read_paper};
 ghost use Rattle.circuit.specs.Fields.{field, read_fields, read_with};

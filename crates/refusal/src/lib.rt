@@ -1,9 +1,11 @@
 // The refusals of document 01, "Each operation's refusals, in order", and of document 02, and their numbers. 4 is given by nothing.
+#![tactic(auto)]
+
 ghost use Rattle.std.specs.Prelude.{◌≡◌};
 ghost use Rattle.refusal.specs.Refusal.{number_of};
 
 // Why an operation refuses. The sentences are the document's.
-#[derive(Drop)]
+#[derive(Clone, Copy)]
 pub enum Refusal {
     // 1: under 16 bytes; total not 16 + 4O + 16G (the circuit file, by order 7).
     Length,

@@ -1,4 +1,6 @@
 // Replaying an opened run: the hidden party's broadcasts are those of its row as lent.
+#![tactic(auto)]
+
 ghost use Rattle.std.specs.Prelude.{◌≡◌, cond, ◌&&◌, [], ◌∷◌, ◌+◌, ◌*◌, ◌≤◌, ◌<◌, eqb, length};
 ghost use Rattle.bits.specs.Bits.{oct, pack};
 ghost use Rattle.bits.specs.Bytes.{same_bytes};

@@ -1,4 +1,6 @@
 // The rounds of the prover: its first message, and its response to the challenge.
+#![tactic(auto)]
+
 ghost use Rattle.std.specs.Prelude.{◌≡◌, ◌++◌, suc, ◌-◌, ◌*◌, ◌^◌, ◌≤◌, length, take, drop};
 ghost use Rattle.circuit.specs.File.{circuit_of};
 ghost use Rattle.mpc.specs.Steps.{WitnessFits};

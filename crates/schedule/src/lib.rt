@@ -1,4 +1,6 @@
 // The cyclic schedule of a checker that 16 callers share: who is served next.
+#![tactic(auto)]
+
 ghost use Rattle.std.specs.Prelude.{◌≡◌, ◌≤◌};
 ghost use Rattle.schedule.specs.Schedule.{begin as «begin-of»};
 ghost use Rattle.schedule.specs.Callers.{last_served};

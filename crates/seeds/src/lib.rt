@@ -1,5 +1,7 @@
 // The operations on seeds: expand a tree, open it (document 01), derive a challenge, make the masters, open their tree (document 02, orders
 // 1, 5 and 10).
+#![tactic(auto)]
+
 ghost use Rattle.std.specs.Prelude.{◌≡◌, true, suc, ◌*◌, ◌^◌, ◌≤◌, eqb, length};
 ghost use mathlib.Core.List.{map, flatten, [], ◌∷◌};
 ghost use Rattle.bits.specs.Bits.{bit_val, tabulate};
@@ -24,7 +26,7 @@ pub const MAX_MESSAGE: usize = 4096;
 pub const MAX_OUTPUT_BYTES: usize = 32;
 
 // What an operation answers.
-#[derive(Drop)]
+#[derive(Clone, Copy)]
 pub enum Answer {
     Done,
     Refused(Refusal),

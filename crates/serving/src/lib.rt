@@ -1,4 +1,6 @@
 // One service of the shared checker: the next instance of a waiting proof.
+#![tactic(auto)]
+
 ghost use Rattle.std.specs.Prelude.{◌≡◌, ◌+◌, ◌*◌, ◌≤◌, ◌<◌, length};
 ghost use Rattle.circuit.specs.File.{circuit_of};
 ghost use Rattle.masks.specs.Steps.{wire_count};

@@ -15,7 +15,7 @@ use refusal::{Refusal, number};
 pub const SHARED_WORK: usize = 6436864;
 
 // What the tests of the bytes at some places answer: the number of a refusal, or the shape of a proof that passes.
-#[derive(Drop)]
+#[derive(Clone, Copy)]
 pub enum Looked {
     Refused(u32),
     Ready(Shape),

@@ -1,4 +1,6 @@
 // The shared checker: up to 16 callers, each with at most one proof waiting.
+#![tactic(auto)]
+
 ghost use Rattle.std.specs.Prelude.{◌≡◌};
 ghost use Rattle.schedule.specs.Schedule.{empty};
 ghost use Rattle.shared.specs.Service.{job_at};
@@ -9,14 +11,14 @@ pub mod entering;
 use stepping::{Running, start_digests};
 
 // Where an input lies in the lent buffer.
-#[derive(Drop)]
+#[derive(Clone, Copy)]
 pub struct Place {
     pub start: usize,
     pub len: usize,
 }
 
 // Where the four inputs of a proof lie.
-#[derive(Drop)]
+#[derive(Clone, Copy)]
 pub struct Places {
     pub circuit: Place,
     pub y: Place,
@@ -25,7 +27,7 @@ pub struct Places {
 }
 
 // A waiting proof: its places, the number of its next instance, and the digests over the instances so far.
-#[derive(Drop)]
+#[derive(Clone, Copy)]
 pub struct Job {
     pub places: Places,
     pub next: u32,
@@ -33,7 +35,7 @@ pub struct Job {
 }
 
 // What a service gives: the proof as it goes on, or its verdict.
-#[derive(Drop)]
+#[derive(Clone, Copy)]
 pub struct Served {
     pub done: bool,
     pub verdict: u32,
@@ -41,7 +43,7 @@ pub struct Served {
 }
 
 // The state of the checker: the caller to begin with, 0 at first and then one above the last served, who waits, and their proofs.
-#[derive(Drop)]
+#[derive(Clone, Copy)]
 pub struct Shared {
     pub begin: u8,
     pub waiting: [bool; 16],

@@ -1,4 +1,6 @@
 // The shared checker on a state that is bytes, for a host that keeps it.
+#![tactic(auto)]
+
 ghost use Rattle.std.specs.Prelude.{◌≡◌, [], ◌∷◌};
 ghost use Rattle.shared_bytes.specs.Operations.{start_op, places_of, enter_op, call_op};
 ghost use Rattle.shared_bytes.specs.Answers.{enter_paper, check_paper};
@@ -9,14 +11,14 @@ use state_bytes::reading::decode;
 use state_bytes::writing::encode;
 
 // The answer of an entry; a refusal by its number.
-#[derive(Drop)]
+#[derive(Clone, Copy)]
 pub enum EnterAnswer {
     Done,
     Refused(u32),
 }
 
 // The answer of a call: how many instances were checked, or a refusal by its number.
-#[derive(Drop)]
+#[derive(Clone, Copy)]
 pub enum CheckAnswer {
     Checked(u32),
     Refused(u32),

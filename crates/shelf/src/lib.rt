@@ -1,4 +1,6 @@
 // The shelf of prepared roots: a page in the host's cache, stocked and drawn from.
+#![tactic(auto)]
+
 ghost use Rattle.std.specs.Prelude.{◌≡◌, []};
 ghost use Rattle.shelf.specs.Steps.{no_root};
 ghost use Rattle.shelf.specs.Operations.{stock_op, draw_op, outcome, root_out};
@@ -8,14 +10,14 @@ use shelf_page::{Checked, check, slot_at};
 use shelf_slots::{move_after, put_heads, put_slot, take_root};
 
 // The answer of stock and of draw.
-#[derive(Drop)]
+#[derive(Clone, Copy)]
 pub enum Answer {
     Accepted,
     Refused(Refusal),
 }
 
 // A draw's answer, and the root that it gives; a zero root on a refusal.
-#[derive(Drop)]
+#[derive(Clone, Copy)]
 pub struct Drawn {
     pub answer: Answer,
     pub root: [u8; 16],

@@ -1,10 +1,12 @@
 // The page of a shelf: its numbers, its two chains, and whether it is sound.
+#![tactic(auto)]
+
 ghost use Rattle.std.specs.Prelude.{◌≡◌, true, ℕ, ◌+◌, ◌*◌, ◌≤◌, ◌<◌, length, get_or};
 ghost use Rattle.shelf_page.specs.Page.{slot_at, next_of, chain, ended, all_one, blank, chains_from};
 ghost use Rattle.shelf_page.specs.Steps.{checked, Tallied};
 
 // The numbers of a sound shelf: S, the heads of its chains, and draws.
-#[derive(Drop)]
+#[derive(Clone, Copy)]
 pub struct Shelf {
     pub size: u16,
     pub ready: u16,
@@ -13,7 +15,7 @@ pub struct Shelf {
 }
 
 // A page that was checked.
-#[derive(Drop)]
+#[derive(Clone, Copy)]
 pub enum Checked {
     Sound(Shelf),
     Broken,

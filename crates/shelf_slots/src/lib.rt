@@ -1,4 +1,6 @@
 // Slots of a page: a root copied in and out, a slot and the heads of the two chains written, a slot moved from one chain to the other.
+#![tactic(auto)]
+
 ghost use Rattle.std.specs.Prelude.{◌≡◌, ◌+◌, ◌*◌, ◌≤◌, ◌<◌, length, take, drop};
 ghost use Rattle.std.proofs.lemmas.List.Edits.{sets};
 ghost use Rattle.shelf_page.specs.Page.{slot_at};

@@ -1,4 +1,6 @@
 // Inputs of less than a block, closed: the lanes of the sponge that has taken them in and their padding, made of their parts at once.
+#![tactic(auto)]
+
 ghost use Rattle.std.specs.Prelude.{◌≡◌, length};
 ghost use Rattle.keccak.specs.Steps.{empty, absorbs, closed};
 ghost use Rattle.hashing.specs.Inputs.{node_input};

@@ -1,4 +1,6 @@
 // The parts of a showing: the tapes with a row hidden, the corrections, and the bits of the hidden row of broadcasts that a cut shows.
+#![tactic(auto)]
+
 mod cuts;
 
 ghost use Rattle.std.specs.Prelude.{◌≡◌, cond, ◌&&◌, ◌++◌, suc, ◌+◌, ◌*◌, ◌≤◌, ◌<◌, eqb, ltb, length, take, drop, replicate};

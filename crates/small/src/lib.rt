@@ -1,4 +1,6 @@
 // Every small circuit in turn (document 02, order 11): the file at a place, found by division.
+#![tactic(auto)]
+
 ghost use Rattle.std.specs.Prelude.{◌≡◌, cond, ◌+◌, ◌*◌, ◌≤◌, ◌<◌, length};
 ghost use Rattle.std.proofs.lemmas.List.Edits.{sets};
 ghost use Rattle.circuit.specs.File.{width};
@@ -11,7 +13,7 @@ use circuit::WIDTH;
 use refusal::Refusal;
 
 // A gate by the first three fields of its record.
-#[derive(Drop)]
+#[derive(Clone, Copy)]
 pub struct Gate {
     pub kind: u32,
     pub a: u32,
@@ -19,7 +21,7 @@ pub struct Gate {
 }
 
 // What asking for a place answers: the length of the file written, that the last has passed, or a refusal.
-#[derive(Drop)]
+#[derive(Clone, Copy)]
 pub enum Answer {
     Written(usize),
     Passed,

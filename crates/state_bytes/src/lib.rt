@@ -11,6 +11,8 @@
 //   270       the sponge of h', likewise
 // Every string of 7,537 bytes is a state: a first byte above 16 counts as 0, a slot's first byte other than 0 as 1, and a fill is taken
 // modulo the rate, 136.
+#![tactic(auto)]
+
 pub mod reading;
 pub mod writing;
 

@@ -1,4 +1,6 @@
 // One instance of a proof at a time, and the digests over the instances so far.
+#![tactic(auto)]
+
 ghost use Rattle.std.specs.Prelude.{◌≡◌, ◌+◌, ◌*◌, ◌≤◌, ◌<◌, length};
 ghost use Rattle.bits.specs.Bytes.{same_bytes};
 ghost use Rattle.circuit.specs.File.{circuit_of};
@@ -22,7 +24,7 @@ use proof_tests::Shape;
 use verifying::{check_instance, header_salt};
 
 // The sponges of h and h', which have taken in the digests of the instances so far.
-#[derive(Drop)]
+#[derive(Clone, Copy)]
 pub struct Running {
     pub commitments: Sponge,
     pub online: Sponge,

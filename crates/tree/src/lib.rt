@@ -1,4 +1,6 @@
 // The tree of an instance: a node's two children, the leaves below a node, an opening, and the leaves that follow from it.
+#![tactic(auto)]
+
 ghost use Rattle.std.specs.Prelude.{◌≡◌, ◌++◌, ◌+◌, ◌*◌, ◌^◌, ◌≤◌, ◌<◌, length, take, drop};
 ghost use Rattle.four_sponges.specs.Steps.{four_rows};
 ghost use Rattle.tree.specs.Tree.{children as «children-of», left_child, right_child, leaves_below, siblings_below, opened_below};

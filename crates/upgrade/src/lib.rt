@@ -1,4 +1,6 @@
 // Circuit files of the old form, fields of 2 bytes and at most 4,096 gates, converted to the form in use.
+#![tactic(auto)]
+
 ghost use Rattle.std.specs.Prelude.{◌≡◌, true, ◌*◌, ◌≤◌, length};
 ghost use Rattle.std.proofs.lemmas.List.Edits.{sets};
 ghost use Rattle.circuit.specs.Building.{builds};
@@ -19,7 +21,7 @@ pub const OLD_WIDTH: usize = 2;
 pub const OLD_GATES: usize = 4096;
 
 // What upgrading a file answers: the length written, or a refusal with the slot that it tells, 0 where it tells none.
-#[derive(Drop)]
+#[derive(Clone, Copy)]
 pub enum Answer {
     Written(usize),
     Refused(Refusal, usize),

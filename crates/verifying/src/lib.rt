@@ -1,4 +1,6 @@
 // Verification: each instance from its stretch of the proof, and the h* over all of them.
+#![tactic(auto)]
+
 ghost use Rattle.std.specs.Prelude.{◌≡◌, true, ◌≤◌, length};
 ghost use Rattle.circuit.specs.File.{circuit_of};
 ghost use Rattle.cover.specs.Masters.{cover_bytes, masters_context};
@@ -22,7 +24,7 @@ use proof::nodes::master;
 use proof::{Counts, HEADER_BYTES};
 
 // Whether all replays gave y, and the recomputed h*.
-#[derive(Drop)]
+#[derive(Clone, Copy)]
 pub struct Verdict {
     pub agrees: bool,
     pub hstar: [u8; 32],

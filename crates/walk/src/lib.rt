@@ -1,4 +1,6 @@
 // The gates of a circuit in chain order on words, and then its output wires, for up to 64 parties.
+#![tactic(auto)]
+
 ghost use Rattle.std.specs.Prelude.{◌≡◌, ◌+◌, ◌≤◌};
 ghost use Rattle.bits.specs.Bits.{tabulate, pack};
 ghost use Rattle.circuit.specs.Steps.{and_one};

@@ -1,6 +1,8 @@
 // The C interface, built as the static library libwivulameno.a; its header is include/wivulameno.h.
 // Each function returns 0 for success, or the number of a refusal; only wv_fault_slot and wv_upgrade_slot a slot, and
 // wv_version the version. No logic of its own.
+#![tactic(auto)]
+
 ghost use Rattle.std.specs.Prelude.{◌≡◌, cond, [], ◌∷◌, length};
 ghost use Rattle.circuit.specs.Operations.{read_op, evaluate_op};
 ghost use Rattle.bristol.specs.Operations.{convert_op};

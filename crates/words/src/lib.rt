@@ -1,4 +1,6 @@
 // Words with a bit for each party, bit i for party i: parity, the hidden party's bit, the broadcasts of an AND gate.
+#![tactic(auto)]
+
 ghost use Rattle.std.specs.Prelude.{◌≡◌};
 ghost use Rattle.std.specs.Int.Bits.{bit_xor, bit_and};
 ghost use Rattle.bits.specs.Bits.{bit_val, odd};
@@ -43,7 +45,7 @@ pub fn chosen(hidden: u64, old: u64, new: u64) -> u64
 }
 
 // What an AND gate makes: the broadcasts as delivered, and the masked value of its output in the lowest bit of a byte.
-#[derive(Drop)]
+#[derive(Clone, Copy)]
 pub struct Delivered {
     pub word: u64,
     pub masked: u8,

@@ -175,12 +175,10 @@ fn words(text: &str) -> impl Iterator<Item = &str> {
         .filter(|word| !word.is_empty())
 }
 
-/// The crate and the file of a path such as `Rattle·mpc.specs.Run` or, inside
-/// the crate, `Rattle·mpc·specs.specs.Run`.
+/// The crate and the file of a path such as `Rattle.mpc.specs.Run`.
 fn place(path: &str) -> Option<(String, String)> {
-    let rest = path.strip_prefix("Rattle·")?;
+    let rest = path.strip_prefix("Rattle.")?;
     let (krate, file) = rest.split_once(".specs.")?;
-    let krate = krate.trim_end_matches("·specs");
     (!file.contains('.')).then(|| (krate.to_string(), file.to_string()))
 }
 
@@ -270,10 +268,10 @@ fn bring_in(file: &mut File, import: &str) {
     }
 }
 
-/// How a name is written where it is used: `_⊕_` as `⊕`.
+/// How a name is written where it is used: `◌⊕◌` as `⊕`.
 fn operator(name: &str) -> &str {
-    let inner = name.trim_matches('_');
-    match inner.is_empty() || inner.contains('_') {
+    let inner = name.trim_matches('◌');
+    match inner.is_empty() || inner.contains('◌') {
         true => name,
         false => inner,
     }

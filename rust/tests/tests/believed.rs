@@ -26,7 +26,7 @@ fn files(folder: &Path, end: &str) -> Vec<PathBuf> {
     found.filter(is_such).collect()
 }
 
-/// The promise of a function: the lines from its name to its body.
+/// The promise of a function: its `ensures` clauses, between its name and its body.
 fn promise(source: &str, name: &str) -> Option<String> {
     let starts = [
         format!("pub fn {name}("),
@@ -34,9 +34,20 @@ fn promise(source: &str, name: &str) -> Option<String> {
     ];
     let mut lines = source.lines();
     lines.find(|line| starts.iter().any(|start| line.starts_with(start)))?;
-    let lines = lines.take_while(|line| *line != "{");
-    let promises = lines.filter(|line| line.trim_start().starts_with("ensures"));
-    Some(promises.collect::<Vec<_>>().join("\n"))
+    let mut promises = vec![];
+    let mut is_promise = false;
+    for line in lines.take_while(|line| *line != "{") {
+        // a clause can go on over further lines
+        match line.trim_start().split([' ', '*']).next() {
+            Some("ensures") => is_promise = true,
+            Some("requires") => is_promise = false,
+            _ => (),
+        }
+        if is_promise {
+            promises.push(line);
+        }
+    }
+    Some(promises.join("\n"))
 }
 
 /// The operations: what the C functions call, as crate, module and function.
@@ -181,14 +192,14 @@ fn what_is_not_believed_is_a_step() {
 fn a_definition_is_followed() {
     let specs = Specs::read();
     let from = specs
-        .find("proof", "Check", "checkOp")
+        .find("proof", "Check", "check_op")
         .expect("it is there");
     let below = specs.closure(BTreeSet::from([from]));
     for (krate, file, name) in [
-        ("circuit", "File", "readCircuit"),
-        ("circuit", "Fields", "goodRecord"),
+        ("circuit", "File", "read_circuit"),
+        ("circuit", "Fields", "good_record"),
         ("refusal", "Outcome", "Answer"),
-        ("keccak", "Sponge", "sha3-256"),
+        ("keccak", "Sponge", "sha3_256"),
         ("permutation", "Permutation", "χ"),
         ("bits", "Bits", "oct"),
     ] {

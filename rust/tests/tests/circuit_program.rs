@@ -16,12 +16,13 @@ const LONGEST: usize = 65_536;
 
 /// What the program writes for an input.
 fn printed(input: &[u8]) -> String {
-    let program = Path::new(env!("CARGO_MANIFEST_DIR")).join("../../target/bin/circuit_program");
+    let folder = Path::new(env!("CARGO_MANIFEST_DIR")).join("../../crates/circuit_program");
+    let program = folder.join("out/circuit_program");
     let mut child = Command::new(&program)
         .stdin(Stdio::piped())
         .stdout(Stdio::piped())
         .spawn()
-        .unwrap_or_else(|error| panic!("{}: {error}; rt check builds it", program.display()));
+        .unwrap_or_else(|error| panic!("{}: {error}; rt ci builds it, or rt run there", program.display()));
     // a program that has read enough may close its end first
     let _ = child.stdin.take().unwrap().write_all(input);
     String::from_utf8(child.wait_with_output().unwrap().stdout).unwrap()

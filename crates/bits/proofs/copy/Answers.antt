@@ -1,0 +1,22 @@
+-- `bits::copy` meets its contract: the loop's invariant is that the first k bytes are copied.
+-- Assumes nothing.
+use native.Mathlib.Omega.{arith}
+use mathlib.Core.Path.{◌≡◌, refl}
+use Prim.Native.Nat.{◌-◌, ◌≤◌}
+use lib.ListN.{length, take, length-set}
+use Rattle.bits.proofs.Copies.{copy_more, copy-end}
+use Rattle.bits.proofs.copy.Goals as goal
+
+pub loop-k-init : goal.loop-k-init
+loop-k-init c = (omega arith, (c.requires, refl))
+
+pub loop-k-smaller : goal.loop-k-smaller
+loop-k-smaller c = rw length-set (omega arith)
+
+pub loop-k-preserved : goal.loop-k-preserved
+loop-k-preserved c =
+    let l = c.loop-k in
+    (rw length-set (omega arith), (rw length-set l.invariant.1.0, copy_more _ l.to l.k (omega arith) l.invariant.1.0 l.invariant.1.1))
+
+pub returns : goal.returns
+returns c = copy-end _ _ c.loop-k.k (omega arith) c.loop-k.invariant.1.0 c.loop-k.invariant.1.1

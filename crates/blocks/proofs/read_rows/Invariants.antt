@@ -1,0 +1,15 @@
+-- `blocks::read_rows` meets its contract. The invariant: p words are read.
+-- Assumes nothing.
+use native.Mathlib.Omega.{arith}
+use mathlib.Core.Path.{◌≡◌, refl, ap, ◌∙◌}
+use Prim.Native.Nat.{ℕ, ◌-◌, ◌≤◌}
+use Rattle.blocks.specs.Steps.{row_words}
+use Rattle.words.proofs.Turns.{place-within}
+use Rattle.blocks.proofs.Columns.{rows_none, rows-turn}
+use Rattle.blocks.proofs.read_rows.Given as goal
+
+abbrev pub invariant-loop-p : goal.invariant-loop-p
+invariant-loop-p l = (l.p ≤ l.n) × (l.r ≡ row_words l.p l.s l.j l.step)
+
+abbrev pub decreases-loop-p : goal.decreases-loop-p
+decreases-loop-p l = l.n - l.p

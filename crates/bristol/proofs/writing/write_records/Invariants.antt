@@ -1,0 +1,18 @@
+-- `bristol::writing::write_records` meets its contract. The loop's invariant: storing the record of the gate that is held, and of those that are left, gives what storing all gives.
+-- Assumes nothing.
+use borrow.Author.Rules.{rules}
+use native.Mathlib.Omega.{arith}
+use mathlib.Core.Path.{ap}
+use mathlib.Core.List.{◌∷◌}
+use Prim.Native.Nat.{ℕ, ◌+◌, ◌-◌}
+use lib.ListN.{drop}
+use Rattle.bristol_text.specs.Text.{lines}
+use Rattle.bristol_lines.specs.Steps.{line_of, gates_from, stored}
+use Rattle.bristol.proofs.Writes.{Held, held_start, held_more, held_all, never-unknown, never-malformed, next-line, room-same}
+use Rattle.bristol.proofs.writing.write_records.Given as goal
+
+abbrev pub invariant-loop-left : goal.invariant-loop-left
+invariant-loop-left l = Held l.s l.z l.initial.out (stored l.z.inputs l.z.outputs (line_of l.initial.g ∷ gates_from (lines (drop l.initial.at l.s))) l.initial.out) l.out l.g l.left l.at
+
+abbrev pub decreases-loop-left : goal.decreases-loop-left
+decreases-loop-left l = l.left

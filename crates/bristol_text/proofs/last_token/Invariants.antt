@@ -1,0 +1,11 @@
+-- `bristol_text::last_token` meets its contract. The loop's invariant: the bytes from i on have no space.
+-- Assumes nothing.
+use native.Mathlib.Omega.{arith}
+use Rattle.bristol_text.proofs.Tokens.{Alone, alone-start, alone-whole, alone-space, alone-back}
+use Rattle.bristol_text.proofs.last_token.Given as goal
+
+abbrev pub invariant-loop-i : goal.invariant-loop-i
+invariant-loop-i l = Alone l.l l.i
+
+abbrev pub decreases-loop-i : goal.decreases-loop-i
+decreases-loop-i l = l.i

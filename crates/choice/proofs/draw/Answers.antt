@@ -1,0 +1,32 @@
+-- `choice::draw` meets its contract: the loop's invariant is that the first t instances are those after t draws.
+-- Assumes nothing.
+use native.Mathlib.Omega.{arith}
+use native.Mathlib.Nat.{mod-lt}
+use mathlib.Core.Path.{◌≡◌, refl, ap, ◌∙◌}
+use Prim.Native.Nat.{ℕ, ◌-◌, ◌%◌, ◌≤◌, ◌<◌}
+use lib.ListN.{length, take}
+use Rattle.choice.specs.Challenge.{chosen_from, drawn, instances}
+use Rattle.choice.proofs.Choosing.{draw-none, draw-more, draw-all}
+use Rattle.choice.proofs.draw.Goals as goal
+
+pub loop-t-init : goal.loop-t-init
+loop-t-init c = let x = c.args in (refl, (omega arith, draw-none x.m x.stream.now x.chosen.now))
+
+pub choose-requires : goal.choose-requires
+choose-requires c =
+    let x = c.args in
+    let l = c.loop-t in
+    let w : c.read_u64.result % (x.m - l.t) < x.m - l.t = mod-lt c.read_u64.result (omega arith) in
+    (omega arith, omega arith)
+
+pub loop-t-preserved : goal.loop-t-preserved
+loop-t-preserved c =
+    let x = c.args in
+    let l = c.loop-t in
+    (omega arith, (omega arith, draw-more x.m x.stream.now l.t c.read_u64.result l.chosen c.choose.new.chosen (omega arith) c.read_u64.ensures l.invariant.1.1 c.choose.ensures))
+
+pub returns : goal.returns
+returns c =
+    let x = c.args in
+    let l = c.loop-t in
+    draw-all x.m x.stream.now l.t l.chosen (omega arith) (omega arith) l.invariant.1.1 ∙ ap (λ (k : ℕ). instances x.m k x.stream.now) l.invariant.0

@@ -1,0 +1,16 @@
+-- `choice::draw` meets its contract: the loop's invariant is that the first t instances are those after t draws.
+-- Assumes nothing.
+use native.Mathlib.Omega.{arith}
+use native.Mathlib.Nat.{mod-lt}
+use mathlib.Core.Path.{◌≡◌, refl, ap, ◌∙◌}
+use Prim.Native.Nat.{ℕ, ◌-◌, ◌%◌, ◌≤◌, ◌<◌}
+use lib.ListN.{length, take}
+use Rattle.choice.specs.Challenge.{chosen_from, drawn, instances}
+use Rattle.choice.proofs.Choosing.{draw-none, draw-more, draw-all}
+use Rattle.choice.proofs.draw.Given as goal
+
+abbrev pub invariant-loop-t : goal.invariant-loop-t
+invariant-loop-t l = (length l.chosen ≡ length l.initial.chosen) × ((l.t ≤ length l.initial.chosen) × (take l.t l.chosen ≡ chosen_from 0 (drawn l.m l.stream l.t)))
+
+abbrev pub decreases-loop-t : goal.decreases-loop-t
+decreases-loop-t l = length l.initial.chosen - l.t

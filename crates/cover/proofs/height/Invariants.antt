@@ -1,0 +1,14 @@
+-- `cover::height` meets its contract: as long as the leaves of height h are too few, h is below the least height.
+-- Assumes nothing.
+use Rattle.cover.specs.Masters.{height}
+use Rattle.cover.proofs.Least.{height-more, height-there, height-low, twice}
+use native.Mathlib.Omega.{arith}
+use mathlib.Core.Path.{◌≡◌, refl}
+use Prim.Native.Nat.{ℕ, ◌-◌, ◌^◌, ◌≤◌, ◌<◌}
+use Rattle.cover.proofs.height.Given as goal
+
+abbrev pub invariant-loop-leaves : goal.invariant-loop-leaves
+invariant-loop-leaves l = (l.leaves ≡ 2 ^ l.h) × (l.h ≤ height l.m)
+
+abbrev pub decreases-loop-leaves : goal.decreases-loop-leaves
+decreases-loop-leaves l = height l.m - l.h

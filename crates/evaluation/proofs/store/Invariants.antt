@@ -1,0 +1,16 @@
+-- `evaluation::store` meets its contract. The loop's invariant: the first j bytes are the packed ones.
+-- Assumes nothing.
+use mathlib.Core.Path.{◌≡◌, refl, ◌∙◌}
+use Prim.Native.Nat.{ℕ, ◌-◌, ◌≤◌, ◌<◌}
+use native.Mathlib.Omega.{arith}
+use lib.ListN.{length, get_or, length-set}
+use Rattle.circuit.specs.Steps.{out_byte}
+use Rattle.circuit.proofs.Run.{store-turn, packed}
+use Rattle.evaluation.proofs.store.Given as goal
+
+abbrev pub invariant-loop-j : goal.invariant-loop-j
+invariant-loop-j l =
+    (l.j ≤ length l.y) × ((length l.y ≡ length l.initial.y) × ((i : ℕ) → i < l.j → get_or l.y i 0 ≡ out_byte l.s l.values l.outputs i))
+
+abbrev pub decreases-loop-j : goal.decreases-loop-j
+decreases-loop-j l = length l.y - l.j

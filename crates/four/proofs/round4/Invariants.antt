@@ -1,0 +1,22 @@
+-- `four::round4` meets its contract. The invariant: the round is done on the first k states.
+-- Assumes nothing.
+use borrow.Author.Rules.{rules}
+use native.Mathlib.Omega.{arith}
+use mathlib.Core.Path.{◌≡◌, refl, sym, ap, ◌∙◌}
+use mathlib.Core.List.{List}
+use Prim.Native.Nat.{ℕ, ◌-◌, ◌≤◌}
+use lib.ListN.{length}
+use Rattle.permutation.specs.Permutation.{Rnd, lanes, lane_array}
+use Rattle.four.specs.Steps.{state_of, rounded_by}
+use Rattle.four.proofs.States.{each_below, below_none, below-turn, below-state, below_all, rounded-is}
+use Rattle.four.proofs.round4.Given as goal
+
+-- the round ir on the lanes of a state
+abbrev pub rnd : ℕ → List ℕ → List ℕ
+rnd ir a = lanes (Rnd (lane_array a) ir)
+
+abbrev pub invariant-loop-k : goal.invariant-loop-k
+invariant-loop-k l = (l.k ≤ 4) × (l.s ≡ each_below (rnd l.ir) l.k l.initial.s)
+
+abbrev pub decreases-loop-k : goal.decreases-loop-k
+decreases-loop-k l = 4 - l.k

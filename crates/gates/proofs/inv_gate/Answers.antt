@@ -1,0 +1,18 @@
+-- `gates::inv_gate` meets its contract.
+-- Assumes nothing.
+use Rattle.gates.proofs.Steps.{inv-done}
+use native.Mathlib.Omega.{arith}
+use mathlib.Core.Path.{◌≡◌, refl, sym, ap, ◌∙◌}
+use Prim.Native.Nat.{ℕ, zero, suc, ◌+◌, ◌-◌, ◌*◌, ◌≤◌, ◌<◌}
+use lib.ListN.{length, get_or, set, length-set}
+use borrow.Author.Rules.{rules}
+use Rattle.gates.proofs.inv_gate.Goals as goal
+
+pub returns : goal.returns
+returns c =
+    let stored = c in
+    let kept = stored in
+    let m = kept in
+    let s = m in
+    let x = s.args in
+    inv-done x.l x.a x.c _ _ x.memory.now _ _ s.share-s.ensures m.masked-m.ensures kept.put_share.ensures stored.put_masked.ensures

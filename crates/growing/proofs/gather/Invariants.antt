@@ -1,0 +1,19 @@
+-- `growing::gather` meets its contract: the rows of the opened nodes below k stand one after the other.
+-- Assumes nothing.
+use Rattle.bits.specs.Bytes.{row_of}
+use Rattle.bits.proofs.Rows.{row-length}
+use Rattle.cover.specs.Steps.{opened_by}
+use mathlib.Core.Logic.{⊎_elim}
+use borrow.Rule.Slice.PartMut.{mid_len}
+use Rattle.growing.proofs.Writing.{Written, written_none, room, turn_more, turn-skip, written_all}
+use native.Mathlib.Omega.{arith}
+use mathlib.Core.Path.{◌≡◌, refl, sym, ap, ◌∙◌}
+use Prim.Native.Nat.{◌+◌, ◌-◌, ◌≤◌}
+use lib.ListN.{length}
+use Rattle.growing.proofs.gather.Given as goal
+
+abbrev pub invariant-loop-k : goal.invariant-loop-k
+invariant-loop-k l = (l.k ≤ length l.marks) × (length l.out ≡ length l.initial.out) × Written (opened_by l.marks) (row_of l.nodes 16) l.k l.at l.out
+
+abbrev pub decreases-loop-k : goal.decreases-loop-k
+decreases-loop-k l = length l.marks - l.k

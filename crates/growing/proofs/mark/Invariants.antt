@@ -1,0 +1,14 @@
+-- `growing::mark` meets its contract: from the last node down, every node from k on has its mark.
+-- Assumes nothing.
+use Rattle.growing.proofs.Marking.{Marked, marked-none, marked_more, marked_all}
+use native.Mathlib.Omega.{arith}
+use mathlib.Core.Path.{◌≡◌, refl}
+use Prim.Native.Nat.{◌≤◌}
+use lib.ListN.{length, length-set}
+use Rattle.growing.proofs.mark.Given as goal
+
+abbrev pub invariant-loop-k : goal.invariant-loop-k
+invariant-loop-k l = (l.k ≤ length l.marks) × (length l.marks ≡ length l.initial.marks) × Marked l.h l.m l.table l.none l.marks l.k
+
+abbrev pub decreases-loop-k : goal.decreases-loop-k
+decreases-loop-k l = l.k

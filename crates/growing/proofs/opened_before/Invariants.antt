@@ -1,0 +1,16 @@
+-- `growing::opened_before` meets its contract: r opened nodes are below k.
+-- Assumes nothing.
+use Rattle.cover.specs.Cover.{those}
+use Rattle.cover.specs.Steps.{opened_by}
+use Rattle.growing.proofs.Marking.{byte_le, count_none, count-more}
+use native.Mathlib.Omega.{arith}
+use mathlib.Core.Path.{◌≡◌, ap, ◌∙◌}
+use Prim.Native.Nat.{ℕ, ◌-◌, ◌≤◌}
+use lib.ListN.{length}
+use Rattle.growing.proofs.opened_before.Given as goal
+
+abbrev pub invariant-loop-k : goal.invariant-loop-k
+invariant-loop-k l = (l.k ≤ l.n) × (l.r ≤ l.k) × (l.r ≡ length (those l.k (opened_by l.marks)))
+
+abbrev pub decreases-loop-k : goal.decreases-loop-k
+decreases-loop-k l = l.n - l.k

@@ -1,0 +1,15 @@
+-- `hashing::start_all_commitments` meets its contract: the tag is taken in.
+-- Assumes nothing.
+use Rattle.hashing.specs.Inputs.{all_commitments_input}
+use Rattle.hashing.proofs.Hashes.{empty-room}
+use Rattle.hashing.proofs.Digests.{taken-tag}
+use native.Mathlib.Omega.{arith}
+use borrow.Author.Rules.{rules}
+use Rattle.hashing.proofs.start_all_commitments.Goals as goal
+
+pub absorb_byte-requires : goal.absorb_byte-requires
+absorb_byte-requires c = (omega arith, rw c.new.ensures (empty-room 136 (omega arith)))
+
+pub returns : goal.returns
+unfolding all_commitments_input
+returns c = taken-tag 9 c.new.result c.absorb_byte.result c.new.ensures c.absorb_byte.ensures

@@ -1,0 +1,9 @@
+-- `keccak::shake256` meets its contract.
+-- Assumes nothing.
+use Rattle.keccak.specs.Sponge.{shake256}
+use borrow.Author.Rules.{rules}
+use Rattle.keccak.proofs.shake256.Goals as goal
+
+pub returns : goal.returns
+unfolding shake256
+returns c = c.hash.ensures

@@ -1,0 +1,68 @@
+-- `keccak::sponge::Sponge::squeeze_bytes` meets its contract: the loop's invariant: halfway through giving out.
+-- Assumes nothing.
+use mathlib.Core.List.{[], ◌∷◌, ◌++◌}
+use native.Mathlib.Numerals.{add-one}
+use lib.Seq.{take-suc-set}
+use lib.ListN.{take, length, length-set}
+use Rattle.keccak.proofs.Steps.{halfway-start, halfway-more, halfway-end, turned-room, joined-full, joined-part, Halfway}
+use Rattle.keccak.specs.Steps.{byte_at, squeezes, squeezed, squeeze_byte, turned}
+use Rattle.keccak.specs.declared.sponge.Sponge.{Sponge}
+use Prim.Native.Nat.{◌+◌, ◌-◌, ◌<◌}
+use native.Mathlib.Omega.{arith}
+use mathlib.Core.Path.{◌≡◌, ap, ◌∙◌}
+use Rattle.keccak.proofs.sponge.Sponge.squeeze_bytes.Goals as goal
+use Rattle.keccak.proofs.sponge.Sponge.squeeze_bytes.Goals.{Joined-at-rate, then-at-rate, else-at-rate}
+
+-- the sponge where the ways of the turn meet
+joined : (c : Joined-at-rate)
+    → ◌≡◌ {A = Sponge} (record { lanes = c.if-at-rate.l; fill = c.if-at-rate.at }) (turned c.args.rate (record { lanes = c.loop-i.l; fill = c.loop-i.at }))
+joined c =
+    elim c.if-at-rate.branch [
+      then-at-rate w ↦ joined-full _ _ _ _ _ w.if-at-rate.true (w.l-is ∙ w.permute.ensures) w.at-is
+      | else-at-rate w ↦ joined-part _ _ _ _ _ w.if-at-rate.false w.l-is w.at-is
+    ]
+
+-- the turned block has room
+fits : (c : Joined-at-rate) → c.if-at-rate.at < c.args.rate
+fits c =
+    let b = c in
+    let l = c.loop-i in
+    rw (ap (λ (t : Sponge). t.fill) (joined c))
+    (turned-room b.args.rate b.requires.0 (record { lanes = l.l; fill = l.at }) l.invariant.room)
+
+pub loop-i-init : goal.loop-i-init
+loop-i-init c = let b = c in halfway-start b.args.rate b.requires.0 b.args.self b.args.out.now b.requires.1.1
+
+pub permute-requires : goal.permute-requires
+permute-requires c = tt
+
+pub byte_at-requires : goal.byte_at-requires
+byte_at-requires c = omega (arith, fits (goal.at.byte_at-requires c).Joined-at-rate)
+
+pub bounds-out-i : goal.bounds-out-i
+bounds-out-i c = let k = c.loop-i.invariant.kept in omega arith
+
+pub overflow_add-at : goal.overflow_add-at
+overflow_add-at c = omega (arith, fits (goal.at.overflow_add-at c).Joined-at-rate)
+
+pub loop-i-preserved : goal.loop-i-preserved
+unfolding squeezed squeezes squeeze_byte
+loop-i-preserved c =
+    let b = c in
+    let x = b.args in
+    let l = c.loop-i in
+    let j = c in
+    let s : Sponge = record { lanes = l.l; fill = l.at } in
+    let e = joined (goal.at.loop-i-preserved c).Joined-at-rate in
+    halfway-more x.rate b.requires.0 x.self x.out.now l.out s l.i 1 _ _ l.invariant
+    (omega arith)
+    (length-set l.out l.i _)
+    (ap (λ (t : Sponge). record { lanes = t.lanes; fill = t.fill + 1 }) e)
+    (rw (add-one, take-suc-set l.out l.i c.byte_at.result (omega (arith, l.invariant.kept)), c.byte_at.ensures)
+    (ap (λ (t : Sponge). take l.i l.out ++ (byte_at t.lanes t.fill ∷ [])) e))
+
+pub returns : goal.returns
+returns c =
+    let b = c in
+    let l = c.loop-i in
+    halfway-end b.args.rate b.requires.0 b.args.self b.args.out.now l.out _ l.i l.invariant (omega arith)

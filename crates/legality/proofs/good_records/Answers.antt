@@ -1,0 +1,26 @@
+-- `legality::good_records` meets its contract. The loop's invariant: what is gathered is the test of the first k slots.
+-- Assumes nothing.
+use mathlib.Core.Path.{◌≡◌, refl}
+use Prim.Native.Nat.{◌-◌, ◌≤◌}
+use native.Mathlib.Omega.{arith}
+use borrow.Author.Rules.{rules}
+use Rattle.circuit.specs.Fields.{field, good_records}
+use Rattle.circuit.proofs.Slots.{inside, records-turn}
+use Rattle.legality.proofs.good_records.Goals as goal
+
+pub loop-k-init : goal.loop-k-init
+unfolding good_records
+loop-k-init c = (omega arith, refl)
+
+pub good_record-requires : goal.good_record-requires
+good_record-requires c = inside _ _ _ _ _ _ c.requires (omega arith) (omega arith)
+
+pub loop-k-preserved : goal.loop-k-preserved
+loop-k-preserved c =
+    let l = c.loop-k in
+    (omega arith, records-turn _ _ _ _ _ l.invariant.1 c.good_record.ensures c.both-good.ensures)
+
+pub returns : goal.returns
+returns c =
+    let e : c.loop-k.k ≡ c.args.gates = omega arith in
+    rw (← e) c.loop-k.invariant.1

@@ -1,0 +1,15 @@
+-- `legality::good_records` meets its contract. The loop's invariant: what is gathered is the test of the first k slots.
+-- Assumes nothing.
+use mathlib.Core.Path.{◌≡◌, refl}
+use Prim.Native.Nat.{◌-◌, ◌≤◌}
+use native.Mathlib.Omega.{arith}
+use borrow.Author.Rules.{rules}
+use Rattle.circuit.specs.Fields.{field, good_records}
+use Rattle.circuit.proofs.Slots.{inside, records-turn}
+use Rattle.legality.proofs.good_records.Given as goal
+
+abbrev pub invariant-loop-k : goal.invariant-loop-k
+invariant-loop-k l = (l.k ≤ l.gates) × (l.good ≡ good_records (field l.bytes l.s) l.k)
+
+abbrev pub decreases-loop-k : goal.decreases-loop-k
+decreases-loop-k l = l.gates - l.k

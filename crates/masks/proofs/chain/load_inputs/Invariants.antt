@@ -1,0 +1,20 @@
+-- `masks::chain::load_inputs` meets its contract. The loop's invariant: k masks are loaded.
+-- Assumes nothing.
+use native.Mathlib.Omega.{arith}
+use mathlib.Core.Path.{◌≡◌, refl, ◌∙◌}
+use Prim.Native.Nat.{◌-◌, ◌≤◌}
+use lib.ListN.{length, length-set}
+use Rattle.bits.specs.Bits.{bit_val, bit_at}
+use Rattle.words.specs.Steps.{fill}
+use Rattle.words.proofs.Fill.{fill_none}
+use Rattle.masks.specs.Steps.{tape_bit}
+use Rattle.masks.proofs.Adding.{load-done, load-turn}
+use Rattle.masks.proofs.chain.load_inputs.Given as goal
+
+abbrev pub invariant-loop-k : goal.invariant-loop-k
+invariant-loop-k l =
+    (l.k ≤ l.inputs)
+    × ((length l.memory ≡ length l.initial.memory) × (l.memory ≡ fill (λ j. j) (λ j. bit_val (bit_at l.initial.memory (tape_bit l.wires j))) l.k l.initial.memory))
+
+abbrev pub decreases-loop-k : goal.decreases-loop-k
+decreases-loop-k l = l.inputs - l.k

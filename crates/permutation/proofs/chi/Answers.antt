@@ -1,0 +1,13 @@
+-- `permutation::chi` meets its contract: it computes χ on lanes. Each index is below 25.
+-- Assumes nothing.
+use borrow.Author.Rules.{rules}
+use lib.Dec.{lit<}
+use lib.ListN.{get_or}
+use mir.Syntax.{w64}
+use mir.Val.{Fits}
+use Rattle.permutation.proofs.Lanes.{chi-lanes}
+use Rattle.permutation.proofs.chi.Goals as goal
+
+pub returns : goal.returns
+returns c =
+    chi-lanes c.args.a (λ k. let h : Fits w64 (get_or c.args.a k 0) = search rules in h.fits)

@@ -1,0 +1,13 @@
+-- `permutation::rho` meets its contract: it computes ρ on lanes. Each index is below 25.
+-- Assumes nothing.
+use borrow.Author.Rules.{rules}
+use lib.Dec.{lit<}
+use lib.ListN.{get_or}
+use mir.Syntax.{w64}
+use mir.Val.{Fits}
+use Rattle.permutation.proofs.Lanes.{rho-lanes}
+use Rattle.permutation.proofs.rho.Goals as goal
+
+pub returns : goal.returns
+returns c =
+    rho-lanes c.args.a (λ k. let h : Fits w64 (get_or c.args.a k 0) = search rules in h.fits)

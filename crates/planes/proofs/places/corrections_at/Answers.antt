@@ -1,0 +1,12 @@
+-- `planes::places::corrections_at` meets its contract.
+-- Assumes nothing.
+use native.Mathlib.Omega.{arith}
+use borrow.Author.Rules.{rules}
+use Rattle.planes.proofs.Fits.{spare-small}
+use Rattle.planes.proofs.places.corrections_at.Goals as goal
+
+pub overflow_add-result : goal.overflow_add-result
+overflow_add-result c = omega (arith, c.planes_end.ensures, c.spare.ensures, spare-small c.args.l)
+
+pub returns : goal.returns
+returns c = omega (arith, c.planes_end.ensures, c.spare.ensures)

@@ -1,0 +1,7 @@
+-- `planes::places::planes_end` meets its contract.
+-- Assumes nothing.
+use borrow.Author.Rules.{rules}
+use Rattle.planes.proofs.places.planes_end.Goals as goal
+
+pub returns : goal.returns
+returns c = c.masked_at.ensures

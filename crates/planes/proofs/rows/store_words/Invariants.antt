@@ -1,0 +1,16 @@
+-- `planes::rows::store_words` meets its contract. The invariant: k bytes of each row are stored.
+-- Assumes nothing.
+use native.Mathlib.Omega.{arith}
+use mathlib.Core.Path.{◌≡◌, refl, ap, ◌∙◌}
+use Prim.Native.Nat.{ℕ, ◌-◌, ◌≤◌}
+use lib.ListN.{length}
+use Rattle.planes.specs.Steps.{stored_words}
+use Rattle.planes.proofs.Turning.{store-more, store-none, store-turn}
+use Rattle.planes.proofs.rows.store_words.Given as goal
+
+abbrev pub invariant-loop-k : goal.invariant-loop-k
+invariant-loop-k l =
+    (l.k ≤ l.len) × ((length l.rows ≡ length l.initial.rows) × (l.rows ≡ stored_words l.n l.memory l.from l.k l.a l.len l.initial.rows))
+
+abbrev pub decreases-loop-k : goal.decreases-loop-k
+decreases-loop-k l = l.len - l.k

@@ -1,0 +1,55 @@
+-- `replaying::replay_lengths` meets its contract.
+-- Assumes nothing.
+use native.Mathlib.Omega.{arith}
+use Rattle.replaying.proofs.Replayed.{all-six}
+use Rattle.replaying.proofs.replay_lengths.Goals as goal
+
+pub overflow_mul-z : goal.overflow_mul-z
+overflow_mul-z c = omega (arith, c.requires.1.1.1)
+
+pub overflow_add-z : goal.overflow_add-z
+overflow_add-z c = omega (arith, c.requires.1.0, c.requires.1.1.1)
+
+pub holds_rows-requires : goal.holds_rows-requires
+holds_rows-requires c = (c.requires.0, omega (arith, c.requires.1.0, c.requires.1.1.1))
+
+pub holds-requires : goal.holds-requires
+holds-requires c = tt
+
+pub both-requires : goal.both-requires
+both-requires c = tt
+
+pub holds-requires-2 : goal.holds-requires-2
+holds-requires-2 c = tt
+
+pub both-first-requires : goal.both-first-requires
+both-first-requires c = tt
+
+pub overflow_add-z-2 : goal.overflow_add-z-2
+overflow_add-z-2 c = omega (arith, c.requires.1.1.0, c.requires.1.1.1)
+
+pub holds-requires-3 : goal.holds-requires-3
+holds-requires-3 c = tt
+
+pub both-parts-requires : goal.both-parts-requires
+both-parts-requires c = tt
+
+pub holds-requires-4 : goal.holds-requires-4
+holds-requires-4 c = tt
+
+pub both-requires-2 : goal.both-requires-2
+both-requires-2 c = tt
+
+pub overflow_add-z-3 : goal.overflow_add-z-3
+overflow_add-z-3 c = omega (arith, c.requires.1.1.0, c.requires.1.1.1)
+
+pub holds_rows-requires-2 : goal.holds_rows-requires-2
+holds_rows-requires-2 c = (c.requires.0, omega (arith, c.requires.1.1.0, c.requires.1.1.1))
+
+pub both-requires-3 : goal.both-requires-3
+both-requires-3 c = tt
+
+pub returns : goal.returns
+returns c =
+    all-six _ _ _ _ _ _ _ _ _ _ _ _ _ _ _ _ _ c.holds_rows.ensures c.holds.ensures c.holds-2.ensures c.holds-3.ensures c.holds-4.ensures
+    c.holds_rows-2.ensures c.both.ensures c.both-first.ensures c.both-parts.ensures c.both-2.ensures c.both-3.ensures

@@ -1,0 +1,14 @@
+-- `first_waiting`: what the search finds from here on is what it finds from the start.
+-- Assumes nothing.
+use Rattle.schedule.specs.Steps.{first_waiting}
+use Rattle.schedule.proofs.Flags.{first-here, first_on, first-none}
+use native.Mathlib.Omega.{arith}
+use mathlib.Core.Path.{◌≡◌, refl, sym, ◌∙◌}
+use Prim.Native.Nat.{◌-◌}
+use Rattle.schedule.proofs.first_waiting.Given as goal
+
+abbrev pub invariant-loop-i : goal.invariant-loop-i
+invariant-loop-i l = first_waiting l.waiting l.i l.to ≡ first_waiting l.waiting l.from l.to
+
+abbrev pub decreases-loop-i : goal.decreases-loop-i
+decreases-loop-i l = l.to - l.i

@@ -1,0 +1,16 @@
+-- `shelf_slots::put_root` meets its contract. The loop's invariant: the first i bytes of the root are stored.
+-- Assumes nothing.
+use mathlib.Core.List.{List}
+use mathlib.Core.Path.{◌≡◌, refl, sym, ap, ◌∙◌}
+use Prim.Native.Nat.{ℕ, ◌+◌, ◌-◌, ◌≤◌, ◌<◌}
+use native.Mathlib.Omega.{arith}
+use lib.Seq.{take_all, sets}
+use lib.ListN.{take, length, get_or, set, length-set}
+use Rattle.shelf_slots.proofs.Bytes.{sets_more}
+use Rattle.shelf_slots.proofs.put_root.Given as goal
+
+abbrev pub invariant-loop-i : goal.invariant-loop-i
+invariant-loop-i l = (l.i ≤ 16) × ((length l.page ≡ length l.initial.page) × (l.page ≡ sets l.initial.page l.at (take l.i l.root)))
+
+abbrev pub decreases-loop-i : goal.decreases-loop-i
+decreases-loop-i l = 16 - l.i

@@ -1,0 +1,21 @@
+-- `shown_parts::cuts::ands_passed` meets its contract. The loop's invariant: the count and the AND gates up to the cut make up all of them.
+-- Assumes nothing.
+use mathlib.Core.List.{[]}
+use mathlib.Core.Bool.{true}
+use mathlib.Core.Path.{◌≡◌, ap, ◌∙◌}
+use Prim.Native.Nat.{ℕ, ◌+◌, ◌-◌, ◌≤◌}
+use native.Mathlib.Omega.{arith}
+use borrow.Author.Rules.{rules}
+use Rattle.circuit.specs.Circuit.{ands}
+use Rattle.circuit.specs.Steps.{walks, gates_from}
+use Rattle.circuit.proofs.Chain.{next-read, ands-turn, ands-none, inside, here, Here, gates-end, and_one-le}
+use Rattle.shown_parts.proofs.cuts.ands_passed.Given as goal
+
+abbrev pub invariant-loop-left : goal.invariant-loop-left
+invariant-loop-left l =
+    (l.left ≤ l.cut)
+    × ((l.count + l.left ≤ l.cut)
+    × (((k : ℕ) → walks l.s (l.cut + k) l.head ≡ true → walks l.s (l.left + k) l.slot ≡ true) × (l.count + ands (gates_from l.s l.left l.slot) ≡ ands (gates_from l.s l.cut l.head))))
+
+abbrev pub decreases-loop-left : goal.decreases-loop-left
+decreases-loop-left l = l.left

@@ -1,0 +1,10 @@
+-- `words::transpose::swap` meets its contract: the definition is what the code does.
+-- Assumes nothing.
+use Rattle.words.specs.Steps.{swapped}
+use mathlib.Core.Path.{refl}
+use borrow.Author.Rules.{rules}
+use Rattle.words.proofs.transpose.swap.Goals as goal
+
+pub returns : goal.returns
+unfolding swapped
+returns c = refl

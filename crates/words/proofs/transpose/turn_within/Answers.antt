@@ -1,0 +1,12 @@
+-- `words::transpose::turn_within` meets its contract: a word gathered, transposed and stored.
+-- Assumes nothing.
+use Rattle.words.proofs.Turns.{turned-word}
+use native.Mathlib.Omega.{arith}
+use borrow.Author.Rules.{rules}
+use Rattle.words.proofs.transpose.turn_within.Goals as goal
+
+pub returns : goal.returns
+returns c =
+    let stored = c in
+    let turned = stored in
+    turned-word _ _ _ _ _ _ _ _ _ _ _ (omega arith) (omega arith) turned.gather-x.ensures turned.transpose8.ensures stored.scatter.ensures
