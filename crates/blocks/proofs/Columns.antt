@@ -13,7 +13,7 @@ use Rattle.bits.specs.Bits.{tabulate, test_bit, from_bits}
 use Rattle.bits.specs.Bytes.{le_at}
 use Rattle.bits.proofs.Numbers.{ext-bits, from_bits-lt, lt-or-le, test_bit-from_bits, test_bit-high, test_bit-mod, test_bit-shr, test_bit-zero}
 use Rattle.bits.proofs.Tabulate.{get_d_tabulate, get_or-tabulate-end}
-use Rattle.words.specs.Steps.{at, fill, gathered, turned}
+use Rattle.words.specs.Steps.{at, gathered, turned}
 use Rattle.words.proofs.Fill.{fill-at, fill-cong, fill_none, fill-other, fill-turn}
 use Rattle.words.proofs.Turns.{blocks, blocks-bit, gathered-bit, le_at-blocks}
 use Rattle.blocks.specs.Steps.{row_words, column_words, transposed_rows, stored_column}

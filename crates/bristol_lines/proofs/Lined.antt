@@ -2,7 +2,7 @@
 -- Assumes nothing.
 use mathlib.Core.Path.{◌≡◌, refl, sym, ap, ap₂, subst, ◌∙◌}
 use mathlib.Core.Bool.{Bool, true, false, cond, not, ◌&&◌, ◌||◌}
-use mathlib.Core.List.{List, [], ◌∷◌, ◌++◌, map}
+use mathlib.Core.List.{List, [], ◌∷◌, ◌++◌}
 use mathlib.Core.Logic.{⊎_elim}
 use mathlib.Core.Option.{Option, none, some}
 use Prim.Native.Nat.{ℕ, suc, ◌+◌, ◌-◌, ◌*◌, ◌≤◌, ◌<◌}
@@ -16,7 +16,7 @@ use Rattle.bits.specs.Steps.{put_bit}
 use Rattle.bits.proofs.Packing.{length-put_bit, bit_at-put_bit, bit_at-put_bit-other}
 use Rattle.bits.proofs.Tests.{and-true-left, and-true-right}
 use Rattle.circuit.specs.Steps.{wire_bytes}
-use Rattle.bristol_text.specs.Text.{Line, lines, tokens, all_but_last, value_of, all_numbers}
+use Rattle.bristol_text.specs.Text.{Line, lines}
 use Rattle.bristol_text.specs.Steps.{LineAt, values_before, are_fields, FieldsTold}
 use Rattle.bristol_text.specs.declared.Cursor.{Cursor}
 use Rattle.refusal.specs.declared.Refusal.{Refusal}
@@ -27,7 +27,6 @@ use Rattle.bristol_lines.specs.Steps.{line_of, gate_of, read_as, gate_read, gate
 use Rattle.bristol_lines.specs.declared.Kind.{Kind}
 use Rattle.bristol_lines.specs.declared.Kind.TheVariants.{Xor, And, Inv, Other}
 use Rattle.bristol_lines.specs.declared.Gate.{Gate}
-use Rattle.bristol_lines.specs.declared.Gate.TheVariants as gate
 use Rattle.bristol_lines.specs.declared.GateRead.{GateRead}
 use Rattle.bristol_lines.specs.declared.GateRead.TheVariants.{Read, Unknown, Malformed}
 use Rattle.bristol_lines.specs.declared.LineCheck.{LineCheck}
@@ -36,7 +35,6 @@ use Rattle.bristol_lines.specs.declared.Sizes.{Sizes}
 use Rattle.bristol_lines.specs.declared.Finding.{Finding}
 use Rattle.bristol_lines.specs.declared.Finding.TheVariants as finding
 use Rattle.bristol_lines.proofs.Chained.{written-more}
-use Rattle.bristol_lines.proofs.Heads.{length-values}
 
 -- a bit is 1 where it is set
 pub bit-set : (b : Bool) → eqb (bit_val b) 1 ≡ b

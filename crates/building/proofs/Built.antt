@@ -1,6 +1,6 @@
 -- Theorem, built: the file of small parts has them in their places and reads as they do; and what a builder leaves.
 -- Assumes nothing.
-use mathlib.Core.Path.{◌≡◌, refl, sym, ap, ap₂, ◌∙◌, fun_ext}
+use mathlib.Core.Path.{◌≡◌, sym, ap, ◌∙◌, fun_ext}
 use mathlib.Core.Bool.{Bool, true, false, cond}
 use mathlib.Core.List.{List, [], ◌∷◌}
 use mathlib.Core.Logic.{⊎_elim}
@@ -16,9 +16,9 @@ use Rattle.circuit.specs.Fields.{field, field_count, within_limits, right_length
 use Rattle.circuit.specs.File.{width, max_gates, read_circuit}
 use Rattle.circuit.proofs.Alike.{beyond}
 use Rattle.circuit.proofs.Readings.{read-rest}
-use Rattle.building.specs.Files.{Four, Parts, among, laid, bytes_of, file_of, SmallFour, Small, BuiltTheorem}
+use Rattle.building.specs.Files.{Four, Parts, among, laid, file_of, SmallFour, Small, BuiltTheorem}
 use Rattle.building.proofs.Bytes.{bytes-length, bytes-field}
-use Rattle.building.proofs.Places.{laid-outputs, laid-gates, laid-count, laid-beyond}
+use Rattle.building.proofs.Places.{laid-count, laid-beyond}
 
 -- each of four small fields is small
 among-small : (q : Four) → SmallFour q → (r : ℕ) → among q r < 4294967296

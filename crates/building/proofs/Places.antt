@@ -1,11 +1,11 @@
 -- The parts of a built file in their places.
 -- Assumes nothing.
-use mathlib.Core.Path.{◌≡◌, refl, sym, ap, ap₂, ◌∙◌}
+use mathlib.Core.Path.{◌≡◌, refl, ap, ap₂}
 use Prim.Native.Nat.{ℕ, ◌+◌, ◌-◌, ◌*◌, ◌/◌, ◌%◌, ◌≤◌, ◌<◌}
 use native.Mathlib.Omega.{arith}
 use borrow.Author.Tests.{lt-ltb, le-ltb}
 use Rattle.circuit.specs.Fields.{inputs_of, outputs_of, gates_of, head_of, output_wire, record_at, kind_of, wire_a, wire_b, next_of, field_count}
-use Rattle.building.specs.Files.{Four, Parts, among, laid}
+use Rattle.building.specs.Files.{Parts, among, laid}
 
 module _ (p : Parts) where
   pub laid-inputs : inputs_of (laid p) ≡ p.header.first

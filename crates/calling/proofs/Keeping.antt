@@ -1,9 +1,9 @@
 -- What a call keeps of the tests of a caller's bytes, and one service with it.
 -- Assumes nothing.
-use mathlib.Core.Path.{◌≡◌, refl, sym, ap, ap₂, ◌∙◌, subst}
+use mathlib.Core.Path.{◌≡◌, sym, ap, ap₂, ◌∙◌, subst}
 use mathlib.Core.Bool.{Bool, true, false, cond, not, true≢false}
 use mathlib.Core.List.{List}
-use mathlib.Core.Option.{Option, none, some}
+use mathlib.Core.Option.{some}
 use Prim.Native.Nat.{ℕ, ◌<◌}
 use native.Mathlib.Omega.{arith}
 use lib.ListN.{length}
@@ -16,7 +16,7 @@ use Rattle.shared.specs.declared.entering.Looked.TheVariants as looked
 use Rattle.shared.specs.declared.Served.{Served}
 use Rattle.shared.specs.Service.{all_inside, entry_at, service_at}
 use Rattle.shared.specs.StateSteps.{refusal_of}
-use Rattle.shared.specs.Steps.{looked_of, outcome_of, Looking, ReadyAt, instance_at}
+use Rattle.shared.specs.Steps.{looked_of, outcome_of, Looking, instance_at}
 use Rattle.shared.proofs.Onward as onward
 use Rattle.shared.proofs.Onward.{kept-service}
 use Rattle.shared.proofs.Services.{service-refused, service-ready, ready_at}

@@ -12,7 +12,7 @@ use borrow.Author.Tests.{lt-ltb}
 use lib.ListN.{length, get_or, set, replicate, length-set, get_or-replicate}
 use lib.Seq.{get_or-set_same, get_or-set_other, set-get_or}
 use Rattle.bits.proofs.Numbers.{eq-or-ne}
-use Rattle.schedule.specs.Schedule.{Slot, idle, waiting, State, waits, next, Outcome, goes_on, finished, Work, Service, leaves, verdict_of, work_on, verdict_on, put, service_of, after_service, unless_none, serve}
+use Rattle.schedule.specs.Schedule.{Slot, idle, waiting, State, waits, next, goes_on, finished, Work, Service, leaves, verdict_of, work_on, verdict_on, put, service_of, after_service, serve}
 use Rattle.schedule.specs.Callers.{last_served}
 use Rattle.schedule.specs.Steps.{flagged}
 use Rattle.schedule.specs.Steps.{next_caller}

@@ -3,16 +3,14 @@
 use mathlib.Core.Path.{◌≡◌, sym, ap, ap₂, ◌∙◌, subst}
 use mathlib.Core.List.{List, []}
 use Prim.Native.Nat.{ℕ, ◌+◌, ◌*◌, ◌≤◌}
-use lib.ListN.{length}
 use Rattle.refusal.specs.Refusal.{number_of}
 use Rattle.refusal.specs.declared.Refusal.{Refusal}
 use Rattle.refusal.specs.Outcome.{Outcome, refuses, done}
 use Rattle.circuit.specs.File.{circuit_of}
 use Rattle.circuit.specs.declared.Sizes.{Sizes}
 use Rattle.masks.specs.Steps.{wire_count}
-use Rattle.instance.specs.Instance.{Asked}
 use Rattle.proof.specs.Protocol.{statement_of, challenged}
-use Rattle.proof.specs.File.{header_m, header_tau, header_n, header_hstar, header_salt}
+use Rattle.proof.specs.File.{header_m, header_hstar, header_salt}
 use Rattle.proof.specs.Check.{check_legal}
 use Rattle.proof.specs.Steps.{asks_in}
 use Rattle.proof_tests.specs.declared.Shape.{Shape}

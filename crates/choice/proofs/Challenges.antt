@@ -9,7 +9,7 @@ use Prim.Native.Nat.{ℕ, zero, suc, ◌+◌, ◌*◌, ◌≤◌, ◌<◌}
 use lib.ListN.{length, get_or, drop, length-drop, length-append}
 use Rattle.bits.specs.Bytes.{le_bytes}
 use Rattle.bits.proofs.Little.{length-le_bytes}
-use Rattle.choice.specs.Challenge.{drawn, chosen_from, parties_of, stream_of, instances, hidden_parties, beside, challenge_of, Ascending, none, more, Sound, ChallengeSound, ChallengeLength}
+use Rattle.choice.specs.Challenge.{drawn, chosen_from, parties_of, stream_of, instances, hidden_parties, beside, challenge_of, Ascending, none, more, ChallengeSound, ChallengeLength}
 use Rattle.keccak.proofs.Lengths.{length-shake256}
 use Rattle.choice.proofs.Choosing.{length-drawn, length-instances}
 

@@ -3,13 +3,13 @@
 -- Assumes nothing.
 use mathlib.Core.Path.{◌≡◌, refl, sym, ap, ap₂, ◌∙◌}
 use mathlib.Core.Bool.{Bool, true, false, cond, ◌&&◌}
-use Prim.Native.Nat.{ℕ, ◌+◌, ◌*◌, ◌/◌, ◌%◌, ◌<◌}
+use Prim.Native.Nat.{ℕ, ◌*◌, ◌/◌, ◌%◌, ◌<◌}
 use native.Mathlib.Omega.{arith}
 use borrow.Author.Tests.{eq-eqb, ne_eqb}
 use lib.Bits.{bit_xor, bit_and, and_zero_r, xor_zero_r}
 use lib.Dec.{eqb}
 use Rattle.bits.specs.Bits.{odd, bit_val, test_bit, from_bits}
-use Rattle.bits.specs.Xor.{◌⊕◌, xors}
+use Rattle.bits.specs.Xor.{◌⊕◌}
 use Rattle.bits.proofs.Bitwise.{odd-and, odd-xor, test_bit-and, test_bit-xor}
 use Rattle.bits.proofs.Numbers.{mod-two, odd-bit_val, test_bit-from_bits, test_bit-high}
 use Rattle.bits.proofs.Xor.{taut, xors-and, xors-change, xors-cong, xors-xor}

@@ -12,7 +12,7 @@ use borrow.Author.Tests.{eq-eqb, ne_eqb}
 use lib.Bits.{bit_xor, bit_and, and_le_l, xor_lt}
 use lib.ListN.{length, get_or}
 use lib.Seq.{get_or-set_other}
-use Rattle.bits.specs.Bits.{odd, bit_val, test_bit}
+use Rattle.bits.specs.Bits.{odd, test_bit}
 use Rattle.bits.specs.Steps.{put_bit}
 use Rattle.bits.specs.Xor.{◌⊕◌}
 use Rattle.bits.proofs.Little.{le_at-cong}
@@ -23,9 +23,9 @@ use Rattle.plain.specs.Run.{next}
 use Rattle.words.specs.Words.{parity, every, place, broadcast_word, chosen}
 use Rattle.words.proofs.Columns.{chosen-lt, every-lt}
 use Rattle.planes.specs.Steps as planes
-use Rattle.planes.specs.Steps.{Room, tape_words, share_at, tape_at, masked_at, planes_end, corrections_at, mask_word, share, put_share, tape, put_tape, masked, put_masked}
+use Rattle.planes.specs.Steps.{Room, tape_words, share_at, tape_at, masked_at, planes_end, corrections_at, mask_word, share, put_share, tape, put_tape, masked}
 use Rattle.planes.specs.declared.Layout.{Layout}
-use Rattle.planes.proofs.Held.{share-length, share_other, tape-length, tape-other, masked-length, masked-other}
+use Rattle.planes.proofs.Held.{share-length, share_other, tape-length, tape-other, masked-other}
 use Rattle.planes.proofs.Views.{masked-share, masked-tape, masked-masked}
 use Rattle.gates.specs.Steps.{put_wire, xor_step, inv_step}
 use Rattle.gates.proofs.Holding.{put-at, put_same, put_other, Holds, wire-step, sent-step, xor-holds, inv-holds}

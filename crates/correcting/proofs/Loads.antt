@@ -4,7 +4,7 @@ use mathlib.Core.Path.{◌≡◌, refl, sym, ap, ap₂, ◌∙◌}
 use mathlib.Core.Bool.{Bool}
 use mathlib.Core.List.{List}
 use mathlib.Core.Logic.{⊎_elim}
-use Prim.Native.Nat.{ℕ, zero, suc, ◌+◌, ◌-◌, ◌*◌, ◌^◌, ◌≤◌, ◌<◌}
+use Prim.Native.Nat.{ℕ, zero, suc, ◌+◌, ◌-◌, ◌*◌, ◌≤◌, ◌<◌}
 use native.Mathlib.Omega.{arith}
 use borrow.Author.Tests.{eq-eqb, ne_eqb}
 use lib.ListN.{length, get_or, take, drop, replicate, length-drop, length-replicate}
@@ -21,7 +21,7 @@ use Rattle.plain.specs.Tapes.{input_masks}
 use Rattle.plain.specs.Showing.{masked_input, masked_inputs}
 use Rattle.words.specs.Words.{parity}
 use Rattle.words.proofs.Folds.{word-mask}
-use Rattle.planes.specs.Steps.{tape_words, planes_end, corrections_at, rows_at, broadcast_word, Room, share, put_share, tape, masked, put_masked, loaded_tapes, loaded_rows}
+use Rattle.planes.specs.Steps.{tape_words, planes_end, corrections_at, rows_at, broadcast_word, Room, share, put_share, tape, masked, loaded_rows}
 use Rattle.planes.specs.declared.Layout.{Layout}
 use Rattle.planes.proofs.Held.{share-length, share_other, masked-length, masked-other, rows-loaded}
 use Rattle.planes.proofs.Views.{share-share, share-masked, tape-share, tape-masked, masked-share, masked-masked}

@@ -21,7 +21,7 @@ use Rattle.bits.proofs.Packing.{bit_at-pack, ext-bit_at, length-pack, pack-lt}
 use Rattle.bits.proofs.Xor.{xor-false, xors-suc}
 use Rattle.circuit.specs.Circuit.{Circuit, ands}
 use Rattle.circuit.specs.Fields as fields
-use Rattle.circuit.specs.File.{inputs_of, outputs_of, head_of, output_wire, gates_in_order, circuit_of}
+use Rattle.circuit.specs.File.{inputs_of, head_of, output_wire, gates_in_order, circuit_of}
 use Rattle.circuit.specs.declared.Sizes.{Sizes}
 use Rattle.circuit.proofs.Chain.{zeros-at}
 use Rattle.masks.specs.Masks.{mask_corrections}
@@ -29,29 +29,28 @@ use Rattle.plain.specs.Run.{Column, corrections, corrected, as_sent, Transcript,
 use Rattle.plain.specs.Tapes.{ands_of, unused_rows, input_masks, output_masks, product_shares}
 use Rattle.plain.proofs.Lengths.{length-corrections}
 use Rattle.plain.specs.Showing.{correction_bits, masked_input, masked_inputs, run_with, run_on, honest_run, row_bits, rows_of}
-use Rattle.words.specs.Words.{parity, every, place, chosen}
+use Rattle.words.specs.Words.{parity, place}
 use Rattle.words.proofs.Columns.{word-put}
 use Rattle.words.proofs.Folds.{word-mask}
 use Rattle.packing.specs.Packed.{words, words_sent, packed_run}
 use Rattle.packing.proofs.Agree.{delivers-sent, in_words, packed-run}
 use Rattle.packing.proofs.Masked.{mask-corrections, last-zero}
 use Rattle.planes.specs.Steps as planes
-use Rattle.planes.specs.Steps.{tape_words, mask_word, planes_end, corrections_at, rows_at, share, tape, masked}
+use Rattle.planes.specs.Steps.{mask_word, planes_end, corrections_at, rows_at}
 use Rattle.planes.specs.declared.Layout.{Layout}
 use Rattle.planes.proofs.Held.{bit_at-drop, bit_at-take, drop-cong, tape-length, tape-other}
 use Rattle.gates.specs.Steps.{output_step}
-use Rattle.gates.proofs.Holding.{Holds}
 use Rattle.walk.specs.Steps.{layout_of, Lent, outputs_sent, output_bit}
 use Rattle.walk.proofs.Running.{all-written, output-wire, blank, hides-none, run-alike, get_d_map, length-map}
-use Rattle.walk.proofs.Turns.{ands-low, reads-good, fit, gates-all, chain-good, all-wired}
+use Rattle.walk.proofs.Turns.{reads-good, fit, gates-all, chain-good, all-wired}
 use Rattle.walk.proofs.Walking.{Gives}
 use Rattle.packed.specs.Steps.{tape_bytes, broadcast_bytes, tapes_held, corrections_held, Held, sent_bit, rows_sent}
 use Rattle.packed.proofs.Rows.{row-size, rows-from, whole_from}
-use Rattle.packed.proofs.Runs.{Given, no_bits, inputs_are, ands-are, bytes-are, mask-column, last-party, masked-agree, lent-held}
+use Rattle.packed.proofs.Runs.{no_bits, inputs_are, ands-are, bytes-are, mask-column, last-party, masked-agree, lent-held}
 use Rattle.correcting.specs.Steps.{corrections_cleared, walked, begun, ran_memory}
 use Rattle.correcting.proofs.Bytes.{wire-odd, wire-mask}
 use Rattle.correcting.proofs.Holding.{Runs}
-use Rattle.correcting.proofs.Loads.{zeroed-length, given, begun-length, begun-word, begun-zero, begun-share, begun-masked, begun-after, begun-rows}
+use Rattle.correcting.proofs.Loads.{given, begun-length, begun-word, begun-zero, begun-share, begun-masked, begun-after, begun-rows}
 use Rattle.correcting.proofs.Walking.{bits-same, Made, Sums, with_corrections, walk-gives}
 
 -- the last bit is false

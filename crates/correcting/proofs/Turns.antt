@@ -21,7 +21,7 @@ use Rattle.planes.specs.Steps.{rows_at, corrections_at, mask_word, share, put_sh
 use Rattle.planes.specs.declared.Layout.{Layout}
 use Rattle.packed.specs.Steps.{words_cleared}
 use Rattle.correcting_gate.specs.Steps.{correction_byte, output_byte, sent_word}
-use Rattle.correcting.specs.Steps.{wire_byte, correct_step, gate_step, walked, corrections_cleared, tapes_loaded, masks_loaded}
+use Rattle.correcting.specs.Steps.{correct_step, gate_step, walked, corrections_cleared, tapes_loaded, masks_loaded}
 
 -- an AND gate: the memory is h after the correction is put, then k, r and u
 pub and-done : (l : Layout) (a b c t i j last x y sa sb o z word wire bit at : ℕ) (m h k r u : List ℕ) → i ≡ mask_word l t → j ≡ planes.broadcast_word l t

@@ -1,6 +1,6 @@
 -- The chain of gates on the memory is the run on words with the right corrections, and puts these.
 -- Assumes nothing.
-use mathlib.Core.Path.{◌≡◌, refl, sym, ap, ap₂, ◌∙◌, fun_ext}
+use mathlib.Core.Path.{◌≡◌, refl, sym, ap, ◌∙◌, fun_ext}
 use mathlib.Core.Bool.{Bool, true, false, ◌&&◌}
 use mathlib.Core.List.{List, [], ◌∷◌}
 use Prim.Native.Nat.{ℕ, zero, suc, ◌+◌, ◌-◌, ◌*◌, ◌/◌, ◌%◌, ◌≤◌, ◌<◌}
@@ -23,16 +23,15 @@ use Rattle.circuit.proofs.Chain.{here, gates-on, gates-end, ands-on, ands-none, 
 use Rattle.masks.specs.Masks.{mask_corrections}
 use Rattle.plain.specs.Run.{next}
 use Rattle.words.specs.Words.{parity, every, place, broadcast_word, chosen}
-use Rattle.packing.specs.Packed.{WordChannel, words_sent, packed_outputs, packed_run}
+use Rattle.packing.specs.Packed.{words_sent, packed_outputs, packed_run}
 use Rattle.planes.specs.Steps.{planes_end, corrections_at, rows_at, put_share}
 use Rattle.planes.specs.declared.Layout.{Layout}
 use Rattle.planes.proofs.Held.{share-length, tape-length, masked-length}
 use Rattle.gates.specs.Steps.{put_wire, xor_step, inv_step}
-use Rattle.gates.proofs.Holding.{Holds}
 use Rattle.walk.proofs.Walking.{shown_by, written, Gives, outputs-give, gives-and}
 use Rattle.correcting.specs.Steps.{correct_step, gate_step, walked}
 use Rattle.correcting.proofs.Bytes.{chosen_none}
-use Rattle.correcting.proofs.Holding.{Runs, fixed, sentBy, xor-runs, inv-runs, and-runs, and-other, wire-other}
+use Rattle.correcting.proofs.Holding.{Runs, fixed, xor-runs, inv-runs, and-runs, and-other, wire-other}
 
 -- nobody is hidden
 shown-none : (z : ℕ → ℕ) → shown_by 0 z ≡ words_sent

@@ -1,20 +1,18 @@
 -- Four states in one list: one read and put, the round in parts, and f of each of them.
 -- Assumes nothing.
 use mathlib.Core.Path.{◌≡◌, refl, sym, ap, ap₂, ◌∙◌}
-use mathlib.Core.Bool.{cond}
-use mathlib.Core.List.{List, [], ◌∷◌, ◌++◌}
+use mathlib.Core.List.{List, [], ◌∷◌}
 use mathlib.Core.Logic.{⊎_elim, ◌≢◌}
 use Prim.Native.Nat.{ℕ, zero, suc, ◌+◌, ◌*◌, ◌/◌, ◌%◌, ◌^◌, ◌≤◌, ◌<◌}
 use native.Mathlib.Omega.{arith}
 use lib.Bits.{bit_xor}
-use lib.ListN.{length, get_or, set, replicate, length-set}
+use lib.ListN.{length, get_or, set, replicate}
 use lib.Pow.{pow_pos}
 use lib.Seq.{ext_get_or}
 use native.Mathlib.Numerals.{add-one}
 use Rattle.bits.specs.Bits.{tabulate, from_bits}
 use Rattle.bits.proofs.Numbers.{eq-or-ne, from_bits-lt, lt-or-le}
 use Rattle.bits.proofs.Tabulate.{get_d_tabulate, get_or-tabulate-end, length-tabulate, tabulate-cong, tabulate-get_or}
-use Rattle.words.specs.Steps.{fill}
 use Rattle.words.proofs.Fill.{fill-at, fill-length, fill-other}
 use Rattle.permutation.specs.Permutation.{StateArray, θ, ρ, π, χ, ι, Rnd, rounds, lane, lanes, lane_array}
 use Rattle.permutation.specs.Steps.{round_constant}

@@ -9,7 +9,7 @@ use native.Mathlib.Nat.{lt_of_le_of_lt}
 use native.Mathlib.Omega.{arith}
 use borrow.Author.Tests.{eq-eqb, ne_eqb}
 use lib.Bits.{bit_xor, bit_and, and_le_l, xor_lt}
-use lib.ListN.{length, length-set}
+use lib.ListN.{length-set}
 use lib.Seq.{length-sets}
 use Rattle.bits.specs.Bits.{odd, bit_val}
 use Rattle.bits.specs.Bytes.{le_bytes}

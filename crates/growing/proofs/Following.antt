@@ -29,7 +29,7 @@ use Rattle.cover.proofs.Least.{least-height}
 use Rattle.cover.proofs.Rebuilding.{place-lt, value-step, length-child}
 use Rattle.growing.specs.Steps.{shown_from}
 use Rattle.growing.proofs.Marking.{same-opened, cover-marked}
-use Rattle.growing.proofs.Growing.{children-pair, node_row, length-nodes}
+use Rattle.growing.proofs.Growing.{children-pair, node_row_lem, length-nodes}
 
 -- one node from the values: n of them are before it
 module _ (marks values : List ℕ) (x n : ℕ) (at : n ≡ length (those x (opened_by marks))) where
@@ -180,7 +180,7 @@ module _ (j : Context) (h M : ℕ) (hides : ℕ → Bool) (values : List ℕ) (l
       let s = levels h r.0 (2 ^ h + i) r.2 in
       let u : 2 ^ h + i < 2 ^ suc h = omega (arith, pow-succ' 2 h) in
       let a : has_leaf h (unhidden M hides) (2 ^ h + i) ≡ true = at_leaf h (unhidden M hides) i (omega arith) ∙ unhidden-is M hides i li ti in
-      node_row (follow_of j (marks_of h M hides) values) (replicate 16 0) (length-follow (marks_of h M hides) values fits-marks j) (length-replicate {A = ℕ} 16 0) h
+      node_row_lem (follow_of j (marks_of h M hides) values) (replicate 16 0) (length-follow (marks_of h M hides) values fits-marks j) (length-replicate {A = ℕ} 16 0) h
       (2 ^ h + i) (has-node h (unhidden M hides) (2 ^ h + i) a) u
       ∙ follow-value (suc h) s.0 (2 ^ h + i) u (omega (arith, s.1)) a (ap (opened h M hides) s.2 ∙ r.1)
 

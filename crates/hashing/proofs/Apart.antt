@@ -1,11 +1,11 @@
 -- Salts keep inputs apart.
 -- Assumes nothing.
-use mathlib.Core.Path.{◌≡◌, refl, sym, ap, ◌∙◌}
-use mathlib.Core.List.{List, ◌∷◌, ◌++◌, append_assoc}
+use mathlib.Core.Path.{◌≡◌, sym, ap, ◌∙◌}
+use mathlib.Core.List.{List, ◌++◌, append_assoc}
 use Prim.Native.Nat.{ℕ}
-use lib.ListN.{length, drop}
+use lib.ListN.{drop}
 use Rattle.bits.specs.Bytes.{le_bytes}
-use Rattle.hashing.specs.Inputs.{context_of, own_corrections, node_input, leaf_input, tape_input, commitment_input}
+use Rattle.hashing.specs.Inputs.{own_corrections, node_input, leaf_input, tape_input, commitment_input}
 use Rattle.hashing.specs.Salts.{Small, node, leaf, tape, commitment, small_input, SaltsApart}
 use Rattle.hashing.proofs.Fixed.{parts}
 

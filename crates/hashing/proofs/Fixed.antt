@@ -8,7 +8,7 @@ use lib.ListN.{length, get_or, take, drop, length-append}
 use lib.Seq.{take_at, drop_at}
 use Rattle.bits.specs.Bytes.{le_bytes}
 use Rattle.hashing.specs.Inputs.{bound_of, challenge_input}
-use Rattle.hashing.specs.Statement.{Statement, input_of, Fits, Same, StatementFixed}
+use Rattle.hashing.specs.Statement.{StatementFixed}
 
 -- equal strings whose first parts are equally long have equal parts
 pub parts : (a a' b b' : List ℕ) → length a ≡ length a' → a ++ b ≡ a' ++ b' → (a ≡ a') × (b ≡ b')

@@ -28,7 +28,7 @@ use Rattle.instance.specs.Instance.{Asked, opened, hiding}
 use Rattle.instance.specs.Stretch.{stretch_bytes, corrections_part, masked_part, row_part}
 use Rattle.instance.specs.Opened.{opened_run, stretch_commitments, stretch_online, stretch_unused}
 use Rattle.proof.specs.Protocol.{hstar_of, statement_of, challenged}
-use Rattle.proof.specs.File.{header_m, header_tau, header_n, header_zero, header_hstar, header_bytes, nodes_at, master_at, good_header, proof_bytes, stretch_at, header_salt, hides}
+use Rattle.proof.specs.File.{header_m, header_tau, header_n, header_zero, header_hstar, header_bytes, nodes_at, good_header, proof_bytes, stretch_at, header_salt, hides}
 use Rattle.cover.proofs.Masters.{length-master-from}
 use Rattle.honest.specs.Response.{Unchosen, Chosen, Sent, unchosen, chosen, Response, answered, Header, decode_header, bound_in, challenge_in, decode_sent, bytes_from, nodes_bytes, decode, implied_length, UnusedZero}
 use Rattle.honest.specs.Verification.{all, seed*, honest_com, opened_com, simulation, msgs, Verified}

@@ -74,6 +74,12 @@ coms-last j n f g s r some e same h q =
     let all = taken-all j (n - 1 + 1) n g _ (coms-turn j (n - 1) g s first (g (n - 1)) (absorbs 136 s (g (n - 1))) refl refl) (omega arith) in
     q ∙ ap given all ∙ given-taken (commitments_input j (flatten (tabulate n g))) (bytes-input j (flatten (tabulate n g)) (bytes-rows n g h))
 
+-- where there is no party, the end is the digest of nothing
+pub coms-empty : (j n : ℕ) (g : ℕ → List ℕ) (s : Sponge) (r : List ℕ) → n ≡ 0 → s ≡ taken (commitments_input j []) → r ≡ given s
+    → r ≡ commitments_digest j (flatten (tabulate n g))
+unfolding commitments_digest flatten
+coms-empty j n g s r e t q = rw e (q ∙ ap given t ∙ given-taken (commitments_input j []) (bytes-input j [] (λ k. omega arith)))
+
 -- a party before n − 1 does not commit to the corrections
 commitment-others : (j : Context) (n i : ℕ) (seeds c d : List ℕ) → (i + 1 ≡ n → ⊥) → commitment_of j n i seeds c ≡ commitment_of j n i seeds d
 unfolding commitment_of commitment_input own_corrections

@@ -15,7 +15,7 @@ use Rattle.bits.proofs.Tests.{and-true-left, and-true-right}
 use Rattle.circuit.specs.Fields as fields
 use Rattle.circuit.specs.FieldSteps as steps
 use Rattle.circuit.specs.File.{max_inputs, max_outputs, max_gates, fields_of, inputs_of, outputs_of, gates_of, head_of, next_of, chain_from}
-use Rattle.circuit.specs.Steps.{max_wires, within, wired, walks, gate_of, kind_of, wire_a, wire_b, good_record}
+use Rattle.circuit.specs.Steps.{max_wires, within, wired, walks, gate_of, kind_of, wire_a, wire_b}
 use Rattle.circuit.specs.declared.Gate.TheVariants.{Xor, And, Inv}
 use Rattle.circuit.proofs.Answered.{Passed}
 use Rattle.circuit.proofs.Readings.{header, limits-few}

@@ -17,7 +17,7 @@ use Rattle.refusal.specs.Refusal.{number_of}
 use Rattle.refusal.specs.declared.Refusal.{Refusal}
 use Rattle.refusal.specs.declared.Refusal.TheVariants.{Limits, BufferLength, UnusedBits, ListLength}
 use Rattle.circuit.specs.Answers.{read_paper}
-use Rattle.circuit.specs.Building.{front, builds}
+use Rattle.circuit.specs.Building.{builds}
 use Rattle.circuit.specs.Fields as fields
 use Rattle.circuit.specs.File.{width, max_gates, fields_of, outputs_of, output_wire, circuit_of}
 use Rattle.circuit.specs.Operations.{read_op}

@@ -10,7 +10,7 @@ use Rattle.bits.specs.Bytes.{le_bytes}
 use Rattle.circuit.specs.Fields.{Fields, outputs_of, head_of, field_count, record_at}
 use Rattle.circuit.specs.File.{width, fields_of}
 use Rattle.circuit.specs.declared.Sizes.{Sizes}
-use Rattle.building.specs.Files.{Four, laid, bytes_of, file_of}
+use Rattle.building.specs.Files.{Four, bytes_of, file_of}
 use Rattle.building.specs.Steps.{four_bytes}
 use Rattle.building.proofs.Bytes.{bytes-none, bytes-more, bytes-four}
 use Rattle.one_of.specs.OneOf.{entries, sum_wire, relinked, total, slot_of, one_of_file}

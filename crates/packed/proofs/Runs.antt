@@ -3,13 +3,13 @@
 -- Assumes nothing.
 use mathlib.Core.Path.{◌≡◌, refl, sym, ap, ap₂, ◌∙◌}
 use mathlib.Core.Bool.{Bool, false, cond, ◌&&◌}
-use mathlib.Core.List.{List, [], ◌∷◌, flatten}
+use mathlib.Core.List.{List, [], ◌∷◌}
 use mathlib.Core.Logic.{⊎_elim, inl, inr}
 use Prim.Native.Nat.{ℕ, zero, suc, ◌+◌, ◌-◌, ◌*◌, ◌≤◌, ◌<◌}
 use native.Mathlib.Omega.{arith}
 use borrow.Author.Tests.{eq-eqb, ne_eqb, lt-ltb}
 use lib.Dec.{eqb, ltb}
-use lib.ListN.{length, get_or, drop, replicate, length-drop, length-map, length-replicate, get_or-eq_default}
+use lib.ListN.{length, get_or, drop, replicate, length-drop, length-replicate, get_or-eq_default}
 use lib.Seq.{length-take-le}
 use Rattle.bits.specs.Bits.{tabulate, oct, odd, bit_at, test_bit, from_bits, pack}
 use Rattle.bits.specs.Bytes.{row_of}

@@ -1,17 +1,16 @@
 -- packed-agrees: the theorem.
 -- Assumes nothing.
-use mathlib.Core.Path.{◌≡◌, refl, sym, ap, ap₂, ◌∙◌}
-use mathlib.Core.Bool.{Bool}
+use mathlib.Core.Path.{◌≡◌, refl, ap, ap₂, ◌∙◌}
 use mathlib.Core.List.{List, [], ◌∷◌, map}
 use Prim.Native.Nat.{ℕ, ◌<◌}
 use native.Mathlib.Omega.{arith}
 use Rattle.bits.specs.Bits.{test_bit, from_bits}
 use Rattle.bits.proofs.Numbers.{test_bit-from_bits}
-use Rattle.plain.specs.Run.{Column, Channel, as_sent, as_shown, Transcript, run}
+use Rattle.plain.specs.Run.{Column, Channel, as_sent, as_shown, Transcript}
 use Rattle.plain.specs.Showing.{row_bits}
 use Rattle.words.proofs.Columns.{word-parity}
 use Rattle.packing.specs.Packed.{WordChannel, words_sent, words_shown, WordTranscript, packed_row}
-use Rattle.packing.specs.Agreement.{SameRun, SameRuns, Agrees, PackedAgrees}
+use Rattle.packing.specs.Agreement.{SameRun, SameRuns, PackedAgrees}
 use Rattle.packing.proofs.Agree.{Delivers, delivers-sent, delivers-shown, in_words, packed-corrected, packed-corrections, packed-run}
 
 -- bit i of the words of columns

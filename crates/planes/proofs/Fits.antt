@@ -4,7 +4,7 @@ use Prim.Native.Nat.{ℕ, ◌+◌, ◌*◌, ◌≤◌}
 use native.Mathlib.Nat.{mul-le-mul_right}
 use native.Mathlib.Omega.{arith}
 use Rattle.bits.specs.Bits.{oct}
-use Rattle.planes.specs.Steps.{seeds_at, spare, planes_end, corrections_at, rows_at, held_end}
+use Rattle.planes.specs.Steps.{seeds_at, spare, corrections_at, rows_at, held_end}
 use Rattle.planes.specs.declared.Layout.{Layout}
 
 -- the bytes to spare are few

@@ -1,6 +1,6 @@
 -- The nodes of the masters' tree: their number, the masters that a table hides, and the bytes of the opened ones.
 -- Assumes nothing.
-use mathlib.Core.Path.{◌≡◌, refl, sym, ap, ◌∙◌}
+use mathlib.Core.Path.{◌≡◌, refl, ap, ◌∙◌}
 use mathlib.Core.Bool.{Bool, true, false, not, cond}
 use mathlib.Core.List.{List, [], ◌∷◌, ◌++◌}
 use Prim.Native.Nat.{ℕ, zero, suc, ◌+◌, ◌*◌, ◌/◌, ◌^◌, ◌≤◌, ◌<◌}
@@ -15,7 +15,7 @@ use Rattle.cover.specs.Masters.{height, cover_bytes}
 use Rattle.cover.specs.Steps.{hidden_by, marks_of, cover_by}
 use Rattle.cover.proofs.Least.{least-height}
 use Rattle.growing.proofs.Marking.{cover-marked}
-use Rattle.cover.proofs.Masters.{cover-bytes-same, cover-same}
+use Rattle.cover.proofs.Masters.{cover-same}
 use Rattle.choice.specs.Challenge.{max_instances}
 use Rattle.instance.specs.Instance.{is_chosen}
 use Rattle.instance.specs.Instance as asked

@@ -13,7 +13,7 @@ use Rattle.bits.proofs.Tests.{and-true-left, and-true-right}
 use Rattle.parties.specs.Parties.{height_of, is_party_count}
 use Rattle.parties.proofs.Counts.{Sizes, sizes}
 use Rattle.seeds.specs.Operations.{are_counts}
-use Rattle.seeds.proofs.Instances.{Fit, counts-fit}
+use Rattle.seeds.proofs.Instances.{counts-fit}
 use Rattle.proof.proofs.Passing.{has-height}
 use Rattle.proof.specs.File.{header_m, header_tau, header_n, header_zero, header_hstar, header_salt, good_header}
 use Rattle.proof_tests.specs.Steps.{Headed}

@@ -2,11 +2,9 @@
 -- Assumes nothing.
 use mathlib.Core.Path.{◌≡◌, sym, ap, ap₂, ◌∙◌}
 use mathlib.Core.List.{List, ◌++◌, map, flatten, append_assoc}
-use Prim.Native.Nat.{ℕ, suc, ◌+◌, ◌*◌, ◌^◌, ◌≤◌, ◌<◌}
-use native.Mathlib.Omega.{arith}
+use Prim.Native.Nat.{ℕ, suc, ◌+◌, ◌*◌, ◌^◌, ◌<◌}
 use lib.ListN.{length}
 use Rattle.hashing.specs.Inputs.{context_of}
-use Rattle.bits.specs.Bits.{tabulate}
 use Rattle.bits.specs.Bytes.{row_of}
 use Rattle.bits.proofs.Tabulate.{tabulate-cong}
 use Rattle.circuit.specs.Circuit.{Circuit}
@@ -16,11 +14,10 @@ use Rattle.growing.proofs.Growing.{length-grown, gather-cover, grow-master}
 use Rattle.growing.proofs.Marking.{cover-marked}
 use Rattle.instance.specs.Instance.{Asked, master_commitments, master_online, stretch_of}
 use Rattle.proof.specs.Protocol.{hstar_of, first_message, challenged, response_of}
-use Rattle.proof.specs.File.{header_of, hides, proof_bytes}
+use Rattle.proof.specs.File.{header_of, hides}
 use Rattle.proof.specs.Prove.{proof_of}
 use Rattle.proof.specs.Steps.{master_in}
 use Rattle.proof.proofs.Leaves.{leaves_at}
-use Rattle.proof.proofs.Written.{length-proof}
 use Rattle.rounds.specs.Steps.{opened_rows, proof_from}
 
 -- masters that agree below M

@@ -3,7 +3,7 @@
 use mathlib.Core.Path.{◌≡◌, sym, ap, ap₂, ◌∙◌}
 use mathlib.Core.Bool.{Bool, true, false, not, cond, ◌&&◌, ◌||◌}
 use mathlib.Core.List.{List, [], ◌∷◌, ◌++◌}
-use Prim.Native.Nat.{ℕ, suc, ◌+◌, ◌-◌, ◌*◌, ◌≤◌, ◌<◌}
+use Prim.Native.Nat.{ℕ, ◌+◌, ◌-◌, ◌*◌, ◌≤◌, ◌<◌}
 use native.Mathlib.Omega.{arith}
 use native.Mathlib.Numerals.{add-one}
 use borrow.Author.Tests.{lt-ltb, le-ltb, eqb-true}
@@ -24,7 +24,7 @@ use Rattle.circuit.specs.declared.Sizes.{Sizes}
 use Rattle.circuit.specs.declared.ReadAnswer.{ReadAnswer}
 use Rattle.circuit.specs.declared.ReadAnswer.TheVariants as read_answer
 use Rattle.circuit.proofs.Answered.{fell, held}
-use Rattle.plain.specs.Tapes.{ands_of, tape_row, unused_rows}
+use Rattle.plain.specs.Tapes.{ands_of, unused_rows}
 use Rattle.plain.specs.Showing.{Showing, rows_of, replay_of}
 use Rattle.walk.specs.Steps.{layout_of}
 use Rattle.packed.specs.Steps.{broadcast_bytes, tapes_held, corrections_held, showing_of, replayed_memory, rows_sent}

@@ -1,6 +1,6 @@
 -- The proof buffer, from the h'_j of the first round to the response; and the sizes of its parts.
 -- Assumes nothing.
-use mathlib.Core.Path.{◌≡◌, refl, sym, ap, ap₂, ◌∙◌}
+use mathlib.Core.Path.{◌≡◌, sym, ap, ap₂, ◌∙◌}
 use mathlib.Core.List.{List, [], ◌++◌, map, flatten, append_assoc, append-nil}
 use Prim.Native.Nat.{ℕ, zero, suc, ◌+◌, ◌-◌, ◌*◌, ◌^◌, ◌≤◌, ◌<◌}
 use native.Mathlib.Omega.{arith}
@@ -18,19 +18,17 @@ use Rattle.choice.specs.Challenge.{challenge_of}
 use Rattle.hashing.specs.Digest.{transcript_of}
 use Rattle.seeds.proofs.Instances.{counts-fit}
 use Rattle.instance.specs.Instance.{Asked}
-use Rattle.instance.specs.Steps.{Tree, Lent}
+use Rattle.instance.specs.Steps.{Tree}
 use Rattle.instance.proofs.Trees.{tree-sizes}
 use Rattle.proof.specs.Protocol.{hstar_of, first_message, statement_of, challenged, response_of}
-use Rattle.proof.specs.File.{header_of, hides, stretch_start, proof_bytes, proof_room}
-use Rattle.proof.specs.Steps.{table_of, asks_in, master_in, marks_in, Asking, Drawable}
+use Rattle.proof.specs.File.{header_of, hides, stretch_start, proof_bytes}
+use Rattle.proof.specs.Steps.{table_of, asks_in, master_in, marks_in, Drawable}
 use Rattle.proof.proofs.Askings.{asks-same, asking-challenge, length-table}
 use Rattle.proof.proofs.Header.{length-header}
-use Rattle.proof.proofs.Inside.{stretches-after}
 use Rattle.proof.proofs.Leaves.{cover-in}
 use Rattle.proof.proofs.Room.{challenge-fits}
 use Rattle.rounds.specs.Steps.{onlines_of, opened_rows, proof_from, Answering, Response, Tested}
 use Rattle.rounds.proofs.Responds.{stretch-least}
-use Rattle.mpc.proofs.Opened.{sized}
 
 -- the proof of M instances is longer than their h'_j
 start-least : (c : Circuit) (M n : ℕ) (ask : ℕ → Asked) (m : ℕ) → 70 + cover_bytes M (hides ask) + 32 * m ≤ stretch_start c M n ask m

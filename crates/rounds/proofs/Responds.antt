@@ -1,11 +1,11 @@
 -- The response, written from its last stretch to its first over the h'_j of the first message.
 -- Assumes nothing.
 use mathlib.Core.Path.{◌≡◌, refl, sym, ap, ap₂, ◌∙◌}
-use mathlib.Core.List.{List, [], ◌++◌, flatten, append_assoc, append-nil}
-use Prim.Native.Nat.{ℕ, zero, suc, ◌+◌, ◌-◌, ◌*◌, ◌≤◌, ◌<◌}
+use mathlib.Core.List.{List, ◌++◌, flatten, append_assoc, append-nil}
+use Prim.Native.Nat.{ℕ, zero, suc, ◌+◌, ◌-◌, ◌*◌, ◌≤◌}
 use native.Mathlib.Omega.{arith}
-use borrow.Rule.Slice.PartMut.{mid_of, put_mid, post_of, Post-is, mid_len}
-use lib.ListN.{length, get_or, take, drop, length-append, length-drop}
+use borrow.Rule.Slice.PartMut.{put_mid, post_of, Post-is}
+use lib.ListN.{length, get_or, take, drop, length-append}
 use lib.Seq.{length-take-le, drop-length, take_all, take-length, take_at, drop_at, take-take, take-add}
 use Rattle.hashing.specs.Inputs.{context_of}
 use Rattle.hashing.specs.declared.Context.{Context}

@@ -1,9 +1,9 @@
 -- The tests of an entry: places, and the bytes at them.
 -- Assumes nothing.
 use mathlib.Core.Path.{◌≡◌, refl, sym, ap, ◌∙◌, subst}
-use mathlib.Core.Bool.{Bool, true, false, cond, ◌&&◌}
+use mathlib.Core.Bool.{Bool, true, false, ◌&&◌}
 use mathlib.Core.List.{List, []}
-use mathlib.Core.Option.{Option, none, some}
+use mathlib.Core.Option.{none, some}
 use mathlib.Core.Logic.{⊎_elim}
 use Prim.Native.Nat.{ℕ, ◌+◌, ◌-◌, ◌≤◌, ◌<◌}
 use native.Mathlib.Omega.{arith}
@@ -34,7 +34,7 @@ use Rattle.proof_tests.proofs.Outcomes.{check-tests, tests-refuse, tests-accept}
 use Rattle.shared.specs.declared.Place.{Place}
 use Rattle.shared.specs.declared.Places.{Places}
 use Rattle.shared.specs.Service.{inside, all_inside, at, number, but_late, on_entry, entry_of, entry_at, asks}
-use Rattle.shared.proofs.Instances.{none-some, late-6, late-7, late-11, late-12}
+use Rattle.shared.proofs.Instances.{late-6, late-7, late-11, late-12}
 
 -- a place, by its start and what is left
 module _ (buffer : List ℕ) (p : Place) where

@@ -1,12 +1,12 @@
 -- A history of the shared checker is one of the schedule: what is refused for its numbers or its bytes is left out of it.
 -- Assumes nothing.
-use mathlib.Core.Path.{◌≡◌, refl, sym, ap, ap₂, ◌∙◌}
+use mathlib.Core.Path.{◌≡◌, refl, sym, ap, ◌∙◌}
 use mathlib.Core.Bool.{Bool, true, false, cond, not, ◌&&◌}
 use mathlib.Core.List.{List, [], ◌∷◌, ◌++◌}
 use mathlib.Core.Option.{Option, none, some}
 use Prim.Native.Nat.{ℕ, zero, suc}
 use lib.Dec.{leb, ltb}
-use Rattle.schedule.specs.Schedule.{State, Work, Service, waiting, waits, next, unless_none, put, serve}
+use Rattle.schedule.specs.Schedule.{State, Work, Service, waits, next, unless_none, serve}
 use Rattle.schedule.specs.History as history
 use Rattle.schedule.specs.History.{Event, is_free, after_entry, after, services_from}
 use Rattle.shared.specs.declared.Places.{Places}

@@ -8,15 +8,14 @@ use mathlib.Core.Logic.{◌⊎◌, inl, inr, ⊎_elim}
 use Prim.Native.Nat.{ℕ, zero, suc, ◌+◌, ◌%◌, ◌≤◌, ◌<◌}
 use native.Mathlib.Numerals.{add-one}
 use native.Mathlib.Omega.{arith}
-use borrow.Author.Tests.{lt-ltb, le-ltb, eqb-true}
-use lib.Dec.{eqb, leb, ltb}
+use borrow.Author.Tests.{lt-ltb, le-ltb}
+use lib.Dec.{eqb, leb}
 use lib.ListN.{length}
 use Rattle.bits.specs.Bits.{unused_zero}
 use Rattle.bits.specs.Bytes.{same_bytes}
 use Rattle.bits.proofs.Numbers.{lt-or-le}
 use Rattle.refusal.specs.Outcome as outcomes
-use Rattle.refusal.specs.Outcome.{refuses, done, unless}
-use Rattle.keccak.specs.declared.sponge.Sponge.{Sponge}
+use Rattle.refusal.specs.Outcome.{done, unless}
 use Rattle.keccak.proofs.Absorbing.{Bytes}
 use Rattle.circuit.specs.Circuit.{Circuit}
 use Rattle.circuit.specs.File.{Reading, refused, legal, read_circuit, circuit_of}
@@ -30,7 +29,7 @@ use Rattle.mpc.proofs.Succeeding.{work-enough}
 use Rattle.proof.specs.Check.{every, check_legal, check_op}
 use Rattle.proof.proofs.Passing.{every-at}
 use Rattle.stepping.specs.declared.Running.{Running}
-use Rattle.stepping.specs.RunningDigests.{started, more, hstar_in}
+use Rattle.stepping.specs.RunningDigests.{more, hstar_in}
 use Rattle.proof_tests.specs.Steps.{all_unused, output_at, commitments_at, online_at, recomputed, tested, judged, legal_tests}
 use Rattle.proof_tests.proofs.Headers.{header-counts}
 use Rattle.proof_tests.proofs.Outcomes.{check-tests}
@@ -39,7 +38,7 @@ use Rattle.schedule.specs.Schedule.{Outcome, goes_on, finished}
 use Rattle.schedule.specs.Alone.{by_outcome, alone}
 use Rattle.shared.specs.declared.Places.{Places}
 use Rattle.shared.specs.declared.Job.{Job}
-use Rattle.shared.specs.Service.{number, but_late, on_entry, entry_of, settled, settled_both, asks, after_instance, next_instance, instance_of, job_at}
+use Rattle.shared.specs.Service.{number, but_late, on_entry, entry_of, settled_both, asks, after_instance, next_instance, instance_of, job_at}
 
 pub none-some : {k : ℕ} → ◌≡◌ {A = Option ℕ} (some k) none → ⊥
 none-some e = let z : ◌≡◌ {A = ℕ} 0 1 = cc in absurd (omega arith)

@@ -1,14 +1,14 @@
 -- The promises of order 9 over every list of entries and calls.
 -- Assumes nothing.
-use mathlib.Core.Path.{◌≡◌, refl, sym, ap, ap₂, ◌∙◌, subst}
-use mathlib.Core.Bool.{Bool, true, false, cond, not, ◌&&◌, true≢false}
-use mathlib.Core.List.{List, [], ◌∷◌, ◌++◌}
+use mathlib.Core.Path.{◌≡◌, refl, sym, ap, ◌∙◌, subst}
+use mathlib.Core.Bool.{Bool, true, false, cond, not, ◌&&◌}
+use mathlib.Core.List.{List, [], ◌∷◌}
 use mathlib.Core.Option.{Option, none, some}
 use mathlib.Core.Logic.{◌⊎◌, inl, inr, ⊎_elim}
 use Prim.Native.Nat.{ℕ, zero, suc, ◌+◌, ◌≤◌, ◌<◌}
 use native.Mathlib.Omega.{arith}
-use lib.Dec.{leb, ltb}
-use lib.ListN.{length, get_or, take, drop}
+use lib.Dec.{ltb}
+use lib.ListN.{get_or, drop}
 use lib.Seq.{get_or-drop}
 use Rattle.keccak.proofs.Absorbing.{Bytes}
 use Rattle.circuit.specs.File.{circuit_of}
@@ -28,7 +28,7 @@ use Rattle.shared.specs.declared.Job.{Job}
 use Rattle.shared.specs.Service.{at, all_inside, entry_of, entry_at, number, instance_of, service_at, job_at}
 use Rattle.shared.specs.Operations.{long_work, enter_refusal, entered, Lent, enter, call, state_after, services_after}
 use Rattle.shared.specs.Theorem.{SameAt, Throughout, verdict_alone, LongEnough, SharedChecker}
-use Rattle.shared.proofs.Histories.{is_none, takes, makes, planned, entered-is, state-planned, services-planned}
+use Rattle.shared.proofs.Histories.{takes, makes, planned, entered-is, state-planned, services-planned}
 use Rattle.shared.proofs.Instances.{verdict-op, told-alone, ends-alone}
 use Rattle.shared.proofs.Told.{call-told}
 use Rattle.shared.proofs.Onward.{Kept, kept-instance, service-keeps}

@@ -8,7 +8,7 @@ use Prim.Native.Nat.{ℕ, zero, suc, ◌<◌}
 use native.Mathlib.Omega.{arith}
 use lib.ListN.{length, get_or}
 use Rattle.bits.specs.Bits.{tabulate}
-use Rattle.small.specs.Small.{below, choose, keep}
+use Rattle.small.specs.Small.{choose, keep}
 
 -- x is a member of a list
 unfoldable pub In : {A : Type 0} → A → List A → Type 0

@@ -4,7 +4,7 @@ use mathlib.Core.Path.{◌≡◌, refl, sym, ap, ◌∙◌}
 use mathlib.Core.Bool.{Bool, true, false, cond, not, true≢false}
 use mathlib.Core.List.{List}
 use mathlib.Core.Logic.{◌≢◌, ⊎_elim}
-use Prim.Native.Nat.{ℕ, zero, suc, ◌+◌, ◌-◌, ◌*◌, ◌/◌, ◌%◌, ◌^◌, ◌≤◌, ◌<◌}
+use Prim.Native.Nat.{ℕ, suc, ◌+◌, ◌-◌, ◌*◌, ◌/◌, ◌%◌, ◌^◌, ◌≤◌, ◌<◌}
 use native.Mathlib.Nat.{pow-succ'}
 use native.Mathlib.Numerals.{add-one}
 use native.Mathlib.Omega.{arith}
@@ -25,7 +25,7 @@ use Rattle.cover.specs.Steps.{hidden_by, marks_of, opened_by}
 use Rattle.growing.proofs.Marking.{same-opened}
 use Rattle.cover.proofs.Least.{least-height}
 use Rattle.cover.proofs.Masters.{master-from-same}
-use Rattle.instance.specs.Instance.{Asked, is_chosen}
+use Rattle.instance.specs.Instance.{is_chosen}
 use Rattle.proof.specs.File.{header_salt, hides, master_at}
 use Rattle.proof.specs.Steps.{ask_of, asks_in}
 use Rattle.proof.proofs.Leaves.{hides-table, masters-low}

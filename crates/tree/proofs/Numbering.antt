@@ -15,7 +15,7 @@ use Rattle.hashing.specs.declared.Context.{Context}
 use Rattle.bits.specs.Bytes.{row_of}
 use Rattle.bits.proofs.Numbers.{lt-or-le}
 use Rattle.bits.proofs.Rows.{row_inside}
-use Rattle.parties.specs.Parties.{height_of, is_party_count}
+use Rattle.parties.specs.Parties.{height_of}
 use Rattle.parties.proofs.Counts.{height-pow, count_no}
 use Rattle.tree.specs.Tree.{left_child, right_child, node_value, leaves_below, NodeChildren, LeafNode, LeafOfParty}
 use Rattle.tree.proofs.Lengths.{length-left, length-right, length-leaves}

@@ -2,7 +2,7 @@
 -- the words of the run's broadcasts afterwards, and the outputs are the run's. For every n up to 64, and every hidden party.
 -- Assumes nothing.
 use mathlib.Core.Path.{◌≡◌, refl, sym, ap, ap₂, ◌∙◌}
-use mathlib.Core.Bool.{Bool, true, false, not, cond, ◌&&◌}
+use mathlib.Core.Bool.{Bool, true, false, cond, ◌&&◌}
 use mathlib.Core.List.{List, [], ◌∷◌, map}
 use mathlib.Core.Logic.{⊎_elim, ◌≢◌}
 use Prim.Native.Nat.{ℕ, zero, suc, ◌+◌, ◌^◌, ◌≤◌, ◌<◌}
@@ -20,25 +20,24 @@ use Rattle.bits.proofs.Numbers.{eq-or-ne, lt-or-le, from_bits-cong, from_bits-lt
 use Rattle.bits.proofs.Xor.{xors-cong}
 use Rattle.circuit.specs.Circuit.{Gate, xor, and, inv, put, ands}
 use Rattle.circuit.specs.Fields as fields
-use Rattle.circuit.specs.File.{inputs_of, outputs_of, head_of, output_wire, gates_in_order, circuit_of}
+use Rattle.circuit.specs.File.{inputs_of, head_of, output_wire, gates_in_order, circuit_of}
 use Rattle.circuit.specs.Meaning.{writes}
 use Rattle.circuit.specs.declared.Sizes.{Sizes}
 use Rattle.circuit.proofs.Answered.{gates-count}
 use Rattle.circuit.proofs.Run.{output-low}
 use Rattle.circuit.proofs.Wires.{gates-once}
-use Rattle.plain.specs.Run.{Column, next, plus, corrected, broadcast, Channel, as_sent, as_shown, Transcript, outputs, run}
+use Rattle.plain.specs.Run.{Column, next, corrected, broadcast, Channel, as_sent, as_shown, Transcript, outputs, run}
 use Rattle.plain.specs.Tapes.{input_masks, output_masks, product_shares}
 use Rattle.plain.specs.Showing.{run_with, row_bits}
-use Rattle.words.specs.Words.{place, chosen}
+use Rattle.words.specs.Words.{place}
 use Rattle.words.proofs.Columns.{word-delivered}
 use Rattle.packing.specs.Packed.{words, WordTranscript, packed_run}
 use Rattle.packing.proofs.Agree.{Delivers, in_words, packed-run}
 use Rattle.planes.specs.Steps as planes
 use Rattle.planes.specs.Steps.{tape_words, mask_word, share, tape, masked}
-use Rattle.planes.specs.declared.Layout.{Layout}
 use Rattle.gates.proofs.Holding.{put_same, put_other, Holds}
 use Rattle.walk.specs.Steps.{layout_of, Lent, gates_run, outputs_run, values_run}
-use Rattle.walk.proofs.Turns.{ands-low, reads-good, outputs-good, fit, gates-all, chain-good, all-wired}
+use Rattle.walk.proofs.Turns.{reads-good, outputs-good, fit, gates-all, chain-good, all-wired}
 use Rattle.walk.proofs.Walking.{shown_by, written, Gives, walk-gives}
 
 -- what was written stays so

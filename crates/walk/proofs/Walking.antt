@@ -1,14 +1,14 @@
 -- The chain of gates and the output wires on the memory are the run on the words that it holds.
 -- Assumes nothing.
 use mathlib.Core.Path.{◌≡◌, refl, sym, ap, ap₂, ◌∙◌}
-use mathlib.Core.Bool.{Bool, true, false, not, ◌&&◌}
+use mathlib.Core.Bool.{Bool, true, ◌&&◌}
 use mathlib.Core.List.{List, [], ◌∷◌}
-use mathlib.Core.Logic.{⊎_elim, ◌≢◌}
+use mathlib.Core.Logic.{⊎_elim}
 use Prim.Native.Nat.{ℕ, zero, suc, ◌+◌, ◌-◌, ◌≤◌, ◌<◌}
 use native.Mathlib.Nat.{add-suc, add-zero, eq-or-lt_of_le, le_of_suc-le-suc}
 use native.Mathlib.Omega.{arith}
 use lib.ListN.{length, get_or}
-use Rattle.bits.specs.Bits.{tabulate, odd}
+use Rattle.bits.specs.Bits.{tabulate}
 use Rattle.bits.specs.Xor.{◌⊕◌}
 use Rattle.bits.proofs.Tabulate.{length-tabulate, get_d_tabulate, tabulate-cong}
 use Rattle.bits.proofs.Tests.{and-true-left, and-true-right}
@@ -25,8 +25,8 @@ use Rattle.packing.specs.Packed.{WordChannel, WordTranscript, packed_outputs, pa
 use Rattle.planes.specs.Steps as planes
 use Rattle.planes.specs.Steps.{tape_words, tape}
 use Rattle.planes.specs.declared.Layout.{Layout}
-use Rattle.gates.specs.Steps.{xor_step, inv_step, and_step, gate_step, output_step, output_value}
-use Rattle.gates.proofs.Holding.{put-at, put_same, put_other, Holds, xor-holds, inv-holds, and-holds, output-holds, output-value}
+use Rattle.gates.specs.Steps.{xor_step, inv_step, and_step, gate_step}
+use Rattle.gates.proofs.Holding.{put_same, put_other, Holds, xor-holds, inv-holds, and-holds, output-holds, output-value}
 use Rattle.walk.specs.Steps.{walked, outputs_sent, output_bit}
 
 -- at the places of hidden the words z are delivered

@@ -2,7 +2,6 @@
 -- Assumes nothing.
 use Prim.Native.Nat.{◌/◌, ◌%◌}
 use lib.ListN.{get_or}
-use borrow.Author.Rules.{rules}
 use Rattle.bits.specs.Bits.{bit_at}
 use Rattle.bits.proofs.Numbers.{bit-at}
 use Rattle.bits.proofs.bit.Goals as goal

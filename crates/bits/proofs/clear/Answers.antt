@@ -1,10 +1,10 @@
 -- `bits::clear` meets its contract. The loop's invariant: the first k bytes are zero, and the others as they were.
 -- Assumes nothing.
-use mathlib.Core.Path.{◌≡◌, refl, ap, ◌∙◌}
-use mathlib.Core.List.{List, ◌++◌}
-use Prim.Native.Nat.{ℕ, ◌-◌, ◌≤◌}
+use mathlib.Core.Path.{refl, ap, ◌∙◌}
+use mathlib.Core.List.{List}
+use Prim.Native.Nat.{ℕ, ◌-◌}
 use native.Mathlib.Omega.{arith}
-use lib.ListN.{length, set, drop, replicate, length-set}
+use lib.ListN.{set, length-set}
 use borrow.Author.Fill.{fill_more}
 use Rattle.bits.proofs.Copies.{fill_end}
 use Rattle.bits.proofs.clear.Goals as goal

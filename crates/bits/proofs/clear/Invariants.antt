@@ -1,12 +1,9 @@
 -- `bits::clear` meets its contract. The loop's invariant: the first k bytes are zero, and the others as they were.
 -- Assumes nothing.
-use mathlib.Core.Path.{◌≡◌, refl, ap, ◌∙◌}
-use mathlib.Core.List.{List, ◌++◌}
-use Prim.Native.Nat.{ℕ, ◌-◌, ◌≤◌}
-use native.Mathlib.Omega.{arith}
-use lib.ListN.{length, set, drop, replicate, length-set}
-use borrow.Author.Fill.{fill_more}
-use Rattle.bits.proofs.Copies.{fill_end}
+use mathlib.Core.Path.{◌≡◌}
+use mathlib.Core.List.{◌++◌}
+use Prim.Native.Nat.{◌-◌, ◌≤◌}
+use lib.ListN.{length, drop, replicate}
 use Rattle.bits.proofs.clear.Given as goal
 
 abbrev pub invariant-loop-k : goal.invariant-loop-k

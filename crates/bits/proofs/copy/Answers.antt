@@ -1,9 +1,9 @@
 -- `bits::copy` meets its contract: the loop's invariant is that the first k bytes are copied.
 -- Assumes nothing.
 use native.Mathlib.Omega.{arith}
-use mathlib.Core.Path.{◌≡◌, refl}
-use Prim.Native.Nat.{◌-◌, ◌≤◌}
-use lib.ListN.{length, take, length-set}
+use mathlib.Core.Path.{refl}
+use Prim.Native.Nat.{◌-◌}
+use lib.ListN.{length-set}
 use Rattle.bits.proofs.Copies.{copy_more, copy-end}
 use Rattle.bits.proofs.copy.Goals as goal
 

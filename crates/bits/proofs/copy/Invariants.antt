@@ -1,10 +1,8 @@
 -- `bits::copy` meets its contract: the loop's invariant is that the first k bytes are copied.
 -- Assumes nothing.
-use native.Mathlib.Omega.{arith}
-use mathlib.Core.Path.{◌≡◌, refl}
+use mathlib.Core.Path.{◌≡◌}
 use Prim.Native.Nat.{◌-◌, ◌≤◌}
-use lib.ListN.{length, take, length-set}
-use Rattle.bits.proofs.Copies.{copy_more, copy-end}
+use lib.ListN.{length, take}
 use Rattle.bits.proofs.copy.Given as goal
 
 abbrev pub invariant-loop-k : goal.invariant-loop-k

@@ -3,7 +3,6 @@
 use native.Mathlib.Omega.{arith}
 use Prim.Native.Nat.{◌/◌, ◌%◌, ◌^◌}
 use lib.ListN.{get_or}
-use borrow.Author.Rules.{rules}
 use Rattle.bits.specs.Bits.{odd, test_bit}
 use Rattle.bits.specs.Steps.{put_bit}
 use Rattle.bits.proofs.Packing.{test_bit-le, shift-bit, put-lt}

@@ -3,7 +3,6 @@
 use native.Mathlib.Omega.{arith}
 use mathlib.Core.Path.{sym}
 use Prim.Native.Nat.{◌+◌}
-use borrow.Author.Rules.{rules}
 use Rattle.bits.proofs.Little.{le_at-one, or_above}
 use Rattle.bits.proofs.read_u16.Goals as goal
 

@@ -1,7 +1,6 @@
 -- `bits::read_u32` meets its contract: the second two bytes are put above the first two.
 -- Assumes nothing.
 use native.Mathlib.Omega.{arith}
-use borrow.Author.Rules.{rules}
 use Rattle.bits.proofs.Little.{or_above}
 use Rattle.bits.proofs.read_u32.Goals as goal
 

@@ -1,7 +1,6 @@
 -- `bits::read_u64` meets its contract: the second four bytes are put above the first four.
 -- Assumes nothing.
 use native.Mathlib.Omega.{arith}
-use borrow.Author.Rules.{rules}
 use Rattle.bits.proofs.Little.{or_above}
 use Rattle.bits.proofs.read_u64.Goals as goal
 

@@ -2,9 +2,8 @@
 -- Assumes nothing.
 use native.Mathlib.Omega.{arith}
 use mathlib.Core.Path.{sym}
-use Prim.Native.Nat.{◌-◌, ◌≤◌}
-use lib.ListN.{length}
-use Rattle.bits.proofs.Equal.{Agree, agree-none, agree-more, agree-all, lengths_differ}
+use Prim.Native.Nat.{◌-◌}
+use Rattle.bits.proofs.Equal.{agree-none, agree-more, agree-all, lengths_differ}
 use Rattle.bits.proofs.same.Goals as goal
 
 pub returns-then-a-b : goal.returns-then-a-b

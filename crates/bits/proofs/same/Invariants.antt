@@ -1,10 +1,8 @@
 -- `bits::same` meets its contract. The loop's invariant: what is gathered is zero where the bytes passed are equal, and only there.
 -- Assumes nothing.
-use native.Mathlib.Omega.{arith}
-use mathlib.Core.Path.{sym}
 use Prim.Native.Nat.{◌-◌, ◌≤◌}
 use lib.ListN.{length}
-use Rattle.bits.proofs.Equal.{Agree, agree-none, agree-more, agree-all, lengths_differ}
+use Rattle.bits.proofs.Equal.{Agree}
 use Rattle.bits.proofs.same.Given as goal
 
 abbrev pub invariant-loop-i : goal.invariant-loop-i

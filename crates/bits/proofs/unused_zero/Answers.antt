@@ -2,9 +2,8 @@
 -- Assumes nothing.
 use native.Mathlib.Omega.{arith}
 use mathlib.Core.Path.{sym}
-use Prim.Native.Nat.{◌-◌, ◌*◌, ◌≤◌, ◌/◌}
-use lib.ListN.{length}
-use Rattle.bits.proofs.Packing.{Clear, clear_first, clear-more, clear-all, all-unused}
+use Prim.Native.Nat.{◌-◌, ◌/◌}
+use Rattle.bits.proofs.Packing.{clear_first, clear-more, clear-all, all-unused}
 use Rattle.bits.proofs.unused_zero.Goals as goal
 
 pub returns-then-s-j : goal.returns-then-s-j

@@ -1,10 +1,8 @@
 -- `bits::unused_zero` meets its contract. The loop's invariant: what is gathered is zero where the bits from bit k on of the bytes passed are, and only there.
 -- Assumes nothing.
-use native.Mathlib.Omega.{arith}
-use mathlib.Core.Path.{sym}
-use Prim.Native.Nat.{◌-◌, ◌*◌, ◌≤◌, ◌/◌}
+use Prim.Native.Nat.{◌-◌, ◌*◌, ◌≤◌}
 use lib.ListN.{length}
-use Rattle.bits.proofs.Packing.{Clear, clear_first, clear-more, clear-all, all-unused}
+use Rattle.bits.proofs.Packing.{Clear}
 use Rattle.bits.proofs.unused_zero.Given as goal
 
 abbrev pub invariant-loop-i : goal.invariant-loop-i

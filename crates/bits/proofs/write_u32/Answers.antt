@@ -2,7 +2,6 @@
 -- Assumes nothing.
 use mathlib.Core.Path.{ap, ◌∙◌}
 use Prim.Native.Nat.{ℕ, ◌+◌, ◌/◌, ◌^◌}
-use borrow.Author.Rules.{rules}
 use Rattle.bits.specs.Bytes.{le_bytes}
 use lib.Seq.{sets}
 use Rattle.bits.proofs.Little.{write-parts}

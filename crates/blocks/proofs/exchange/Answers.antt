@@ -1,6 +1,5 @@
 -- `blocks::exchange` meets its contract: the definition is what the code does.
 -- Assumes nothing.
-use borrow.Author.Rules.{rules}
 use mathlib.Core.Path.{refl}
 use Rattle.blocks.specs.Steps.{exchanged_pair, exchanged}
 use Rattle.blocks.proofs.exchange.Goals as goal

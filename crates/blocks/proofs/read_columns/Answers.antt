@@ -1,6 +1,5 @@
 -- `blocks::read_columns` meets its contract: eight words gathered.
 -- Assumes nothing.
-use borrow.Author.Rules.{rules}
 use Rattle.blocks.proofs.Columns.{columns-read}
 use Rattle.blocks.proofs.read_columns.Goals as goal
 

@@ -1,8 +1,8 @@
 -- `blocks::read_rows` meets its contract. The invariant: p words are read.
 -- Assumes nothing.
 use native.Mathlib.Omega.{arith}
-use mathlib.Core.Path.{◌≡◌, refl, ap, ◌∙◌}
-use Prim.Native.Nat.{ℕ, ◌-◌, ◌≤◌}
+use mathlib.Core.Path.{◌≡◌, ap, ◌∙◌}
+use Prim.Native.Nat.{ℕ, ◌-◌}
 use Rattle.blocks.specs.Steps.{row_words}
 use Rattle.words.proofs.Turns.{place-within}
 use Rattle.blocks.proofs.Columns.{rows_none, rows-turn}

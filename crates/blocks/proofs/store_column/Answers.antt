@@ -2,8 +2,8 @@
 -- Assumes nothing.
 use native.Mathlib.Omega.{arith}
 use mathlib.Core.Path.{◌≡◌, refl, sym, ap, ◌∙◌}
-use Prim.Native.Nat.{ℕ, ◌-◌, ◌≤◌}
-use lib.ListN.{length, length-set}
+use Prim.Native.Nat.{ℕ, ◌-◌}
+use lib.ListN.{length-set}
 use Rattle.blocks.specs.Steps.{stored_column}
 use Rattle.words.proofs.Turns.{place-within, times_eight}
 use Rattle.blocks.proofs.Columns.{column-none, column-turn}

@@ -1,6 +1,5 @@
 -- `blocks::store_column8` meets its contract: eight stores are a fill of eight places.
 -- Assumes nothing.
-use borrow.Author.Rules.{rules}
 use native.Mathlib.Omega.{arith}
 use Prim.Native.Nat.{◌*◌, ◌/◌, ◌%◌, ◌^◌}
 use lib.ListN.{length-set}

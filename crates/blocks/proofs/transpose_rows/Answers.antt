@@ -1,7 +1,6 @@
 -- `blocks::transpose_rows` meets its contract: three exchanges.
 -- Assumes nothing.
 use Rattle.blocks.proofs.Exchanges.{three-exchanges}
-use native.Mathlib.Omega.{arith}
 use borrow.Author.Rules.{rules}
 use lib.ListN.{get_or}
 use mir.Syntax.{w64}

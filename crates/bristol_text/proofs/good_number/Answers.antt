@@ -1,6 +1,5 @@
 -- `bristol_text::good_number` meets its contract.
 -- Assumes nothing.
-use borrow.Author.Rules.{rules}
 use Rattle.bristol_text.proofs.good_number.Goals as goal
 
 pub returns : goal.returns

@@ -1,7 +1,7 @@
 -- `bristol_text::last_token` meets its contract. The loop's invariant: the bytes from i on have no space.
 -- Assumes nothing.
 use native.Mathlib.Omega.{arith}
-use Rattle.bristol_text.proofs.Tokens.{Alone, alone-start, alone-whole, alone-space, alone-back}
+use Rattle.bristol_text.proofs.Tokens.{alone-start, alone-whole, alone-space, alone-back}
 use Rattle.bristol_text.proofs.last_token.Goals as goal
 
 pub loop-i-init : goal.loop-i-init

@@ -1,7 +1,6 @@
 -- `bristol_text::passes_class` meets its contract: in each arm the class is that arm's.
 -- Assumes nothing.
 use mathlib.Core.Path.{sym, ap, ◌∙◌}
-use borrow.Author.Rules.{rules}
 use Rattle.bristol_text.specs.Text.{is_digit}
 use Rattle.bristol_text.specs.Steps.{passes}
 use Rattle.bristol_text.specs.declared.Class.{Class}

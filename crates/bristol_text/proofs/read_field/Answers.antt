@@ -2,7 +2,6 @@
 -- Assumes nothing.
 use native.Mathlib.Omega.{arith}
 use mathlib.Core.Path.{sym, ◌∙◌}
-use borrow.Author.Rules.{rules}
 use Rattle.bristol_text.proofs.Followed.{field-none, field_end, field-space}
 use Rattle.bristol_text.proofs.read_field.Goals as goal
 

@@ -1,11 +1,10 @@
 -- `bristol_text::read_fields` meets its contract. The loop's invariant: what is told of the numbers that are left is told of all.
 -- Assumes nothing.
-use borrow.Author.Rules.{rules}
 use native.Mathlib.Omega.{arith}
 use mathlib.Core.Path.{sym, ◌∙◌}
 use Prim.Native.Nat.{ℕ, ◌-◌}
-use lib.ListN.{length, length-replicate}
-use Rattle.bristol_text.proofs.Before.{Gathered, gathered_none, field-after, gathered-set, gathered-kept, gathered-end, gathered-stop}
+use lib.ListN.{length-replicate}
+use Rattle.bristol_text.proofs.Before.{gathered_none, field-after, gathered-set, gathered-kept, gathered-end, gathered-stop}
 use Rattle.bristol_text.proofs.read_fields.Goals as goal
 use Rattle.bristol_text.proofs.read_fields.Goals.{then-count-lt5, else-count-lt5}
 
@@ -36,7 +35,7 @@ loop-at-preserved c =
     let m = c.loop-at in
     let f = sym c.read_field.ensures ∙ c.in-Value.is in
     elim c.if-count-lt5.branch [
-      then-count-lt5 k ↦ rw k.numbers-is (gathered-set x.args.l.now _ _ _ m.invariant _ _ f k.if-count-lt5.true)
+      | then-count-lt5 k ↦ rw k.numbers-is (gathered-set x.args.l.now _ _ _ m.invariant _ _ f k.if-count-lt5.true)
       | else-count-lt5 k ↦ rw k.numbers-is (gathered-kept x.args.l.now _ _ _ m.invariant _ _ f k.if-count-lt5.false)
     ]
 

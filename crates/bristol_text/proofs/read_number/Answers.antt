@@ -3,8 +3,6 @@
 use native.Mathlib.Omega.{arith}
 use mathlib.Core.Path.{sym, ap, ◌∙◌}
 use Prim.Native.Nat.{ℕ, ◌<◌}
-use borrow.Author.Rules.{rules}
-use borrow.Author.Tests.{not-true, not-false}
 use Rattle.bristol_text.specs.declared.Number.TheVariants.{Value}
 use Rattle.bristol_text.proofs.Numbers.{number-none, token-inside, number-tests, number-bad, number-good, number_digits}
 use Rattle.bristol_text.proofs.Runs.{end-of-token}

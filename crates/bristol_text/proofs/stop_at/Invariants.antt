@@ -1,13 +1,9 @@
 -- `bristol_text::stop_at` meets its contract. The loop's invariant speaks of what remains: from i the run stops where it does from the start.
 -- Assumes nothing.
-use borrow.Author.Rules.{rules}
-use borrow.Author.Tests.{not-true, not-false}
-use native.Mathlib.Omega.{arith}
-use mathlib.Core.Path.{◌≡◌, refl, sym, ◌∙◌}
+use mathlib.Core.Path.{◌≡◌}
 use Prim.Native.Nat.{◌-◌}
 use lib.ListN.{length}
 use Rattle.bristol_text.specs.Steps.{stop}
-use Rattle.bristol_text.proofs.Runs.{stop-end, stop-here, stop-next}
 use Rattle.bristol_text.proofs.stop_at.Given as goal
 
 abbrev pub invariant-loop-i : goal.invariant-loop-i

@@ -2,7 +2,7 @@
 -- Assumes nothing.
 use native.Mathlib.Omega.{arith}
 use Prim.Native.Nat.{◌-◌, ◌<◌}
-use Rattle.bristol_text.proofs.Digits.{Counted, counted_none, counted-low, counted-high, counted-small, counted-more, counted-all}
+use Rattle.bristol_text.proofs.Digits.{counted_none, counted-low, counted-high, counted-small, counted-more, counted-all}
 use Rattle.bristol_text.proofs.value.Goals as goal
 
 pub loop-i-init : goal.loop-i-init

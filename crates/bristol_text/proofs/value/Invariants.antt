@@ -1,8 +1,7 @@
 -- `bristol_text::value` meets its contract. The loop's invariant: the digits that remain, after those passed, have the whole value.
 -- Assumes nothing.
-use native.Mathlib.Omega.{arith}
-use Prim.Native.Nat.{◌-◌, ◌<◌}
-use Rattle.bristol_text.proofs.Digits.{Counted, counted_none, counted-low, counted-high, counted-small, counted-more, counted-all}
+use Prim.Native.Nat.{◌-◌}
+use Rattle.bristol_text.proofs.Digits.{Counted}
 use Rattle.bristol_text.proofs.value.Given as goal
 
 abbrev pub invariant-loop-i : goal.invariant-loop-i

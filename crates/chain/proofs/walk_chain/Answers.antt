@@ -1,10 +1,9 @@
 -- `chain::walk_chain` meets its contract. The loop's invariant: the walk from the slot in hand, with the visits that are left,
 -- comes to what the walk from head comes to.
 -- Assumes nothing.
-use mathlib.Core.Path.{◌≡◌, sym, ap, ap₂, ◌∙◌}
-use Prim.Native.Nat.{ℕ, ◌-◌, ◌≤◌}
+use mathlib.Core.Path.{sym, ap, ap₂, ◌∙◌}
+use Prim.Native.Nat.{ℕ, ◌-◌}
 use native.Mathlib.Omega.{arith}
-use borrow.Author.Rules.{rules}
 use Rattle.circuit.specs.Chain.{walk_from}
 use Rattle.circuit.specs.Fields.{field, gates_of, link_of, chain_walk}
 use Rattle.circuit.proofs.Slots.{inside, next-read}

@@ -1,14 +1,10 @@
 -- `chain::walk_chain` meets its contract. The loop's invariant: the walk from the slot in hand, with the visits that are left,
 -- comes to what the walk from head comes to.
 -- Assumes nothing.
-use mathlib.Core.Path.{◌≡◌, sym, ap, ap₂, ◌∙◌}
-use Prim.Native.Nat.{ℕ, ◌-◌, ◌≤◌}
-use native.Mathlib.Omega.{arith}
-use borrow.Author.Rules.{rules}
+use mathlib.Core.Path.{◌≡◌}
+use Prim.Native.Nat.{◌-◌, ◌≤◌}
 use Rattle.circuit.specs.Chain.{walk_from}
 use Rattle.circuit.specs.Fields.{field, gates_of, link_of, chain_walk}
-use Rattle.circuit.proofs.Slots.{inside, next-read}
-use Rattle.circuit.proofs.Walking.{at-beyond, at-early, at_next, at_last, link-head, link-slot}
 use Rattle.chain.proofs.walk_chain.Given as goal
 
 abbrev pub invariant-loop-left : goal.invariant-loop-left

@@ -4,7 +4,6 @@ use Rattle.bits.specs.Bytes.{le_bytes}
 use Rattle.choice.proofs.Bounds.{part_room, bound-taken}
 use native.Mathlib.Omega.{arith}
 use mathlib.Core.Path.{refl}
-use borrow.Author.Rules.{rules}
 use Rattle.choice.proofs.absorb_bound.Goals as goal
 
 pub absorb-requires-2 : goal.absorb-requires-2

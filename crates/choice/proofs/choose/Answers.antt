@@ -1,6 +1,5 @@
 -- `choice::choose` meets its contract: the new instance in the room made for it.
 -- Assumes nothing.
-use borrow.Author.Rules.{rules}
 use Rattle.choice.proofs.Choosing.{room-put}
 use Rattle.choice.proofs.choose.Goals as goal
 

@@ -2,7 +2,6 @@
 -- Assumes nothing.
 use mathlib.Core.Path.{◌∙◌}
 use lib.ListN.{length}
-use borrow.Author.Rules.{rules}
 use Rattle.keccak.specs.Steps.{squeezes}
 use Rattle.keccak.proofs.Steps.{squeezes-length}
 use Rattle.choice.proofs.Choosing.{chosen_is}

@@ -8,7 +8,6 @@ use Rattle.keccak.specs.Steps.{squeezes}
 use Rattle.hashing.specs.Inputs.{bound_of}
 use Rattle.choice.specs.Challenge.{beside, instances, hidden_parties}
 use Rattle.choice.proofs.Choosing.{challenge-is, bytes-bound, ready-start}
-use borrow.Author.Rules.{rules}
 use Rattle.choice.proofs.derive.Goals as goal
 
 pub slice_bounds-choose_with-end : goal.slice_bounds-choose_with-end

@@ -2,10 +2,9 @@
 -- Assumes nothing.
 use native.Mathlib.Omega.{arith}
 use native.Mathlib.Nat.{mod-lt}
-use mathlib.Core.Path.{◌≡◌, refl, ap, ◌∙◌}
-use Prim.Native.Nat.{ℕ, ◌-◌, ◌%◌, ◌≤◌, ◌<◌}
-use lib.ListN.{length, take}
-use Rattle.choice.specs.Challenge.{chosen_from, drawn, instances}
+use mathlib.Core.Path.{refl, ap, ◌∙◌}
+use Prim.Native.Nat.{ℕ, ◌-◌, ◌%◌, ◌<◌}
+use Rattle.choice.specs.Challenge.{instances}
 use Rattle.choice.proofs.Choosing.{draw-none, draw-more, draw-all}
 use Rattle.choice.proofs.draw.Goals as goal
 

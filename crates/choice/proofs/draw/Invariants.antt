@@ -1,12 +1,9 @@
 -- `choice::draw` meets its contract: the loop's invariant is that the first t instances are those after t draws.
 -- Assumes nothing.
-use native.Mathlib.Omega.{arith}
-use native.Mathlib.Nat.{mod-lt}
-use mathlib.Core.Path.{◌≡◌, refl, ap, ◌∙◌}
-use Prim.Native.Nat.{ℕ, ◌-◌, ◌%◌, ◌≤◌, ◌<◌}
+use mathlib.Core.Path.{◌≡◌}
+use Prim.Native.Nat.{◌-◌, ◌≤◌}
 use lib.ListN.{length, take}
-use Rattle.choice.specs.Challenge.{chosen_from, drawn, instances}
-use Rattle.choice.proofs.Choosing.{draw-none, draw-more, draw-all}
+use Rattle.choice.specs.Challenge.{chosen_from, drawn}
 use Rattle.choice.proofs.draw.Given as goal
 
 abbrev pub invariant-loop-t : goal.invariant-loop-t

@@ -3,8 +3,8 @@
 use native.Mathlib.Omega.{arith}
 use mathlib.Core.Path.{◌≡◌, refl, ◌∙◌}
 use Prim.Native.Nat.{◌-◌}
-use lib.ListN.{length, get_or, length-set}
-use Rattle.choice.proofs.Choosing.{Moved, moved_none, moved_down, room-below}
+use lib.ListN.{get_or, length-set}
+use Rattle.choice.proofs.Choosing.{moved_none, moved_down, room-below}
 use Rattle.choice.proofs.make_room.Goals as goal
 
 pub loop-k-init : goal.loop-k-init

@@ -1,10 +1,9 @@
 -- `choice::make_room` meets its contract: the loop's invariant is that the instances from place k on have gone up by one, and are above the new one.
 -- Assumes nothing.
-use native.Mathlib.Omega.{arith}
-use mathlib.Core.Path.{◌≡◌, refl, ◌∙◌}
+use mathlib.Core.Path.{◌≡◌}
 use Prim.Native.Nat.{◌-◌}
-use lib.ListN.{length, get_or, length-set}
-use Rattle.choice.proofs.Choosing.{Moved, moved_none, moved_down, room-below}
+use lib.ListN.{length}
+use Rattle.choice.proofs.Choosing.{Moved}
 use Rattle.choice.proofs.make_room.Given as goal
 
 abbrev pub invariant-loop-k : goal.invariant-loop-k

@@ -1,13 +1,11 @@
 -- `choice::stream` meets its contract: tag, h* and bound taken in one after the other are the challenge's input.
 -- Assumes nothing.
-use mathlib.Core.List.{[], ◌∷◌, ◌++◌}
 use Rattle.keccak.specs.Steps.{padded}
 use Rattle.hashing.specs.Inputs.{bound_of, challenge_input}
 use Rattle.choice.specs.Steps.{ready}
 use Rattle.hashing.proofs.Hashes.{empty-room, took-tag, took_more, took-room}
 use native.Mathlib.Omega.{arith}
 use mathlib.Core.Path.{refl, ap, ◌∙◌}
-use borrow.Author.Rules.{rules}
 use Rattle.choice.proofs.stream.Goals as goal
 
 pub absorb_byte-requires : goal.absorb_byte-requires

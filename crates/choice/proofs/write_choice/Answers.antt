@@ -5,7 +5,6 @@ use Rattle.choice.proofs.Choosing.{write-pair}
 use mathlib.Core.Path.{ap, ◌∙◌}
 use Prim.Native.Nat.{ℕ, ◌+◌}
 use lib.ListN.{set}
-use borrow.Author.Rules.{rules}
 use Rattle.choice.proofs.write_choice.Goals as goal
 
 pub returns : goal.returns

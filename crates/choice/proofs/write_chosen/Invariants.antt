@@ -1,10 +1,8 @@
 -- `choice::write_chosen` meets its contract: the loop's invariant is that the first k instances are written.
 -- Assumes nothing.
-use native.Mathlib.Omega.{arith}
-use mathlib.Core.Path.{sym, ◌∙◌}
 use Prim.Native.Nat.{◌-◌}
 use lib.ListN.{length}
-use Rattle.choice.proofs.Choosing.{Written, written_none, written-more, written_all}
+use Rattle.choice.proofs.Choosing.{Written}
 use Rattle.choice.proofs.write_chosen.Given as goal
 
 abbrev pub invariant-loop-k : goal.invariant-loop-k

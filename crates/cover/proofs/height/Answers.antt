@@ -1,10 +1,9 @@
 -- `cover::height` meets its contract: as long as the leaves of height h are too few, h is below the least height.
 -- Assumes nothing.
-use Rattle.cover.specs.Masters.{height}
 use Rattle.cover.proofs.Least.{height-more, height-there, height-low, twice}
 use native.Mathlib.Omega.{arith}
-use mathlib.Core.Path.{◌≡◌, refl}
-use Prim.Native.Nat.{ℕ, ◌-◌, ◌^◌, ◌≤◌, ◌<◌}
+use mathlib.Core.Path.{refl}
+use Prim.Native.Nat.{◌-◌}
 use Rattle.cover.proofs.height.Goals as goal
 
 pub loop-leaves-init : goal.loop-leaves-init

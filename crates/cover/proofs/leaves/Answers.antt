@@ -1,6 +1,5 @@
 -- `cover::leaves` meets its contract.
 -- Assumes nothing.
-use borrow.Author.Rules.{rules}
 use native.Mathlib.Omega.{arith}
 use native.Mathlib.Nat.{one-mul, mod-eq_of_lt}
 use Prim.Native.Nat.{◌^◌, ◌<◌}

@@ -1,7 +1,6 @@
 -- `evaluation::evaluate` meets its contract.
 -- Assumes nothing.
 use mathlib.Core.Path.{sym, ◌∙◌}
-use borrow.Author.Rules.{rules}
 use Rattle.circuit.proofs.Outcomes.{legal-sizes, evaluate-refused, evaluate-read}
 use Rattle.evaluation.proofs.evaluate.Goals as goal
 

@@ -5,7 +5,6 @@ use Prim.Native.Nat.{ℕ}
 use native.Mathlib.Omega.{arith}
 use lib.ListN.{length-replicate}
 use Rattle.circuit.specs.Steps.{wire_bytes}
-use borrow.Author.Rules.{rules}
 use Rattle.bits.specs.Bits.{pack}
 use Rattle.circuit.proofs.Outcomes.{ready, ended, outputs-right}
 use Rattle.evaluation.proofs.evaluate_legal.Goals as goal

@@ -1,8 +1,6 @@
 -- `evaluation::evaluate_lent` meets its contract.
 -- Assumes nothing.
 use mathlib.Core.Path.{sym, ◌∙◌}
-use borrow.Author.Tests.{not-false}
-use borrow.Author.Rules.{rules}
 use Rattle.circuit.proofs.Outcomes.{refuse-witness, refuse-output, refuse-unused, done}
 use Rattle.evaluation.proofs.evaluate_lent.Goals as goal
 

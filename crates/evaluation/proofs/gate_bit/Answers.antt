@@ -1,6 +1,5 @@
 -- `evaluation::gate_bit` meets its contract: in each arm the gate is that arm's.
 -- Assumes nothing.
-use borrow.Author.Rules.{rules}
 use Rattle.circuit.proofs.Run.{xor-read, and-read, not-read}
 use Rattle.evaluation.proofs.gate_bit.Goals as goal
 

@@ -1,10 +1,8 @@
 -- `evaluation::load` meets its contract. The loop's invariant: the first k wires are loaded.
 -- Assumes nothing.
 use mathlib.Core.Path.{◌≡◌, refl, ◌∙◌}
-use Prim.Native.Nat.{◌-◌, ◌≤◌}
-use lib.ListN.{length}
+use Prim.Native.Nat.{◌-◌}
 use native.Mathlib.Omega.{arith}
-use Rattle.circuit.specs.Steps.{loaded}
 use Rattle.circuit.proofs.Run.{load-none, load-turn}
 use Rattle.evaluation.proofs.load.Goals as goal
 

@@ -1,11 +1,9 @@
 -- `evaluation::load` meets its contract. The loop's invariant: the first k wires are loaded.
 -- Assumes nothing.
-use mathlib.Core.Path.{◌≡◌, refl, ◌∙◌}
+use mathlib.Core.Path.{◌≡◌}
 use Prim.Native.Nat.{◌-◌, ◌≤◌}
 use lib.ListN.{length}
-use native.Mathlib.Omega.{arith}
 use Rattle.circuit.specs.Steps.{loaded}
-use Rattle.circuit.proofs.Run.{load-none, load-turn}
 use Rattle.evaluation.proofs.load.Given as goal
 
 abbrev pub invariant-loop-k : goal.invariant-loop-k

@@ -3,7 +3,6 @@
 use mathlib.Core.Path.{sym, ap, ◌∙◌}
 use Prim.Native.Nat.{ℕ}
 use native.Mathlib.Omega.{arith}
-use borrow.Author.Rules.{rules}
 use Rattle.bits.specs.Bits.{bit_val, bit_at}
 use Rattle.circuit.proofs.Run.{output-low, out-in, out-end}
 use Rattle.evaluation.proofs.output_bit.Goals as goal

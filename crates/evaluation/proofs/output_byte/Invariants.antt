@@ -1,17 +1,11 @@
 -- `evaluation::output_byte` meets its contract. The loop's invariant: the sum is the number of the first t bits.
 -- Assumes nothing.
-use mathlib.Core.Bool.{Bool, false}
-use mathlib.Core.Path.{◌≡◌, refl, ◌∙◌}
-use Prim.Native.Nat.{◌^◌, ℕ, ◌+◌, ◌-◌, ◌*◌, ◌≤◌}
-use native.Mathlib.Numerals.{add-one}
-use native.Mathlib.Nat.{pow-suc, mod-eq_of_lt}
-use native.Mathlib.Omega.{arith}
-use lib.Pow.{pow_mono}
+use mathlib.Core.Bool.{false}
+use mathlib.Core.Path.{◌≡◌}
+use Prim.Native.Nat.{◌^◌, ◌+◌, ◌-◌, ◌*◌, ◌≤◌}
 use lib.ListN.{get_or}
 use Rattle.bits.specs.Bits.{from_bits}
-use Rattle.bits.proofs.Numbers.{from_bits-lt}
-use Rattle.circuit.specs.Steps.{out_bits, out_byte}
-use Rattle.circuit.proofs.Run.{byte-turn, byte-room}
+use Rattle.circuit.specs.Steps.{out_bits}
 use Rattle.evaluation.proofs.output_byte.Given as goal
 
 abbrev pub invariant-loop-t : goal.invariant-loop-t

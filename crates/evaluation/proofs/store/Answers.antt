@@ -1,9 +1,9 @@
 -- `evaluation::store` meets its contract. The loop's invariant: the first j bytes are the packed ones.
 -- Assumes nothing.
-use mathlib.Core.Path.{◌≡◌, refl, ◌∙◌}
-use Prim.Native.Nat.{ℕ, ◌-◌, ◌≤◌, ◌<◌}
+use mathlib.Core.Path.{refl, ◌∙◌}
+use Prim.Native.Nat.{◌-◌}
 use native.Mathlib.Omega.{arith}
-use lib.ListN.{length, get_or, length-set}
+use lib.ListN.{length-set}
 use Rattle.circuit.specs.Steps.{out_byte}
 use Rattle.circuit.proofs.Run.{store-turn, packed}
 use Rattle.evaluation.proofs.store.Goals as goal

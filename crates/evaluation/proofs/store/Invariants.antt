@@ -1,11 +1,9 @@
 -- `evaluation::store` meets its contract. The loop's invariant: the first j bytes are the packed ones.
 -- Assumes nothing.
-use mathlib.Core.Path.{◌≡◌, refl, ◌∙◌}
+use mathlib.Core.Path.{◌≡◌}
 use Prim.Native.Nat.{ℕ, ◌-◌, ◌≤◌, ◌<◌}
-use native.Mathlib.Omega.{arith}
-use lib.ListN.{length, get_or, length-set}
+use lib.ListN.{length, get_or}
 use Rattle.circuit.specs.Steps.{out_byte}
-use Rattle.circuit.proofs.Run.{store-turn, packed}
 use Rattle.evaluation.proofs.store.Given as goal
 
 abbrev pub invariant-loop-j : goal.invariant-loop-j

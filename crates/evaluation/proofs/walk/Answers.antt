@@ -1,11 +1,9 @@
 -- `evaluation::walk` meets its contract. The loop's invariant: the gates that are left, from the values so far, give what all of them give.
 -- Assumes nothing.
-use mathlib.Core.Bool.{true}
-use mathlib.Core.Path.{◌≡◌, refl, sym, ap, ◌∙◌}
-use Prim.Native.Nat.{◌-◌, ◌≤◌}
-use lib.ListN.{length}
+use mathlib.Core.Path.{refl, sym, ap, ◌∙◌}
+use Prim.Native.Nat.{◌-◌}
 use native.Mathlib.Omega.{arith}
-use Rattle.circuit.specs.Steps.{max_wires, walks, walked, wired}
+use Rattle.circuit.specs.Steps.{walked}
 use Rattle.circuit.proofs.Run.{within-room, walked_end, wired-on, walk_turn}
 use Rattle.circuit.proofs.Chain.{Here, here, inside, next-read, gate-read}
 use Rattle.evaluation.proofs.walk.Goals as goal

@@ -1,13 +1,10 @@
 -- `evaluation::walk` meets its contract. The loop's invariant: the gates that are left, from the values so far, give what all of them give.
 -- Assumes nothing.
 use mathlib.Core.Bool.{true}
-use mathlib.Core.Path.{◌≡◌, refl, sym, ap, ◌∙◌}
+use mathlib.Core.Path.{◌≡◌}
 use Prim.Native.Nat.{◌-◌, ◌≤◌}
 use lib.ListN.{length}
-use native.Mathlib.Omega.{arith}
 use Rattle.circuit.specs.Steps.{max_wires, walks, walked, wired}
-use Rattle.circuit.proofs.Run.{within-room, walked_end, wired-on, walk_turn}
-use Rattle.circuit.proofs.Chain.{Here, here, inside, next-read, gate-read}
 use Rattle.evaluation.proofs.walk.Given as goal
 
 abbrev pub invariant-loop-left : goal.invariant-loop-left

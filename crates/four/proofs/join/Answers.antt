@@ -1,7 +1,6 @@
 -- `four::join` meets its contract: one state put after the other.
 -- Assumes nothing.
 use mathlib.Core.Path.{ap, ◌∙◌}
-use borrow.Author.Rules.{rules}
 use Rattle.four.specs.Steps.{put_state, joined}
 use Rattle.four.proofs.join.Goals as goal
 

@@ -1,12 +1,9 @@
 -- `four::permute4` meets its contract. The invariant: the states are those after ir rounds.
 -- Assumes nothing.
-use native.Mathlib.Omega.{arith}
-use mathlib.Core.Path.{◌≡◌, ap, ◌∙◌}
-use Prim.Native.Nat.{ℕ, ◌-◌, ◌≤◌}
-use lib.ListN.{length}
+use mathlib.Core.Path.{◌≡◌}
+use Prim.Native.Nat.{◌-◌, ◌≤◌}
 use Rattle.permutation.specs.Permutation.{rounds, lanes, lane_array}
 use Rattle.four.specs.Steps.{each}
-use Rattle.four.proofs.States.{each-length, four-none, four-more}
 use Rattle.four.proofs.permute4.Given as goal
 
 abbrev pub invariant-loop-ir : goal.invariant-loop-ir

@@ -1,6 +1,5 @@
 -- `four::plane_1` meets its contract: five lanes of the state after four steps.
 -- Assumes nothing.
-use borrow.Author.Rules.{rules}
 use mathlib.Core.List.{List}
 use mathlib.Core.Path.{ap}
 use Rattle.four.specs.Steps.{plane}

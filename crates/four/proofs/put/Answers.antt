@@ -1,6 +1,5 @@
 -- `four::put` meets its contract: 25 lanes written.
 -- Assumes nothing.
-use borrow.Author.Rules.{rules}
 use mathlib.Core.Path.{refl}
 use Rattle.words.specs.Steps.{fill}
 use Rattle.four.specs.Steps.{put_state}

@@ -1,12 +1,8 @@
 -- `four::round4` meets its contract. The invariant: the round is done on the first k states.
 -- Assumes nothing.
-use borrow.Author.Rules.{rules}
 use native.Mathlib.Omega.{arith}
-use mathlib.Core.Path.{◌≡◌, refl, sym, ap, ◌∙◌}
-use mathlib.Core.List.{List}
-use Prim.Native.Nat.{ℕ, ◌-◌, ◌≤◌}
-use lib.ListN.{length}
-use Rattle.permutation.specs.Permutation.{Rnd, lanes, lane_array}
+use mathlib.Core.Path.{◌≡◌, ap, ◌∙◌}
+use Prim.Native.Nat.{ℕ, ◌-◌}
 use Rattle.four.specs.Steps.{state_of, rounded_by}
 use Rattle.four.proofs.States.{each_below, below_none, below-turn, below-state, below_all, rounded-is}
 use Rattle.four.proofs.round4.Invariants.{rnd}

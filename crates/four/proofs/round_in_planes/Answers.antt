@@ -1,6 +1,5 @@
 -- `four::round_in_planes` meets its contract: the five planes, and the constant.
 -- Assumes nothing.
-use borrow.Author.Rules.{rules}
 use Rattle.four.proofs.States.{planes-joined}
 use Rattle.four.proofs.round_in_planes.Goals as goal
 

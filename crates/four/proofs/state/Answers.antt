@@ -1,6 +1,5 @@
 -- `four::state` meets its contract: 25 lanes read.
 -- Assumes nothing.
-use borrow.Author.Rules.{rules}
 use mathlib.Core.Path.{refl}
 use Rattle.four.specs.Steps.{state_of}
 use Rattle.four.proofs.state.Goals as goal

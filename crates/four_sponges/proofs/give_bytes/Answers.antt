@@ -6,7 +6,7 @@ use Prim.Native.Nat.{◌+◌, ◌-◌}
 use lib.ListN.{length}
 use Rattle.keccak.specs.Steps.{byte_at}
 use Rattle.four.specs.Steps.{state_of}
-use Rattle.four_sponges.proofs.Bytes.{Filled, filled_none, filled-byte, filled-end}
+use Rattle.four_sponges.proofs.Bytes.{filled_none, filled-byte, filled-end}
 use Rattle.four_sponges.proofs.give_bytes.Goals as goal
 
 pub loop-i-init : goal.loop-i-init

@@ -4,9 +4,8 @@ use native.Mathlib.Omega.{arith}
 use mathlib.Core.Path.{refl, sym}
 use Prim.Native.Nat.{◌-◌, ◌*◌}
 use lib.ListN.{length}
-use Rattle.keccak.specs.Steps.{byte_at}
 use Rattle.four.specs.Steps.{state_of}
-use Rattle.four_sponges.proofs.Bytes.{lane_of, Filled, filled_none, filled-lane, filled-end}
+use Rattle.four_sponges.proofs.Bytes.{lane_of, filled_none, filled-lane, filled-end}
 use Rattle.four_sponges.proofs.give_lanes.Goals as goal
 
 pub loop-i-init : goal.loop-i-init

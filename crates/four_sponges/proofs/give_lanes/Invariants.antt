@@ -1,12 +1,10 @@
 -- `four_sponges::give_lanes` meets its contract. The loop's invariant: the bytes of the first i lanes are in the slice.
 -- Assumes nothing.
-use native.Mathlib.Omega.{arith}
-use mathlib.Core.Path.{refl, sym}
 use Prim.Native.Nat.{◌-◌, ◌*◌}
 use lib.ListN.{length}
 use Rattle.keccak.specs.Steps.{byte_at}
 use Rattle.four.specs.Steps.{state_of}
-use Rattle.four_sponges.proofs.Bytes.{lane_of, Filled, filled_none, filled-lane, filled-end}
+use Rattle.four_sponges.proofs.Bytes.{Filled}
 use Rattle.four_sponges.proofs.give_lanes.Given as goal
 
 abbrev pub invariant-loop-i : goal.invariant-loop-i

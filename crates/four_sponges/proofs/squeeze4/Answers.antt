@@ -2,12 +2,11 @@
 -- Assumes nothing.
 use borrow.Author.Rules.{rules}
 use native.Mathlib.Omega.{arith}
-use mathlib.Core.Path.{◌∙◌}
 use Prim.Native.Nat.{◌-◌, ◌/◌}
 use lib.ListN.{length, get_or}
 use mir.Syntax.{w64}
 use mir.Val.{Fits}
-use Rattle.four_sponges.proofs.Blocks.{Halfway, halfway-start, halfway-more, halfway-end}
+use Rattle.four_sponges.proofs.Blocks.{halfway-start, halfway-more, halfway-end}
 use Rattle.four_sponges.proofs.squeeze4.Goals as goal
 
 pub loop-at-init : goal.loop-at-init

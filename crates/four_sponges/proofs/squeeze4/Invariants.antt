@@ -1,13 +1,7 @@
 -- `four_sponges::squeeze4` meets its contract. The loop's invariant: `at` bytes of each row are given.
 -- Assumes nothing.
-use borrow.Author.Rules.{rules}
-use native.Mathlib.Omega.{arith}
-use mathlib.Core.Path.{◌∙◌}
-use Prim.Native.Nat.{◌-◌, ◌/◌}
-use lib.ListN.{length, get_or}
-use mir.Syntax.{w64}
-use mir.Val.{Fits}
-use Rattle.four_sponges.proofs.Blocks.{Halfway, halfway-start, halfway-more, halfway-end}
+use Prim.Native.Nat.{◌-◌}
+use Rattle.four_sponges.proofs.Blocks.{Halfway}
 use Rattle.four_sponges.proofs.squeeze4.Given as goal
 
 abbrev pub invariant-loop-at : goal.invariant-loop-at

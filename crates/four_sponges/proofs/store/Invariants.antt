@@ -1,18 +1,11 @@
 -- `four_sponges::store` meets its contract. The loop's invariant: the bytes of the first k states are in their rows.
 -- Assumes nothing.
-use native.Mathlib.Omega.{arith}
-use mathlib.Core.Path.{◌≡◌, refl, sym, ap, ◌∙◌}
-use Prim.Native.Nat.{ℕ, ◌+◌, ◌-◌, ◌*◌, ◌≤◌}
+use mathlib.Core.Path.{◌≡◌}
+use Prim.Native.Nat.{◌-◌, ◌*◌, ◌≤◌}
 use lib.ListN.{length}
-use lib.Seq.{length-sets}
-use Rattle.bits.proofs.Rows.{row_fits}
-use Rattle.bits.specs.Bits.{tabulate}
-use Rattle.keccak.specs.Steps.{byte_at, squeezes}
-use Rattle.keccak.proofs.Steps.{squeezes-length}
+use Rattle.keccak.specs.Steps.{squeezes}
 use Rattle.four.specs.Steps.{state_of}
 use Rattle.four_sponges.specs.Steps.{opened, stored}
-use Rattle.four_sponges.proofs.Bytes.{squeezes-block}
-use Rattle.four_sponges.proofs.Rows.{part-size, put-part, stored-turn}
 use Rattle.four_sponges.proofs.store.Given as goal
 
 abbrev pub invariant-loop-k : goal.invariant-loop-k

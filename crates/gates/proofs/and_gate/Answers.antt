@@ -2,7 +2,6 @@
 -- Assumes nothing.
 use mathlib.Core.Path.{◌∙◌}
 use Rattle.gates.proofs.Steps.{and-done, room-kept}
-use borrow.Author.Rules.{rules}
 use Rattle.gates.proofs.and_gate.Goals as goal
 
 pub put_share-requires : goal.put_share-requires

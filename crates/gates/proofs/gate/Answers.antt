@@ -2,10 +2,7 @@
 -- Assumes nothing.
 use Rattle.gates.proofs.Steps.{fit-gate}
 use native.Mathlib.Omega.{arith}
-use mathlib.Core.Path.{◌≡◌, refl, sym, ap, ◌∙◌}
-use Prim.Native.Nat.{ℕ, zero, suc, ◌+◌, ◌-◌, ◌*◌, ◌≤◌, ◌<◌}
-use lib.ListN.{length, get_or, set, length-set}
-use borrow.Author.Rules.{rules}
+use Prim.Native.Nat.{◌-◌}
 use Rattle.gates.proofs.gate.Goals as goal
 
 pub xor_gate-requires : goal.xor_gate-requires

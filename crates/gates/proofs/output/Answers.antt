@@ -1,7 +1,6 @@
 -- `gates::output` meets its contract.
 -- Assumes nothing.
 use Rattle.gates.proofs.Steps.{output-done, value-done}
-use borrow.Author.Rules.{rules}
 use Rattle.gates.proofs.output.Goals as goal
 
 pub returns : goal.returns

@@ -1,11 +1,7 @@
 -- `gates::xor_gate` meets its contract.
 -- Assumes nothing.
 use Rattle.gates.proofs.Steps.{xor-done}
-use native.Mathlib.Omega.{arith}
-use mathlib.Core.Path.{◌≡◌, refl, sym, ap, ◌∙◌}
-use Prim.Native.Nat.{ℕ, zero, suc, ◌+◌, ◌-◌, ◌*◌, ◌≤◌, ◌<◌}
-use lib.ListN.{length, get_or, set, length-set}
-use borrow.Author.Rules.{rules}
+use Prim.Native.Nat.{◌-◌}
 use Rattle.gates.proofs.xor_gate.Goals as goal
 
 pub returns : goal.returns

@@ -3,7 +3,6 @@
 use Rattle.bits.proofs.Rows.{row-length}
 use Rattle.cover.specs.Steps.{put_row, follow_of}
 use Rattle.growing.proofs.Growing.{row_put}
-use borrow.Author.Rules.{rules}
 use native.Mathlib.Omega.{arith}
 use mathlib.Core.Path.{refl, sym, ap, ◌∙◌}
 use mathlib.Core.List.{List, ◌++◌}

@@ -3,7 +3,6 @@
 use Rattle.tree.proofs.Nodes.{second-part}
 use Rattle.growing.proofs.Following.{pair-hashed, pair-next, pair-given}
 use native.Mathlib.Numerals.{add-one}
-use borrow.Author.Rules.{rules}
 use native.Mathlib.Omega.{arith}
 use mathlib.Core.Path.{◌≡◌, sym, ap, ◌∙◌}
 use lib.ListN.{length}

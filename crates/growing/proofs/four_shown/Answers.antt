@@ -1,6 +1,5 @@
 -- `growing::four_shown` meets its contract: a case for each test.
 -- Assumes nothing.
-use borrow.Author.Rules.{rules}
 use borrow.Author.Tests.{eq-eqb, ne_eqb}
 use Rattle.growing.proofs.Following.{four-marks}
 use Rattle.growing.proofs.four_shown.Goals as goal

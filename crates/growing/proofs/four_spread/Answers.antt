@@ -1,7 +1,5 @@
 -- `growing::four_spread` meets its contract: the four rows from row k on, and the part of nodes 2k to 2k + 7.
 -- Assumes nothing.
-use borrow.Author.Rules.{rules}
-use native.Mathlib.Omega.{arith}
 use Rattle.growing.proofs.Spreading.{four-put}
 use Rattle.growing.proofs.four_spread.Goals as goal
 

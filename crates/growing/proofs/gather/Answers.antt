@@ -1,16 +1,14 @@
 -- `growing::gather` meets its contract: the rows of the opened nodes below k stand one after the other.
 -- Assumes nothing.
-use Rattle.bits.specs.Bytes.{row_of}
 use Rattle.bits.proofs.Rows.{row-length}
-use Rattle.cover.specs.Steps.{opened_by}
-use mathlib.Core.Logic.{⊎_elim}
 use borrow.Rule.Slice.PartMut.{mid_len}
-use Rattle.growing.proofs.Writing.{Written, written_none, room, turn_more, turn-skip, written_all}
+use Rattle.growing.proofs.Writing.{written_none, room, turn_more, turn-skip, written_all}
 use native.Mathlib.Omega.{arith}
-use mathlib.Core.Path.{◌≡◌, refl, sym, ap, ◌∙◌}
-use Prim.Native.Nat.{◌+◌, ◌-◌, ◌≤◌}
+use mathlib.Core.Path.{refl, sym, ap, ◌∙◌}
+use Prim.Native.Nat.{◌+◌, ◌-◌}
 use lib.ListN.{length}
 use Rattle.growing.proofs.gather.Goals as goal
+use Rattle.growing.proofs.gather.Goals.{then-o, else-o}
 
 pub loop-k-init : goal.loop-k-init
 loop-k-init c = (omega arith, refl, written_none _ _ _)
@@ -36,13 +34,13 @@ pub loop-k-preserved : goal.loop-k-preserved
 loop-k-preserved c =
     let l = c.loop-k in
     let x = c.args in
-    ⊎_elim
-    (λ w.
-    let o = sym c.is_opened-o.ensures ∙ w.0.taken in
-    let r = room _ _ (length x.marks.now) l.k l.at l.out l.invariant.2 c.loop-k-test.true o (l.invariant.1 ∙ c.requires.1) in
-    turn_more _ _ _ _ l.k l.at _ l.out _ l.invariant.2 c.loop-k-test.true l.invariant.1 _ o r w.3.kept.1.0 (w.3.ensures ∙ w.1.ensures) w.6 w.7)
-    (λ w. turn-skip _ _ _ _ l.k l.at _ l.out _ l.invariant.2 c.loop-k-test.true l.invariant.1 (sym c.is_opened-o.ensures ∙ w.0.left) w.1 w.2)
-    c.if-o.branch
+    elim c.if-o.branch [
+      | then-o w ↦
+          let o = sym c.is_opened-o.ensures ∙ w.if-o.true in
+          let r = room _ _ (length x.marks.now) l.k l.at l.out l.invariant.2 c.loop-k-test.true o (l.invariant.1 ∙ c.requires.1) in
+          turn_more _ _ _ _ l.k l.at _ l.out _ l.invariant.2 c.loop-k-test.true l.invariant.1 _ o r w.copy.auto.to (w.copy.ensures ∙ w.row.ensures) w.out-is w.at-is
+      | else-o w ↦ turn-skip _ _ _ _ l.k l.at _ l.out _ l.invariant.2 c.loop-k-test.true l.invariant.1 (sym c.is_opened-o.ensures ∙ w.if-o.false) w.out-is w.at-is
+    ]
 
 pub returns : goal.returns
 returns c = let l = c.loop-k in written_all _ _ (length c.args.marks.now) l.k l.at l.out l.invariant.2 l.invariant.0 (omega arith) (l.invariant.1 ∙ c.requires.1)

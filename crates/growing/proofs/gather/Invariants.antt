@@ -1,14 +1,10 @@
 -- `growing::gather` meets its contract: the rows of the opened nodes below k stand one after the other.
 -- Assumes nothing.
 use Rattle.bits.specs.Bytes.{row_of}
-use Rattle.bits.proofs.Rows.{row-length}
 use Rattle.cover.specs.Steps.{opened_by}
-use mathlib.Core.Logic.{⊎_elim}
-use borrow.Rule.Slice.PartMut.{mid_len}
-use Rattle.growing.proofs.Writing.{Written, written_none, room, turn_more, turn-skip, written_all}
-use native.Mathlib.Omega.{arith}
-use mathlib.Core.Path.{◌≡◌, refl, sym, ap, ◌∙◌}
-use Prim.Native.Nat.{◌+◌, ◌-◌, ◌≤◌}
+use Rattle.growing.proofs.Writing.{Written}
+use mathlib.Core.Path.{◌≡◌}
+use Prim.Native.Nat.{◌-◌, ◌≤◌}
 use lib.ListN.{length}
 use Rattle.growing.proofs.gather.Given as goal
 

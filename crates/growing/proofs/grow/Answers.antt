@@ -2,16 +2,14 @@
 -- Assumes nothing.
 use Rattle.cover.specs.Masters.{child_of}
 use Rattle.cover.specs.Steps.{put_row}
-use Rattle.growing.proofs.Growing.{Grown, grown-one, grown-more, grown-all, children-pair, few-leaves}
+use Rattle.growing.proofs.Growing.{grown-one, grown-more, grown-all, children-pair, few-leaves}
 use Rattle.growing.proofs.Spreading.{grown-spreads}
 use Rattle.cover.proofs.Rebuilding.{length-child}
 use native.Mathlib.Omega.{arith}
 use native.Mathlib.Nat.{pow-succ'}
-use mathlib.Core.Path.{◌≡◌, ap, ◌∙◌}
-use Prim.Native.Nat.{◌-◌, ◌*◌, ◌^◌, ◌≤◌}
-use lib.ListN.{length}
+use mathlib.Core.Path.{ap, ◌∙◌}
+use Prim.Native.Nat.{◌-◌}
 use lib.Pow.{pow_pos}
-use borrow.Author.Tests.{leb-true}
 use Rattle.growing.proofs.grow.Goals as goal
 
 pub put_root-requires : goal.put_root-requires
@@ -35,7 +33,7 @@ four_spread-requires c =
     let i = c.loop-k.invariant in
     let o = c in
     let f = c.if-end-k-ge4.true in
-    (c.else-k-ge4.true, (omega (arith, i.1, f, few-leaves o.args.h o.requires.0), omega (arith, i.1, i.2, f)))
+    (c.if-k-ge4.true, (omega (arith, i.1, f, few-leaves o.args.h o.requires.0), omega (arith, i.1, i.2, f)))
 
 pub overflow_add-k : goal.overflow_add-k
 overflow_add-k c = omega (arith, few-leaves c.args.h c.requires.0)

@@ -1,17 +1,10 @@
 -- `growing::grow` meets its contract: the children of every node below k stand in their rows.
 -- Assumes nothing.
 use Rattle.cover.specs.Masters.{child_of}
-use Rattle.cover.specs.Steps.{put_row}
-use Rattle.growing.proofs.Growing.{Grown, grown-one, grown-more, grown-all, children-pair, few-leaves}
-use Rattle.growing.proofs.Spreading.{grown-spreads}
-use Rattle.cover.proofs.Rebuilding.{length-child}
-use native.Mathlib.Omega.{arith}
-use native.Mathlib.Nat.{pow-succ'}
-use mathlib.Core.Path.{◌≡◌, ap, ◌∙◌}
+use Rattle.growing.proofs.Growing.{Grown}
+use mathlib.Core.Path.{◌≡◌}
 use Prim.Native.Nat.{◌-◌, ◌*◌, ◌^◌, ◌≤◌}
 use lib.ListN.{length}
-use lib.Pow.{pow_pos}
-use borrow.Author.Tests.{leb-true}
 use Rattle.growing.proofs.grow.Given as goal
 
 abbrev pub invariant-loop-k : goal.invariant-loop-k

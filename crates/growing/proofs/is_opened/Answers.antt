@@ -2,7 +2,6 @@
 -- Assumes nothing.
 use borrow.Author.Tests.{eq-eqb, ne_eqb}
 use Rattle.cover.specs.Steps.{opened_by}
-use borrow.Author.Rules.{rules}
 use Rattle.growing.proofs.is_opened.Goals as goal
 
 pub returns-then-marks-k-eq1 : goal.returns-then-marks-k-eq1

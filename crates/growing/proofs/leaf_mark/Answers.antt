@@ -1,7 +1,6 @@
 -- `growing::leaf_mark` meets its contract: a case for each test.
 -- Assumes nothing.
 use Rattle.growing.proofs.Marking.{mark-spare, mark-shown, mark-hid}
-use borrow.Author.Rules.{rules}
 use Rattle.growing.proofs.leaf_mark.Goals as goal
 
 pub returns-then-i-m : goal.returns-then-i-m

@@ -1,10 +1,9 @@
 -- `growing::mark` meets its contract: from the last node down, every node from k on has its mark.
 -- Assumes nothing.
-use Rattle.growing.proofs.Marking.{Marked, marked-none, marked_more, marked_all}
+use Rattle.growing.proofs.Marking.{marked-none, marked_more, marked_all}
 use native.Mathlib.Omega.{arith}
-use mathlib.Core.Path.{◌≡◌, refl}
-use Prim.Native.Nat.{◌≤◌}
-use lib.ListN.{length, length-set}
+use mathlib.Core.Path.{refl}
+use lib.ListN.{length-set}
 use Rattle.growing.proofs.mark.Goals as goal
 
 pub loop-k-init : goal.loop-k-init

@@ -1,10 +1,9 @@
 -- `growing::mark` meets its contract: from the last node down, every node from k on has its mark.
 -- Assumes nothing.
-use Rattle.growing.proofs.Marking.{Marked, marked-none, marked_more, marked_all}
-use native.Mathlib.Omega.{arith}
-use mathlib.Core.Path.{◌≡◌, refl}
+use Rattle.growing.proofs.Marking.{Marked}
+use mathlib.Core.Path.{◌≡◌}
 use Prim.Native.Nat.{◌≤◌}
-use lib.ListN.{length, length-set}
+use lib.ListN.{length}
 use Rattle.growing.proofs.mark.Given as goal
 
 abbrev pub invariant-loop-k : goal.invariant-loop-k

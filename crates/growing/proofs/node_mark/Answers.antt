@@ -2,7 +2,6 @@
 -- Assumes nothing.
 use Rattle.growing.proofs.Marking.{mark-of-leaf, mark-of-none, mark-of-pair}
 use mathlib.Core.Path.{◌∙◌}
-use borrow.Author.Rules.{rules}
 use Rattle.growing.proofs.node_mark.Goals as goal
 
 pub returns-then-k-leaves : goal.returns-then-k-leaves

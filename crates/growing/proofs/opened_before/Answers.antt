@@ -5,7 +5,7 @@ use Rattle.cover.specs.Steps.{opened_by}
 use Rattle.growing.proofs.Marking.{byte_le, count_none, count-more}
 use native.Mathlib.Omega.{arith}
 use mathlib.Core.Path.{◌≡◌, ap, ◌∙◌}
-use Prim.Native.Nat.{ℕ, ◌-◌, ◌≤◌}
+use Prim.Native.Nat.{ℕ, ◌-◌}
 use lib.ListN.{length}
 use Rattle.growing.proofs.opened_before.Goals as goal
 

@@ -2,10 +2,8 @@
 -- Assumes nothing.
 use Rattle.cover.specs.Cover.{those}
 use Rattle.cover.specs.Steps.{opened_by}
-use Rattle.growing.proofs.Marking.{byte_le, count_none, count-more}
-use native.Mathlib.Omega.{arith}
-use mathlib.Core.Path.{◌≡◌, ap, ◌∙◌}
-use Prim.Native.Nat.{ℕ, ◌-◌, ◌≤◌}
+use mathlib.Core.Path.{◌≡◌}
+use Prim.Native.Nat.{◌-◌, ◌≤◌}
 use lib.ListN.{length}
 use Rattle.growing.proofs.opened_before.Given as goal
 

@@ -1,7 +1,6 @@
 -- `growing::put_root` meets its contract: two parts, one after the other.
 -- Assumes nothing.
 use Rattle.growing.proofs.Growing.{root-put}
-use borrow.Author.Rules.{rules}
 use native.Mathlib.Omega.{arith}
 use mathlib.Core.Path.{sym}
 use lib.Seq.{length-take-le}

@@ -2,15 +2,14 @@
 -- Assumes nothing.
 use Rattle.cover.specs.Cover.{those}
 use Rattle.cover.specs.Steps.{opened_by, follow_of}
-use Rattle.growing.proofs.Growing.{Grown, grown-one, grown-more, grown-all, few-leaves}
+use Rattle.growing.proofs.Growing.{grown-one, grown-more, grown-all, few-leaves}
 use Rattle.growing.proofs.Following.{length-follow, pair-hashed, shown-at, shown-next}
 use Rattle.growing.proofs.Spreading.{grown-spreads}
 use Rattle.tree.specs.Tree.{children}
-use borrow.Author.Tests.{leb-true}
 use native.Mathlib.Omega.{arith}
 use native.Mathlib.Nat.{pow-succ'}
 use mathlib.Core.Path.{◌≡◌, refl, sym, ap, ◌∙◌}
-use Prim.Native.Nat.{ℕ, ◌+◌, ◌-◌, ◌*◌, ◌^◌, ◌≤◌}
+use Prim.Native.Nat.{ℕ, ◌+◌, ◌-◌, ◌*◌}
 use lib.ListN.{length, replicate, length-replicate}
 use lib.Pow.{pow_pos}
 use Rattle.growing.proofs.regrow.Goals as goal
@@ -50,7 +49,7 @@ four_spread-requires c =
     let o = c in
     let l = c.loop-k in
     let f = c.if-end-k-ge4.true in
-    (c.else-k-ge4.true, (omega (arith, l.invariant.1, f, few-leaves o.args.h o.requires.0.0), omega (arith, l.invariant.1, l.invariant.2, f)))
+    (c.if-k-ge4.true, (omega (arith, l.invariant.1, f, few-leaves o.args.h o.requires.0.0), omega (arith, l.invariant.1, l.invariant.2, f)))
 
 pub overflow_add-k : goal.overflow_add-k
 overflow_add-k c = omega (arith, few-leaves c.args.h c.requires.0.0)

@@ -2,17 +2,10 @@
 -- Assumes nothing.
 use Rattle.cover.specs.Cover.{those}
 use Rattle.cover.specs.Steps.{opened_by, follow_of}
-use Rattle.growing.proofs.Growing.{Grown, grown-one, grown-more, grown-all, few-leaves}
-use Rattle.growing.proofs.Following.{length-follow, pair-hashed, shown-at, shown-next}
-use Rattle.growing.proofs.Spreading.{grown-spreads}
-use Rattle.tree.specs.Tree.{children}
-use borrow.Author.Tests.{leb-true}
-use native.Mathlib.Omega.{arith}
-use native.Mathlib.Nat.{pow-succ'}
-use mathlib.Core.Path.{◌≡◌, refl, sym, ap, ◌∙◌}
-use Prim.Native.Nat.{ℕ, ◌+◌, ◌-◌, ◌*◌, ◌^◌, ◌≤◌}
-use lib.ListN.{length, replicate, length-replicate}
-use lib.Pow.{pow_pos}
+use Rattle.growing.proofs.Growing.{Grown}
+use mathlib.Core.Path.{◌≡◌}
+use Prim.Native.Nat.{◌-◌, ◌*◌, ◌^◌, ◌≤◌}
+use lib.ListN.{length, replicate}
 use Rattle.growing.proofs.regrow.Given as goal
 
 abbrev pub invariant-loop-k : goal.invariant-loop-k

@@ -4,7 +4,6 @@ use Rattle.bits.proofs.Rows.{row-length}
 use Rattle.tree.specs.Tree.{children}
 use Rattle.cover.specs.Steps.{put_row}
 use Rattle.growing.proofs.Growing.{row_put}
-use borrow.Author.Rules.{rules}
 use native.Mathlib.Omega.{arith}
 use mathlib.Core.Path.{refl, sym, ap, ◌∙◌}
 use lib.ListN.{length}

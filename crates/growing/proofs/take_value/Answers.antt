@@ -2,7 +2,6 @@
 -- Assumes nothing.
 use Rattle.bits.proofs.Rows.{row-length}
 use Rattle.growing.proofs.Following.{next-opened, next-other, value-inside, given-opened, given-other}
-use borrow.Author.Rules.{rules}
 use native.Mathlib.Omega.{arith}
 use mathlib.Core.Path.{sym, ap, ◌∙◌}
 use lib.ListN.{length}

@@ -4,7 +4,6 @@ use Rattle.keccak.specs.Steps.{closed}
 use Rattle.hashing.proofs.Hashes.{empty-room, took-tag, took_more, took-room}
 use native.Mathlib.Omega.{arith}
 use mathlib.Core.Path.{refl, ap, ◌∙◌}
-use borrow.Author.Rules.{rules}
 use Rattle.hashing.proofs.close128.Goals as goal
 
 pub absorb_byte-s-requires : goal.absorb_byte-s-requires

@@ -1,13 +1,11 @@
 -- `hashing::commit` meets its contract: the parts taken in one after the other are their concatenation.
 -- Assumes nothing.
-use mathlib.Core.List.{List, [], ◌∷◌, ◌++◌}
+use mathlib.Core.List.{[], ◌∷◌, ◌++◌}
 use Rattle.hashing.specs.Digest.{given, taken}
 use Rattle.hashing.proofs.Hashes.{bytes-append, bytes_one, empty-room, took-tag, took_more, took-room}
 use Rattle.hashing.proofs.Digests.{given-taken}
 use native.Mathlib.Omega.{arith}
 use mathlib.Core.Path.{refl, ap, ◌∙◌}
-use Prim.Native.Nat.{ℕ}
-use borrow.Author.Rules.{rules}
 use Rattle.hashing.proofs.commit.Goals as goal
 
 pub absorb_byte-s-requires : goal.absorb_byte-s-requires

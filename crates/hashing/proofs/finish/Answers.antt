@@ -4,7 +4,6 @@ use Rattle.keccak.specs.Steps.{padded, squeezes}
 use Rattle.hashing.specs.Digest.{given}
 use native.Mathlib.Omega.{arith}
 use mathlib.Core.Path.{ap, ◌∙◌}
-use borrow.Author.Rules.{rules}
 use Rattle.hashing.proofs.finish.Goals as goal
 
 pub squeeze-requires : goal.squeeze-requires

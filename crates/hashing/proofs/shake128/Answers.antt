@@ -5,7 +5,6 @@ use Rattle.hashing.proofs.Hashes.{closed-shake128}
 use native.Mathlib.Omega.{arith}
 use mathlib.Core.Path.{ap, ◌∙◌}
 use lib.ListN.{length}
-use borrow.Author.Rules.{rules}
 use Rattle.hashing.proofs.shake128.Goals as goal
 
 pub squeeze-requires : goal.squeeze-requires

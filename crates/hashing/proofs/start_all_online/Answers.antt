@@ -4,7 +4,6 @@ use Rattle.hashing.specs.Inputs.{all_online_input}
 use Rattle.hashing.proofs.Hashes.{empty-room}
 use Rattle.hashing.proofs.Digests.{taken-tag}
 use native.Mathlib.Omega.{arith}
-use borrow.Author.Rules.{rules}
 use Rattle.hashing.proofs.start_all_online.Goals as goal
 
 pub absorb_byte-requires : goal.absorb_byte-requires

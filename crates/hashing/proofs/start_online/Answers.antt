@@ -7,7 +7,6 @@ use Rattle.hashing.proofs.Hashes.{empty-room}
 use Rattle.hashing.proofs.Digests.{taken-tag, taken_more, room_of}
 use native.Mathlib.Omega.{arith}
 use mathlib.Core.Path.{refl}
-use borrow.Author.Rules.{rules}
 use Rattle.hashing.proofs.start_online.Goals as goal
 
 pub absorb_byte-requires : goal.absorb_byte-requires

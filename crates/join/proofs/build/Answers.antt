@@ -1,6 +1,5 @@
 -- `join::build` meets its contract: by the length of the output.
 -- Assumes nothing.
-use borrow.Author.Rules.{rules}
 use mathlib.Core.Path.{refl}
 use native.Mathlib.Omega.{arith}
 use Rattle.join.proofs.Writes.{short-output, long-output}

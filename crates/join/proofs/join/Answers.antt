@@ -1,6 +1,5 @@
 -- `join::join` meets its contract: by what reading the first circuit answers.
 -- Assumes nothing.
-use borrow.Author.Rules.{rules}
 use Rattle.join.proofs.Outcomes.{read_as, first-refused}
 use Rattle.join.proofs.join.Goals as goal
 

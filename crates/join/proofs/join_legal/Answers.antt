@@ -1,6 +1,5 @@
 -- `join::join_legal` meets its contract: 25, then 2, then the file.
 -- Assumes nothing.
-use borrow.Author.Rules.{rules}
 use mathlib.Core.Path.{refl, ◌∙◌}
 use native.Mathlib.Omega.{arith}
 use Rattle.join.proofs.Outcomes.{few-as, refuse-inputs, refuse-sums, goes_on, pair}

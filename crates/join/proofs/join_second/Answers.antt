@@ -1,6 +1,5 @@
 -- `join::join_second` meets its contract: by what reading the second circuit answers.
 -- Assumes nothing.
-use borrow.Author.Rules.{rules}
 use Rattle.join.proofs.Outcomes.{read_as, second-refused}
 use Rattle.join.proofs.join_second.Goals as goal
 

@@ -1,6 +1,5 @@
 -- `join::joined_output` meets its contract: the first's output wires, then the second's.
 -- Assumes nothing.
-use borrow.Author.Rules.{rules}
 use mathlib.Core.Logic.{inr}
 use mathlib.Core.Path.{refl}
 use native.Mathlib.Omega.{arith}

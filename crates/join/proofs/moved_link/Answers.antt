@@ -1,6 +1,5 @@
 -- `join::moved_link` meets its contract: 0 stays, a slot goes up.
 -- Assumes nothing.
-use borrow.Author.Rules.{rules}
 use mathlib.Core.Path.{sym}
 use native.Mathlib.Omega.{arith}
 use Rattle.join.proofs.Moved.{link-end, link_up}

@@ -1,6 +1,5 @@
 -- `join::moved_wire` meets its contract: an input stays, another wire goes up.
 -- Assumes nothing.
-use borrow.Author.Rules.{rules}
 use mathlib.Core.Path.{sym}
 use native.Mathlib.Omega.{arith}
 use Rattle.join.proofs.Moved.{wire-input, wire-slot}

@@ -1,6 +1,5 @@
 -- `join::write_joined` meets its contract: the header, the output wires and the slots, one after the other.
 -- Assumes nothing.
-use borrow.Author.Rules.{rules}
 use mathlib.Core.Logic.{inr}
 use mathlib.Core.Path.{◌≡◌, refl, ap₂, ◌∙◌}
 use native.Mathlib.Omega.{arith}

@@ -1,7 +1,7 @@
 -- `join::write_outputs` meets its contract. The loop's invariant: the first j output wires are written.
 -- Assumes nothing.
 use mathlib.Core.Path.{◌≡◌, refl, ap, ◌∙◌}
-use Prim.Native.Nat.{ℕ, ◌+◌, ◌-◌, ◌≤◌}
+use Prim.Native.Nat.{ℕ, ◌+◌, ◌-◌}
 use native.Mathlib.Omega.{arith}
 use lib.ListN.{length}
 use Rattle.join.proofs.Writes.{placed-none, placed-more, length-placed}

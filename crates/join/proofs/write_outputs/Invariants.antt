@@ -1,10 +1,8 @@
 -- `join::write_outputs` meets its contract. The loop's invariant: the first j output wires are written.
 -- Assumes nothing.
-use mathlib.Core.Path.{◌≡◌, refl, ap, ◌∙◌}
-use Prim.Native.Nat.{ℕ, ◌+◌, ◌-◌, ◌≤◌}
-use native.Mathlib.Omega.{arith}
+use mathlib.Core.Path.{◌≡◌}
+use Prim.Native.Nat.{◌-◌, ◌≤◌}
 use lib.ListN.{length}
-use Rattle.join.proofs.Writes.{placed-none, placed-more, length-placed}
 use Rattle.join.specs.Steps.{joined_fields, placed}
 use Rattle.join.proofs.write_outputs.Given as goal
 

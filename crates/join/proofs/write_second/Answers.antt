@@ -1,6 +1,5 @@
 -- `join::write_second` meets its contract: the four fields of the slot, moved up.
 -- Assumes nothing.
-use borrow.Author.Rules.{rules}
 use mathlib.Core.Logic.{inr}
 use mathlib.Core.Path.{refl, ap, ◌∙◌}
 use Prim.Native.Nat.{◌*◌}

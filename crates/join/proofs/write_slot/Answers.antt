@@ -1,6 +1,5 @@
 -- `join::write_slot` meets its contract: the first's slots, then the second's.
 -- Assumes nothing.
-use borrow.Author.Rules.{rules}
 use mathlib.Core.Path.{◌∙◌}
 use native.Mathlib.Omega.{arith}
 use Rattle.join.proofs.Writes.{inside-first, inside-second, placed_first, placed-second}

@@ -1,10 +1,8 @@
 -- `join::write_slots` meets its contract. The loop's invariant: the first k slots are written.
 -- Assumes nothing.
-use mathlib.Core.Path.{◌≡◌, refl, ap, ◌∙◌}
-use Prim.Native.Nat.{ℕ, ◌+◌, ◌-◌, ◌*◌, ◌≤◌}
-use native.Mathlib.Omega.{arith}
+use mathlib.Core.Path.{◌≡◌}
+use Prim.Native.Nat.{◌-◌, ◌*◌, ◌≤◌}
 use lib.ListN.{length}
-use Rattle.join.proofs.Writes.{placed-none, slot-more, length-placed}
 use Rattle.join.specs.Steps.{slots_at, joined_fields, placed}
 use Rattle.join.proofs.write_slots.Given as goal
 

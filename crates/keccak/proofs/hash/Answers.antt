@@ -7,7 +7,6 @@ use Rattle.keccak.specs.Steps.{empty, absorbs, padded, squeezes}
 use native.Mathlib.Omega.{arith}
 use mathlib.Core.Path.{ap, ◌∙◌}
 use lib.ListN.{length}
-use borrow.Author.Rules.{rules}
 use Rattle.keccak.proofs.hash.Goals as goal
 
 pub absorb-requires : goal.absorb-requires

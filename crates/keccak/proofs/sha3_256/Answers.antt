@@ -1,7 +1,6 @@
 -- `keccak::sha3_256` meets its contract.
 -- Assumes nothing.
 use Rattle.keccak.specs.Sponge.{sha3_256}
-use borrow.Author.Rules.{rules}
 use Rattle.keccak.proofs.sha3_256.Goals as goal
 
 pub returns : goal.returns

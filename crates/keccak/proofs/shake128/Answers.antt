@@ -1,7 +1,6 @@
 -- `keccak::shake128` meets its contract.
 -- Assumes nothing.
 use Rattle.keccak.specs.Sponge.{shake128}
-use borrow.Author.Rules.{rules}
 use Rattle.keccak.proofs.shake128.Goals as goal
 
 pub returns : goal.returns

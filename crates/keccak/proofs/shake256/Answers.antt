@@ -1,7 +1,6 @@
 -- `keccak::shake256` meets its contract.
 -- Assumes nothing.
 use Rattle.keccak.specs.Sponge.{shake256}
-use borrow.Author.Rules.{rules}
 use Rattle.keccak.proofs.shake256.Goals as goal
 
 pub returns : goal.returns

@@ -1,14 +1,10 @@
 -- `legality::and_count` meets its contract. The loop's invariant: the count and the AND gates that are left make up all of them.
 -- Assumes nothing.
 use mathlib.Core.List.{[]}
-use mathlib.Core.Bool.{true}
 use mathlib.Core.Path.{◌≡◌, ap}
-use Prim.Native.Nat.{◌+◌, ◌≤◌}
 use native.Mathlib.Omega.{arith}
-use borrow.Author.Rules.{rules}
 use Rattle.circuit.specs.Circuit.{ands}
 use Rattle.circuit.specs.Fields.{field}
-use Rattle.circuit.specs.FieldSteps.{walks, gates_from}
 use Rattle.circuit.proofs.Slots.{next-read, ands-turn, ands-none, inside, here, Here, gates-end, and_one-le}
 use Rattle.legality.proofs.and_count.Goals as goal
 use Rattle.legality.proofs.and_count.Goals.{In-loop-left}

@@ -1,11 +1,8 @@
 -- `legality::good_outputs` meets its contract. The loop's invariant: what is gathered is the test of the first j output wires.
 -- Assumes nothing.
-use mathlib.Core.Path.{◌≡◌, refl, ◌∙◌}
-use Prim.Native.Nat.{◌+◌, ◌-◌, ◌*◌, ◌≤◌}
-use native.Mathlib.Omega.{arith}
-use borrow.Author.Rules.{rules}
-use Rattle.circuit.specs.Fields.{field, good_outputs, inputs_of, gates_of}
-use Rattle.circuit.proofs.Slots.{fits, outputs-turn}
+use mathlib.Core.Path.{◌≡◌}
+use Prim.Native.Nat.{◌-◌, ◌≤◌}
+use Rattle.circuit.specs.Fields.{field, good_outputs}
 use Rattle.legality.proofs.good_outputs.Given as goal
 
 abbrev pub invariant-loop-j : goal.invariant-loop-j

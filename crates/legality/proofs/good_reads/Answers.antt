@@ -3,15 +3,14 @@
 use mathlib.Core.Bool.{Bool, true}
 use mathlib.Core.List.{List}
 use mathlib.Core.Path.{◌≡◌, sym, ap, ◌∙◌}
-use Prim.Native.Nat.{ℕ, ◌+◌, ◌-◌, ◌≤◌}
+use Prim.Native.Nat.{ℕ, ◌+◌, ◌-◌}
 use native.Mathlib.Omega.{arith}
-use borrow.Author.Tests.{not-true, not-false}
-use lib.ListN.{length-replicate, length}
+use lib.ListN.{length-replicate}
 use Rattle.bits.specs.Bits.{odd}
 use Rattle.bits.specs.Steps.{put_bit}
 use Rattle.bits.proofs.Numbers.{odd-bit_val}
 use Rattle.circuit.specs.Fields.{field, reads_written}
-use Rattle.circuit.specs.FieldSteps.{walks, gates_from, inputs_first}
+use Rattle.circuit.specs.FieldSteps.{gates_from, inputs_first}
 use Rattle.circuit.specs.Steps.{wire_bytes, seen}
 use Rattle.circuit.proofs.Slots.{next-read, reads-turn, reads-fail, inside, here, Here, gates-end, seen_none}
 use Rattle.legality.proofs.good_reads.Goals as goal

@@ -1,19 +1,12 @@
 -- `legality::good_reads` meets its contract. The loop's invariant: the gates that are left, with the wires flagged so far, pass as all of them do.
 -- Assumes nothing.
-use mathlib.Core.Bool.{Bool, true}
-use mathlib.Core.List.{List}
-use mathlib.Core.Path.{◌≡◌, sym, ap, ◌∙◌}
-use Prim.Native.Nat.{ℕ, ◌+◌, ◌-◌, ◌≤◌}
-use native.Mathlib.Omega.{arith}
-use borrow.Author.Tests.{not-true, not-false}
-use lib.ListN.{length-replicate, length}
-use Rattle.bits.specs.Bits.{odd}
-use Rattle.bits.specs.Steps.{put_bit}
-use Rattle.bits.proofs.Numbers.{odd-bit_val}
+use mathlib.Core.Bool.{true}
+use mathlib.Core.Path.{◌≡◌}
+use Prim.Native.Nat.{◌-◌, ◌≤◌}
+use lib.ListN.{length}
 use Rattle.circuit.specs.Fields.{field, reads_written}
 use Rattle.circuit.specs.FieldSteps.{walks, gates_from, inputs_first}
 use Rattle.circuit.specs.Steps.{wire_bytes, seen}
-use Rattle.circuit.proofs.Slots.{next-read, reads-turn, reads-fail, inside, here, Here, gates-end, seen_none}
 use Rattle.legality.proofs.good_reads.Given as goal
 
 abbrev pub invariant-loop-left : goal.invariant-loop-left

@@ -1,7 +1,6 @@
 -- `legality::good_record` meets its contract.
 -- Assumes nothing.
 use native.Mathlib.Omega.{arith}
-use borrow.Author.Rules.{rules}
 use Rattle.circuit.specs.Fields.{good_record}
 use Rattle.circuit.proofs.Slots.{fits, at-few}
 use Rattle.legality.proofs.good_record.Goals as goal

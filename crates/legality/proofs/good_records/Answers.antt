@@ -1,10 +1,9 @@
 -- `legality::good_records` meets its contract. The loop's invariant: what is gathered is the test of the first k slots.
 -- Assumes nothing.
 use mathlib.Core.Path.{◌≡◌, refl}
-use Prim.Native.Nat.{◌-◌, ◌≤◌}
+use Prim.Native.Nat.{◌-◌}
 use native.Mathlib.Omega.{arith}
-use borrow.Author.Rules.{rules}
-use Rattle.circuit.specs.Fields.{field, good_records}
+use Rattle.circuit.specs.Fields.{good_records}
 use Rattle.circuit.proofs.Slots.{inside, records-turn}
 use Rattle.legality.proofs.good_records.Goals as goal
 

@@ -1,11 +1,8 @@
 -- `legality::good_records` meets its contract. The loop's invariant: what is gathered is the test of the first k slots.
 -- Assumes nothing.
-use mathlib.Core.Path.{◌≡◌, refl}
+use mathlib.Core.Path.{◌≡◌}
 use Prim.Native.Nat.{◌-◌, ◌≤◌}
-use native.Mathlib.Omega.{arith}
-use borrow.Author.Rules.{rules}
 use Rattle.circuit.specs.Fields.{field, good_records}
-use Rattle.circuit.proofs.Slots.{inside, records-turn}
 use Rattle.legality.proofs.good_records.Given as goal
 
 abbrev pub invariant-loop-k : goal.invariant-loop-k

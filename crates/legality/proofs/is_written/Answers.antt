@@ -6,7 +6,6 @@ use Prim.Native.Nat.{ℕ}
 use native.Mathlib.Omega.{arith}
 use lib.Dec.{eqb}
 use borrow.Author.Tests.{lt-ltb, le-ltb}
-use borrow.Author.Rules.{rules}
 use Rattle.bits.specs.Bits.{bit_val}
 use Rattle.bits.proofs.Packing.{bit_at-end}
 use Rattle.circuit.specs.Steps.{seen}

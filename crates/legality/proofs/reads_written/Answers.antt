@@ -2,7 +2,6 @@
 -- Assumes nothing.
 use mathlib.Core.Path.{ap₂, ◌∙◌}
 use mathlib.Core.Bool.{◌&&◌}
-use borrow.Author.Rules.{rules}
 use Rattle.legality.proofs.reads_written.Goals as goal
 
 pub returns-in-Xor : goal.returns-in-Xor

@@ -1,6 +1,5 @@
 -- `legality::within_limits` meets its contract.
 -- Assumes nothing.
-use borrow.Author.Rules.{rules}
 use Rattle.circuit.specs.FieldSteps.{limits}
 use Rattle.legality.proofs.within_limits.Goals as goal
 

@@ -2,7 +2,6 @@
 -- Assumes nothing.
 use mathlib.Core.Path.{refl}
 use native.Mathlib.Omega.{arith}
-use borrow.Author.Rules.{rules}
 use Rattle.one_of.proofs.Outcomes.{products, too_many, too_short, given, all-gates, done}
 use Rattle.one_of.proofs.build.Goals as goal
 

@@ -1,7 +1,6 @@
 -- `one_of::one_of` meets its contract: by what reading answers.
 -- Assumes nothing.
 use mathlib.Core.Path.{sym, ◌∙◌}
-use borrow.Author.Rules.{rules}
 use Rattle.one_of.proofs.Outcomes.{refused-first, read_first, lent-legal}
 use Rattle.one_of.proofs.one_of.Goals as goal
 

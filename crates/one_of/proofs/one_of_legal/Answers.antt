@@ -2,7 +2,6 @@
 -- Assumes nothing.
 use mathlib.Core.Path.{◌∙◌}
 use native.Mathlib.Omega.{arith}
-use borrow.Author.Rules.{rules}
 use Rattle.one_of.proofs.Outcomes.{empty, long, uneven, unclean, clean, sizes}
 use Rattle.one_of.proofs.one_of_legal.Goals as goal
 

@@ -1,13 +1,7 @@
 -- `one_of::write_file` meets its contract. The loop's invariant: the header, the output and the first k slots are written.
 -- Assumes nothing.
-use mathlib.Core.Path.{refl, ap, ◌∙◌}
 use Prim.Native.Nat.{◌-◌, ◌≤◌}
-use native.Mathlib.Omega.{arith}
-use borrow.Author.Rules.{rules}
-use Rattle.circuit.proofs.Slots.{width-known}
-use Rattle.circuit.specs.File.{fields_of}
-use Rattle.one_of.specs.OneOf.{relinked}
-use Rattle.one_of.proofs.Written.{Slots, header-written, slots-more, all-written}
+use Rattle.one_of.proofs.Written.{Slots}
 use Rattle.one_of.proofs.write_file.Given as goal
 
 abbrev pub invariant-loop-k : goal.invariant-loop-k

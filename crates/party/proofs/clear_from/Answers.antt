@@ -1,10 +1,9 @@
 -- `party::clear_from` meets its contract: one byte is cut, the bytes after it are zero.
 -- Assumes nothing.
-use Rattle.party.proofs.Clearing.{cleared, byte-some, clear_kept, clear-code, clear_none}
+use Rattle.party.proofs.Clearing.{cleared, byte-some, clear-code, clear_none}
 use native.Mathlib.Omega.{arith}
-use Prim.Native.Nat.{zero, ◌/◌}
+use Prim.Native.Nat.{◌/◌}
 use lib.ListN.{length-set}
-use borrow.Author.Rules.{rules}
 use Rattle.party.proofs.clear_from.Goals as goal
 
 pub nonzero_rem-s-then-at-s : goal.nonzero_rem-s-then-at-s

@@ -1,6 +1,5 @@
 -- `party::close_row` meets its contract: the head is j and i, after the tag and the salt.
 -- Assumes nothing.
-use borrow.Author.Rules.{rules}
 use Rattle.bits.specs.Bytes.{le_bytes}
 use Rattle.party.proofs.close_row.Goals as goal
 

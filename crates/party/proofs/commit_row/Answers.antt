@@ -5,7 +5,6 @@ use Rattle.bits.specs.Bytes.{le_bytes}
 use Rattle.party.proofs.Commitments.{own-all, own-none, commitment-is}
 use native.Mathlib.Omega.{arith}
 use mathlib.Core.Path.{sym}
-use borrow.Author.Rules.{rules}
 use Rattle.party.proofs.commit_row.Goals as goal
 use Rattle.party.proofs.commit_row.Goals.{then-i-n, else-i-n}
 

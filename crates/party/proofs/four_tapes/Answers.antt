@@ -1,7 +1,6 @@
 -- `party::four_tapes` meets its contract: the streams, then the unused bits of each row cleared.
 -- The loop's invariant: the first k rows are cleared.
 -- Assumes nothing.
-use borrow.Author.Rules.{rules}
 use native.Mathlib.Omega.{arith}
 use mathlib.Core.Path.{◌≡◌, refl, sym, ap, ◌∙◌}
 use mathlib.Core.List.{List}

@@ -1,7 +1,7 @@
 -- `party::seed_row` meets its contract.
 -- Assumes nothing.
 use native.Mathlib.Omega.{arith}
-use mathlib.Core.Path.{ap, ap₂, ◌∙◌}
+use mathlib.Core.Path.{ap₂, ◌∙◌}
 use borrow.Author.Rules.{rules}
 use lib.ListN.{get_or}
 use mir.Syntax.{w8}

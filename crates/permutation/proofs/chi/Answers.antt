@@ -1,7 +1,6 @@
 -- `permutation::chi` meets its contract: it computes χ on lanes. Each index is below 25.
 -- Assumes nothing.
 use borrow.Author.Rules.{rules}
-use lib.Dec.{lit<}
 use lib.ListN.{get_or}
 use mir.Syntax.{w64}
 use mir.Val.{Fits}

@@ -1,7 +1,7 @@
 -- `permutation::keccak_f` meets its contract. The loop's invariant: the lanes are those after ir rounds.
 -- The measure is the number of rounds left. Assumes nothing.
 use mathlib.Core.Path.{◌≡◌, ap, ◌∙◌}
-use Prim.Native.Nat.{ℕ, ◌-◌, ◌≤◌}
+use Prim.Native.Nat.{ℕ, ◌-◌}
 use native.Mathlib.Omega.{arith}
 use borrow.Author.Rules.{rules}
 use lib.ListN.{get_or}

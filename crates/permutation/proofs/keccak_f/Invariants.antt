@@ -1,14 +1,8 @@
 -- `permutation::keccak_f` meets its contract. The loop's invariant: the lanes are those after ir rounds.
 -- The measure is the number of rounds left. Assumes nothing.
-use mathlib.Core.Path.{◌≡◌, ap, ◌∙◌}
-use Prim.Native.Nat.{ℕ, ◌-◌, ◌≤◌}
-use native.Mathlib.Omega.{arith}
-use borrow.Author.Rules.{rules}
-use lib.ListN.{get_or}
-use mir.Syntax.{w64}
-use mir.Val.{Fits}
+use mathlib.Core.Path.{◌≡◌}
+use Prim.Native.Nat.{◌-◌, ◌≤◌}
 use Rattle.permutation.specs.Permutation.{rounds, lanes, lane_array}
-use Rattle.permutation.proofs.Rounds.{rounds-none, rounds-more}
 use Rattle.permutation.proofs.keccak_f.Given as goal
 
 abbrev pub invariant-loop-ir : goal.invariant-loop-ir

@@ -1,6 +1,5 @@
 -- `reading::read_body` meets its contract.
 -- Assumes nothing.
-use borrow.Author.Rules.{rules}
 use Rattle.circuit.proofs.Readings.{fell, held, walked-well, refuse-records, refuse-chain}
 use Rattle.reading.proofs.read_body.Goals as goal
 

@@ -1,6 +1,5 @@
 -- `reading::read_wires` meets its contract.
 -- Assumes nothing.
-use borrow.Author.Rules.{rules}
 use mathlib.Core.Path.{◌∙◌}
 use Rattle.circuit.proofs.Readings.{fell, held, chain_same, refuse-reads, refuse-outputs, accept}
 use Rattle.reading.proofs.read_wires.Goals as goal

@@ -3,8 +3,6 @@
 use mathlib.Core.Path.{sym, ap, ◌∙◌}
 use Prim.Native.Nat.{◌+◌, ◌*◌}
 use native.Mathlib.Omega.{arith}
-use borrow.Author.Tests.{eqb-true, eqb-false}
-use borrow.Author.Rules.{rules}
 use Rattle.circuit.specs.Operations.{read_answer}
 use Rattle.circuit.proofs.Readings.{fell, held, read_short, read-limits, read_length, read-rest, header, limits-few, length-same, length-other}
 use Rattle.circuit.proofs.Slots.{fits, times-few}

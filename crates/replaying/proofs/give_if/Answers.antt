@@ -1,7 +1,6 @@
 -- `replaying::give_if` meets its contract.
 -- Assumes nothing.
 use Rattle.replaying.proofs.Replayed.{given-good, given-not}
-use borrow.Author.Rules.{rules}
 use Rattle.replaying.proofs.give_if.Goals as goal
 
 pub give_rows-requires : goal.give_rows-requires

@@ -1,7 +1,6 @@
 -- `replaying::replay` meets its contract.
 -- Assumes nothing.
 use mathlib.Core.Path.{refl}
-use borrow.Author.Rules.{rules}
 use Rattle.mpc.proofs.Opened.{opened}
 use Rattle.mpc.proofs.Lent.{known-few, work-long}
 use Rattle.replaying.proofs.Replayed.{replay-refused, replay-short, replay-left}

@@ -4,7 +4,6 @@ use mathlib.Core.Path.{refl, sym, ◌∙◌}
 use lib.ListN.{drop, replicate}
 use Rattle.mpc.proofs.Places.{output-room, output-size, memory-held, placed, working-kept}
 use Rattle.replaying.proofs.Replayed.{prefix-inside, prefix-taken, prefix_same, replayed-right}
-use borrow.Author.Rules.{rules}
 use Rattle.replaying.proofs.replay_in.Goals as goal
 
 pub hold-requires : goal.hold-requires

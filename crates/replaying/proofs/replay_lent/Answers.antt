@@ -1,6 +1,5 @@
 -- `replaying::replay_lent` meets its contract.
 -- Assumes nothing.
-use mathlib.Core.Path.{refl}
 use native.Mathlib.Omega.{arith}
 use Rattle.mpc.proofs.Opened.{counted, ands-low}
 use Rattle.replaying.proofs.Replayed.{lengths-parts, replay-parties, replay-index, replay-length, replay-unused, replay-done, replay-output}

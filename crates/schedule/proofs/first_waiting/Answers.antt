@@ -1,9 +1,7 @@
 -- `first_waiting`: what the search finds from here on is what it finds from the start.
 -- Assumes nothing.
-use Rattle.schedule.specs.Steps.{first_waiting}
 use Rattle.schedule.proofs.Flags.{first-here, first_on, first-none}
-use native.Mathlib.Omega.{arith}
-use mathlib.Core.Path.{◌≡◌, refl, sym, ◌∙◌}
+use mathlib.Core.Path.{refl, sym, ◌∙◌}
 use Prim.Native.Nat.{◌-◌}
 use Rattle.schedule.proofs.first_waiting.Goals as goal
 

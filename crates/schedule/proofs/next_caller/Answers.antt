@@ -5,7 +5,6 @@ use Rattle.schedule.proofs.Flags.{begin-le, caller-first, caller-second}
 use native.Mathlib.Omega.{arith}
 use mathlib.Core.Path.{ap, ◌∙◌}
 use Prim.Native.Nat.{ℕ}
-use borrow.Author.Rules.{rules}
 use Rattle.schedule.proofs.next_caller.Goals as goal
 
 pub returns-then-c-lt-CALLERS : goal.returns-then-c-lt-CALLERS

@@ -5,8 +5,7 @@ use mathlib.Core.Bool.{true, false}
 use mathlib.Core.Path.{◌≡◌, refl, sym, ap, ◌∙◌}
 use Prim.Native.Nat.{ℕ, ◌-◌, ◌≤◌, ◌<◌}
 use native.Mathlib.Omega.{arith}
-use borrow.Author.Tests.{not-true, not-false}
-use Rattle.shelf_page.specs.Page.{next_of, chain, ended, blank, zero_root}
+use Rattle.shelf_page.specs.Page.{next_of, chain, ended, blank}
 use Rattle.shelf_page.proofs.Walks.{next-read, root-test, blank-slot, blank-not, blank-end, ended-slot, ended-room}
 use Rattle.shelf_page.proofs.blanks.Goals as goal
 use Rattle.shelf_page.proofs.blanks.Goals.{In-loop-slot}

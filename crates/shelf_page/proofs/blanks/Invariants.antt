@@ -1,13 +1,9 @@
 -- `shelf_page::blanks` meets its contract. The loop's invariant: what remains of the chain is ended, and its test is the whole chain's.
 -- Assumes nothing.
-use mathlib.Core.Logic.{◌≢◌}
-use mathlib.Core.Bool.{true, false}
-use mathlib.Core.Path.{◌≡◌, refl, sym, ap, ◌∙◌}
-use Prim.Native.Nat.{ℕ, ◌-◌, ◌≤◌, ◌<◌}
-use native.Mathlib.Omega.{arith}
-use borrow.Author.Tests.{not-true, not-false}
+use mathlib.Core.Bool.{true}
+use mathlib.Core.Path.{◌≡◌}
+use Prim.Native.Nat.{◌-◌, ◌≤◌}
 use Rattle.shelf_page.specs.Page.{next_of, chain, ended, blank, zero_root}
-use Rattle.shelf_page.proofs.Walks.{next-read, root-test, blank-slot, blank-not, blank-end, ended-slot, ended-room}
 use Rattle.shelf_page.proofs.blanks.Given as goal
 
 abbrev pub invariant-loop-slot : goal.invariant-loop-slot

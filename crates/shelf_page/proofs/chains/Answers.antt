@@ -2,8 +2,6 @@
 -- Assumes nothing.
 use mathlib.Core.Path.{refl, sym, ◌∙◌}
 use native.Mathlib.Omega.{arith}
-use borrow.Author.Tests.{not-true, not-false}
-use borrow.Author.Rules.{rules}
 use lib.ListN.{replicate}
 use Rattle.shelf_page.proofs.Walks.{get_or-zeros, zeros-small}
 use Rattle.shelf_page.proofs.Soundness.{as-true, as-false, tally-small, no-ready-end, no-spare-end, no-once, all-but-blank}

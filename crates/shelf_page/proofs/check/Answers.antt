@@ -2,8 +2,6 @@
 -- Assumes nothing.
 use mathlib.Core.Path.{sym, ◌∙◌}
 use native.Mathlib.Omega.{arith}
-use borrow.Author.Tests.{not-true, not-false}
-use borrow.Author.Rules.{rules}
 use Rattle.shelf_page.proofs.Soundness.{check-short, check-length, check-low, check-high, check-zero, check-chains, check_sound}
 use Rattle.shelf_page.proofs.check.Goals as goal
 

@@ -1,7 +1,7 @@
 -- `shelf_page::each_once` meets its contract. The loop's invariant: the slots above k were counted once, so the test of the slots 1..k decides.
 -- Assumes nothing.
 use mathlib.Core.Path.{◌≡◌, refl, sym, ap, ◌∙◌}
-use Prim.Native.Nat.{ℕ, ◌≤◌}
+use Prim.Native.Nat.{ℕ}
 use native.Mathlib.Omega.{arith}
 use lib.ListN.{get_or}
 use Rattle.shelf_page.specs.Page.{all_one}

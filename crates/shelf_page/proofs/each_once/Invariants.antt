@@ -1,11 +1,9 @@
 -- `shelf_page::each_once` meets its contract. The loop's invariant: the slots above k were counted once, so the test of the slots 1..k decides.
 -- Assumes nothing.
-use mathlib.Core.Path.{◌≡◌, refl, sym, ap, ◌∙◌}
-use Prim.Native.Nat.{ℕ, ◌≤◌}
-use native.Mathlib.Omega.{arith}
+use mathlib.Core.Path.{◌≡◌}
+use Prim.Native.Nat.{◌≤◌}
 use lib.ListN.{get_or}
 use Rattle.shelf_page.specs.Page.{all_one}
-use Rattle.shelf_page.proofs.Walks.{all_one-zero, all_one-not, all_one-more}
 use Rattle.shelf_page.proofs.each_once.Given as goal
 
 abbrev pub invariant-loop-k : goal.invariant-loop-k

@@ -1,14 +1,10 @@
 -- `shelf_page::tally` meets its contract. The loop's invariant: the counts, with what remains of the chain, are those at entry with the whole chain.
 -- Assumes nothing.
-use mathlib.Core.Logic.{◌≢◌}
-use mathlib.Core.Path.{◌≡◌, refl, sym, ap, ◌∙◌}
-use Prim.Native.Nat.{ℕ, ◌+◌, ◌-◌, ◌≤◌, ◌<◌}
-use native.Mathlib.Omega.{arith}
-use lib.ListN.{length, get_or, set, length-set}
+use mathlib.Core.Path.{◌≡◌}
+use Prim.Native.Nat.{ℕ, ◌+◌, ◌-◌, ◌≤◌}
+use lib.ListN.{length, get_or}
 use Rattle.bits.specs.Counting.{count}
-use Rattle.bits.proofs.Counting.{count-le}
 use Rattle.shelf_page.specs.Page.{next_of, chain, ended}
-use Rattle.shelf_page.proofs.Walks.{tallied-not, tallied-end, next-read, chain_length, tally-turn, ended-slot, ended-none, ended-above}
 use Rattle.shelf_page.proofs.tally.Given as goal
 
 abbrev pub invariant-loop-slot : goal.invariant-loop-slot

@@ -1,6 +1,5 @@
 -- `shelf_slots::link_after` meets its contract.
 -- Assumes nothing.
-use borrow.Author.Rules.{rules}
 use borrow.Author.Tests.{eq-eqb, ne_eqb}
 use Rattle.shelf_slots.specs.Steps.{link_after}
 use Rattle.shelf_slots.proofs.link_after.Goals as goal

@@ -1,7 +1,6 @@
 -- `shelf_slots::move_after` meets its contract: the slot, then the two links.
 -- Assumes nothing.
 use native.Mathlib.Omega.{arith}
-use borrow.Author.Rules.{rules}
 use lib.ListN.{length}
 use Rattle.shelf_slots.specs.Steps.{moved_after}
 use Rattle.shelf_slots.proofs.Links.{link-room}

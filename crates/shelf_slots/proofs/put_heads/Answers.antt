@@ -1,6 +1,5 @@
 -- `shelf_slots::put_heads` meets its contract: one head, then the other.
 -- Assumes nothing.
-use borrow.Author.Rules.{rules}
 use Rattle.shelf_slots.specs.Slots.{put_heads}
 use Rattle.shelf_slots.proofs.put_heads.Goals as goal
 

@@ -1,12 +1,9 @@
 -- `shelf_slots::put_root` meets its contract. The loop's invariant: the first i bytes of the root are stored.
 -- Assumes nothing.
-use mathlib.Core.List.{List}
-use mathlib.Core.Path.{◌≡◌, refl, sym, ap, ◌∙◌}
-use Prim.Native.Nat.{ℕ, ◌+◌, ◌-◌, ◌≤◌, ◌<◌}
-use native.Mathlib.Omega.{arith}
-use lib.Seq.{take_all, sets}
-use lib.ListN.{take, length, get_or, set, length-set}
-use Rattle.shelf_slots.proofs.Bytes.{sets_more}
+use mathlib.Core.Path.{◌≡◌}
+use Prim.Native.Nat.{◌-◌, ◌≤◌}
+use lib.Seq.{sets}
+use lib.ListN.{take, length}
 use Rattle.shelf_slots.proofs.put_root.Given as goal
 
 abbrev pub invariant-loop-i : goal.invariant-loop-i

@@ -1,6 +1,5 @@
 -- `shelf_slots::put_slot` meets its contract: the next slot, then the root.
 -- Assumes nothing.
-use borrow.Author.Rules.{rules}
 use Rattle.shelf_slots.specs.Slots.{put_slot}
 use Rattle.shelf_slots.proofs.put_slot.Goals as goal
 

@@ -1,9 +1,9 @@
 -- `shelf_slots::take_root` meets its contract. The loop's invariant: the first i bytes are the page's.
 -- Assumes nothing.
 use mathlib.Core.Path.{◌≡◌, refl, ◌∙◌}
-use Prim.Native.Nat.{ℕ, ◌+◌, ◌-◌, ◌≤◌, ◌<◌}
+use Prim.Native.Nat.{◌+◌, ◌-◌}
 use native.Mathlib.Omega.{arith}
-use lib.ListN.{length, get_or, length-set}
+use lib.ListN.{get_or, length-set}
 use Rattle.shelf_slots.proofs.Bytes.{copy_more, part_ext}
 use Rattle.shelf_slots.proofs.take_root.Goals as goal
 

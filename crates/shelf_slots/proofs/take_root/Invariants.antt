@@ -1,10 +1,8 @@
 -- `shelf_slots::take_root` meets its contract. The loop's invariant: the first i bytes are the page's.
 -- Assumes nothing.
-use mathlib.Core.Path.{◌≡◌, refl, ◌∙◌}
+use mathlib.Core.Path.{◌≡◌}
 use Prim.Native.Nat.{ℕ, ◌+◌, ◌-◌, ◌≤◌, ◌<◌}
-use native.Mathlib.Omega.{arith}
-use lib.ListN.{length, get_or, length-set}
-use Rattle.shelf_slots.proofs.Bytes.{copy_more, part_ext}
+use lib.ListN.{length, get_or}
 use Rattle.shelf_slots.proofs.take_root.Given as goal
 
 abbrev pub invariant-loop-i : goal.invariant-loop-i

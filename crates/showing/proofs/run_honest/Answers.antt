@@ -2,7 +2,6 @@
 -- Assumes nothing.
 use mathlib.Core.Path.{sym, ◌∙◌}
 use Rattle.mpc.proofs.Places.{output-room, output-size, memory-held}
-use borrow.Author.Rules.{rules}
 use Rattle.showing.proofs.run_honest.Goals as goal
 
 pub slice_bounds-y-end : goal.slice_bounds-y-end

@@ -1,7 +1,6 @@
 -- `showing::show` meets its contract.
 -- Assumes nothing.
 use mathlib.Core.Path.{refl}
-use borrow.Author.Rules.{rules}
 use Rattle.mpc.proofs.Opened.{opened}
 use Rattle.mpc.proofs.Lent.{known-few, work-long}
 use Rattle.shown_parts.proofs.Shows.{show-refused, show-short, show-left}

@@ -1,6 +1,5 @@
 -- `showing::show_lent` meets its contract.
 -- Assumes nothing.
-use mathlib.Core.Path.{refl}
 use native.Mathlib.Omega.{arith}
 use Rattle.mpc.proofs.Opened.{counted, ands-low}
 use Rattle.shown_parts.proofs.Shows.{show-parties, show-index, show-length, show-unused, show-done, indices-tested, inputs-tested, parts-tested}

@@ -1,10 +1,9 @@
 -- `shown_parts::hide_row` meets its contract. The loop's invariant: the first k bytes are copied.
 -- Assumes nothing.
-use mathlib.Core.Path.{◌≡◌, refl, sym, ◌∙◌}
-use Prim.Native.Nat.{◌+◌, ◌-◌, ◌*◌, ◌≤◌}
+use mathlib.Core.Path.{refl}
+use Prim.Native.Nat.{◌-◌, ◌*◌}
 use native.Mathlib.Omega.{arith}
-use borrow.Rule.Slice.PartMut.{same_len_mid}
-use lib.ListN.{length, take, length-set}
+use lib.ListN.{length-set}
 use Rattle.bits.proofs.Copies.{copy_more, copy-end, part-cleared}
 use Rattle.shown_parts.proofs.hide_row.Goals as goal
 

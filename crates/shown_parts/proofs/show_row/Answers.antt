@@ -3,7 +3,6 @@
 use native.Mathlib.Omega.{arith}
 use Rattle.mpc.proofs.Places.{few_wires}
 use Rattle.shown_parts.proofs.Shows.{row-asks, row-packed}
-use borrow.Author.Rules.{rules}
 use Rattle.shown_parts.proofs.show_row.Goals as goal
 
 pub layout-l-requires : goal.layout-l-requires

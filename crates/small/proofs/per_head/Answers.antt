@@ -1,11 +1,10 @@
 -- `small::per_head` meets its contract.
 -- Assumes nothing.
-use borrow.Author.Rules.{rules}
 use mathlib.Core.Path.{ap}
 use Prim.Native.Nat.{◌*◌, ◌+◌, ℕ}
 use native.Mathlib.Omega.{arith}
 use Rattle.small.proofs.Bounds.{head-low}
-use Rattle.small.specs.Steps.{pairs, per_head}
+use Rattle.small.specs.Steps.{per_head}
 use Rattle.small.proofs.per_head.Goals as goal
 
 pub overflow_mul-result : goal.overflow_mul-result

@@ -1,7 +1,6 @@
 -- `small::small` meets its contract: by the sizes, the place and the length of the output.
 -- Assumes nothing.
-use borrow.Author.Rules.{rules}
-use borrow.Author.Tests.{ltb-false, ltb-true}
+use borrow.Author.Tests.{ltb-false}
 use mathlib.Core.Path.{sym}
 use Prim.Native.Nat.{◌*◌, ◌+◌, ◌-◌}
 use native.Mathlib.Omega.{arith}

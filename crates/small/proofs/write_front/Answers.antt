@@ -1,6 +1,5 @@
 -- `small::write_front` meets its contract.
 -- Assumes nothing.
-use borrow.Author.Rules.{rules}
 use Rattle.small.proofs.Writes.{front-written}
 use Rattle.small.proofs.write_front.Goals as goal
 

@@ -1,6 +1,5 @@
 -- `small::write_gate` meets its contract.
 -- Assumes nothing.
-use borrow.Author.Rules.{rules}
 use mathlib.Core.Path.{◌∙◌, ap}
 use Prim.Native.Nat.{◌*◌}
 use lib.Seq.{sets}

@@ -1,6 +1,5 @@
 -- `small::write_one` meets its contract.
 -- Assumes nothing.
-use borrow.Author.Rules.{rules}
 use Prim.Native.Nat.{◌-◌}
 use native.Mathlib.Omega.{arith}
 use Rattle.small.proofs.Files.{gates-some}

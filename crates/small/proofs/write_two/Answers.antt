@@ -1,13 +1,12 @@
 -- `small::write_two` meets its contract.
 -- Assumes nothing.
-use borrow.Author.Rules.{rules}
 use Prim.Native.Nat.{◌-◌}
 use native.Mathlib.Omega.{arith}
 use native.Mathlib.Nat.{div-lt_iff_lt-mul}
 use Rattle.small.proofs.Bounds.{head-some}
 use Rattle.small.proofs.Files.{pairs-some}
 use Rattle.small.proofs.Writes.{two-written}
-use Rattle.small.specs.Steps.{count_of, pairs}
+use Rattle.small.specs.Steps.{count_of}
 use Rattle.small.proofs.write_two.Goals as goal
 
 pub nonzero_div-head : goal.nonzero_div-head

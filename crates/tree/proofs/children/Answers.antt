@@ -5,7 +5,6 @@ use Rattle.hashing.specs.Inputs.{node_input}
 use Rattle.bits.specs.Bytes.{le_bytes}
 use Rattle.keccak.specs.Sponge.{shake128}
 use mathlib.Core.Path.{ap, ◌∙◌}
-use borrow.Author.Rules.{rules}
 use Rattle.tree.proofs.children.Goals as goal
 
 pub returns : goal.returns

@@ -1,6 +1,5 @@
 -- `tree::grandchildren` meets its contract: the children of the left child, then those of the right one.
 -- Assumes nothing.
-use borrow.Author.Rules.{rules}
 use native.Mathlib.Omega.{arith}
 use mathlib.Core.Path.{sym, ◌∙◌}
 use lib.Seq.{length-take-le}

@@ -1,7 +1,6 @@
 -- `tree::leaves_of` meets its contract: a shift by h is a power of 2.
 -- Assumes nothing.
 use Rattle.tree.proofs.Nodes.{one_shl}
-use borrow.Author.Rules.{rules}
 use Rattle.tree.proofs.leaves_of.Goals as goal
 
 pub returns : goal.returns

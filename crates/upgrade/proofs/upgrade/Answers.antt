@@ -1,6 +1,5 @@
 -- `upgrade::upgrade` meets its contract: by what the old reading answers.
 -- Assumes nothing.
-use borrow.Author.Rules.{rules}
 use mathlib.Core.Path.{refl, sym, ◌∙◌}
 use mathlib.Core.Logic.{inl}
 use native.Mathlib.Omega.{arith}

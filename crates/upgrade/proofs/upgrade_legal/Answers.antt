@@ -1,6 +1,5 @@
 -- `upgrade::upgrade_legal` meets its contract: by the length of the output.
 -- Assumes nothing.
-use borrow.Author.Rules.{rules}
 use mathlib.Core.Path.{refl}
 use native.Mathlib.Omega.{arith}
 use Rattle.upgrade.proofs.Same.{short-output, long-output}

@@ -1,13 +1,10 @@
 -- `upgrade::write_fields` meets its contract. The loop's invariant: the first k fields are written.
 -- Assumes nothing.
-use mathlib.Core.Path.{◌≡◌, refl, ap, ◌∙◌}
-use mathlib.Core.Logic.{inl}
-use Prim.Native.Nat.{ℕ, ◌-◌, ◌≤◌}
-use native.Mathlib.Omega.{arith}
+use mathlib.Core.Path.{◌≡◌}
+use Prim.Native.Nat.{◌-◌, ◌≤◌}
 use lib.ListN.{length}
-use lib.Seq.{sets, length-sets}
+use lib.Seq.{sets}
 use Rattle.building.specs.Files.{bytes_of}
-use Rattle.building.proofs.Bytes.{bytes-more, bytes-none}
 use Rattle.upgrade.specs.Upgrade.{old_fields}
 use Rattle.upgrade.proofs.write_fields.Given as goal
 

@@ -2,10 +2,7 @@
 -- Assumes nothing.
 use Rattle.walk.proofs.Turns.{ready, ended, outputs-done, values-done}
 use native.Mathlib.Omega.{arith}
-use mathlib.Core.Path.{◌≡◌, refl, sym, ap, ◌∙◌}
-use Prim.Native.Nat.{ℕ, zero, suc, ◌+◌, ◌-◌, ◌*◌, ◌≤◌, ◌<◌}
-use lib.ListN.{length, get_or, set, length-set}
-use borrow.Author.Rules.{rules}
+use Prim.Native.Nat.{◌-◌}
 use Rattle.walk.proofs.run.Goals as goal
 
 pub head-head-requires : goal.head-head-requires

@@ -1,19 +1,12 @@
 -- `walk::walk` meets its contract. The loop's invariant: the gates that are left, from the memory so far, give what all of them give.
 -- Assumes nothing.
-use borrow.Author.Rules.{rules}
-use native.Mathlib.Omega.{arith}
-use mathlib.Core.Path.{◌≡◌, refl, sym, ap, ◌∙◌}
-use Prim.Native.Nat.{ℕ, zero, suc, ◌+◌, ◌-◌, ◌*◌, ◌≤◌, ◌<◌}
-use lib.ListN.{length, get_or, set, length-set}
+use mathlib.Core.Path.{◌≡◌}
+use Prim.Native.Nat.{◌+◌, ◌-◌, ◌≤◌}
+use lib.ListN.{length}
 use mathlib.Core.Bool.{true}
 use Rattle.circuit.specs.Circuit.{ands}
 use Rattle.circuit.specs.Steps.{walks, wired, gates_from}
-use Rattle.circuit.proofs.Chain.{Here, here, inside, next-read, gate-read, and_one-le, ands-turn}
-use Rattle.circuit.proofs.Run.{wired-on}
-use Rattle.planes.specs.declared.Layout.{Layout}
-use Rattle.gates.proofs.Steps.{room-kept}
-use Rattle.walk.specs.Steps.{layout_of, walked}
-use Rattle.walk.proofs.Turns.{layout-room, layout-wires, layout-ands, layout-wired, walked_end, walk_turn}
+use Rattle.walk.specs.Steps.{walked}
 use Rattle.walk.proofs.walk.Given as goal
 
 abbrev pub invariant-loop-left : goal.invariant-loop-left

@@ -3,7 +3,6 @@
 use mathlib.Core.Path.{◌≡◌, refl, ap}
 use Prim.Native.Nat.{ℕ, ◌^◌, ◌<◌}
 use lib.Bits.{bit_xor, bit_and}
-use borrow.Author.Rules.{rules}
 use Rattle.bits.specs.Bits.{odd}
 use Rattle.words.specs.Words.{every}
 use Rattle.words.proofs.Columns.{every-lt}

@@ -3,7 +3,6 @@
 use Rattle.bits.specs.Bits.{odd}
 use Rattle.words.proofs.Columns.{every-lt, every-word}
 use native.Mathlib.Omega.{arith}
-use borrow.Author.Rules.{rules}
 use Rattle.words.proofs.every.Goals as goal
 
 pub overflow_mul-result : goal.overflow_mul-result

@@ -2,7 +2,6 @@
 -- Assumes nothing.
 use mathlib.Core.Path.{ap, ◌∙◌}
 use lib.Count.{ones}
-use borrow.Author.Rules.{rules}
 use Rattle.bits.specs.Bits.{bit_val}
 use Rattle.bits.proofs.Numbers.{mod-two}
 use Rattle.words.proofs.Folds.{ones-parity}

@@ -1,6 +1,5 @@
 -- `bristol::conversion::convert` meets its contract: by the header.
 -- Assumes nothing.
-use borrow.Author.Rules.{rules}
 use mathlib.Core.Path.{sym, ap, ◌∙◌}
 use Rattle.bristol_lines.specs.Rules.{Reading, gates_below, read_text}
 use Rattle.bristol_lines.specs.Steps.{gates_at}

@@ -1,6 +1,5 @@
 -- `bristol::conversion::convert_gates` meets its contract: by the test of the gate lines.
 -- Assumes nothing.
-use borrow.Author.Rules.{rules}
 use mathlib.Core.Path.{sym, ap, ◌∙◌}
 use Rattle.bristol_lines.specs.Steps.{verdict}
 use Rattle.bristol.proofs.Writes.{convert-refused}

@@ -1,6 +1,5 @@
 -- `bristol::conversion::convert_good` meets its contract: by the length of the output.
 -- Assumes nothing.
-use borrow.Author.Rules.{rules}
 use native.Mathlib.Omega.{arith}
 use Rattle.bristol.proofs.Writes.{convert-short, convert-long}
 use Rattle.bristol.proofs.conversion.convert_good.Goals as goal

@@ -1,11 +1,10 @@
 -- `bristol::walk::check_gates` meets its contract. The loop's invariant: the lines that are left, below those whose wires are flagged, give what all of them give.
 -- Assumes nothing.
-use borrow.Author.Rules.{rules}
 use native.Mathlib.Omega.{arith}
 use mathlib.Core.Path.{sym}
 use Prim.Native.Nat.{ℕ}
 use lib.ListN.{length-replicate}
-use Rattle.bristol_lines.proofs.Lined.{Walked, walked_none, walked-refused, writes-inside, walked_more, walked-over, walked_all, told-refused, told_writes}
+use Rattle.bristol_lines.proofs.Lined.{walked_none, walked-refused, writes-inside, walked_more, walked-over, walked_all, told-refused, told_writes}
 use Rattle.circuit.specs.Steps.{wire_bytes}
 use Rattle.circuit.proofs.Slots.{zero_bits}
 use Rattle.bristol.proofs.walk.check_gates.Goals as goal

@@ -1,6 +1,5 @@
 -- `bristol::walk::check_line` meets its contract: by cases of the gate line.
 -- Assumes nothing.
-use borrow.Author.Rules.{rules}
 use mathlib.Core.Path.{sym, ap, ◌∙◌}
 use Rattle.bristol_lines.specs.Steps.{line_refusal}
 use Rattle.bristol.proofs.walk.check_line.Goals as goal

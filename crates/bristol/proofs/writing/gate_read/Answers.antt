@@ -1,6 +1,5 @@
 -- `bristol::writing::gate_read` meets its contract: a line that is known to have a gate reads as one.
 -- Assumes nothing.
-use borrow.Author.Rules.{rules}
 use Rattle.bristol.proofs.writing.gate_read.Goals as goal
 
 pub returns-in-Read : goal.returns-in-Read

@@ -1,6 +1,5 @@
 -- `bristol::writing::write_fields` meets its contract: of each number its low 32 bits are written.
 -- Assumes nothing.
-use borrow.Author.Rules.{rules}
 use mathlib.Core.Path.{ap, ◌∙◌}
 use Prim.Native.Nat.{◌*◌}
 use lib.Seq.{sets}

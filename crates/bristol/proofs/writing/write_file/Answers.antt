@@ -1,6 +1,5 @@
 -- `bristol::writing::write_file` meets its contract: header, output wires and records make the file.
 -- Assumes nothing.
-use borrow.Author.Rules.{rules}
 use native.Mathlib.Omega.{arith}
 use mathlib.Core.Path.{ap, ◌∙◌}
 use mathlib.Core.List.{List, flatten}

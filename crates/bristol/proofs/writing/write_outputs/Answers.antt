@@ -2,7 +2,7 @@
 -- Assumes nothing.
 use native.Mathlib.Omega.{arith}
 use Prim.Native.Nat.{◌-◌}
-use Rattle.bristol.proofs.Stores.{Outputs, outputs-start, outputs-more, outputs-all}
+use Rattle.bristol.proofs.Stores.{outputs-start, outputs-more, outputs-all}
 use Rattle.bristol.proofs.writing.write_outputs.Goals as goal
 
 pub overflow_add-first : goal.overflow_add-first

@@ -1,8 +1,7 @@
 -- `bristol::writing::write_outputs` meets its contract. The loop's invariant: the numbers of the first wires are written.
 -- Assumes nothing.
-use native.Mathlib.Omega.{arith}
 use Prim.Native.Nat.{◌-◌}
-use Rattle.bristol.proofs.Stores.{Outputs, outputs-start, outputs-more, outputs-all}
+use Rattle.bristol.proofs.Stores.{Outputs}
 use Rattle.bristol.proofs.writing.write_outputs.Given as goal
 
 abbrev pub invariant-loop-j : goal.invariant-loop-j

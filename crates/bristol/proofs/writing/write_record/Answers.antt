@@ -1,6 +1,5 @@
 -- `bristol::writing::write_record` meets its contract: in each arm the gate is that arm's.
 -- Assumes nothing.
-use borrow.Author.Rules.{rules}
 use mathlib.Core.Path.{refl, ◌∙◌}
 use Rattle.bristol_lines.specs.Conversion.{record_of}
 use Rattle.bristol.proofs.writing.write_record.Goals as goal

@@ -1,14 +1,9 @@
 -- `bristol::writing::write_records` meets its contract. The loop's invariant: storing the record of the gate that is held, and of those that are left, gives what storing all gives.
 -- Assumes nothing.
-use borrow.Author.Rules.{rules}
 use native.Mathlib.Omega.{arith}
 use mathlib.Core.Path.{ap}
-use mathlib.Core.List.{◌∷◌}
 use Prim.Native.Nat.{ℕ, ◌+◌, ◌-◌}
-use lib.ListN.{drop}
-use Rattle.bristol_text.specs.Text.{lines}
-use Rattle.bristol_lines.specs.Steps.{line_of, gates_from, stored}
-use Rattle.bristol.proofs.Writes.{Held, held_start, held_more, held_all, never-unknown, never-malformed, next-line, room-same}
+use Rattle.bristol.proofs.Writes.{held_start, held_more, held_all, never-unknown, never-malformed, next-line, room-same}
 use Rattle.bristol.proofs.writing.write_records.Goals as goal
 
 pub overflow_sub-left : goal.overflow_sub-left

@@ -1,7 +1,5 @@
 -- `bristol_lines::gates::begins_with` meets its contract: the three tests.
 -- Assumes nothing.
-use borrow.Author.Rules.{rules}
-use native.Mathlib.Omega.{arith}
 use Rattle.bristol_lines.specs.Steps.{starts_with}
 use Rattle.bristol_lines.proofs.gates.begins_with.Goals as goal
 

@@ -1,6 +1,5 @@
 -- `bristol_lines::gates::first_of` meets its contract: in each arm the first finding is that arm's.
 -- Assumes nothing.
-use borrow.Author.Rules.{rules}
 use Rattle.bristol_lines.specs.Steps.{first_of}
 use Rattle.bristol_lines.proofs.gates.first_of.Goals as goal
 

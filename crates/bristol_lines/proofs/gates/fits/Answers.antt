@@ -1,6 +1,5 @@
 -- `bristol_lines::gates::fits` meets its contract: in each arm the gate is that arm's.
 -- Assumes nothing.
-use borrow.Author.Rules.{rules}
 use mathlib.Core.Path.{ap₂, ◌∙◌}
 use mathlib.Core.Bool.{◌&&◌}
 use Rattle.bristol_lines.specs.Steps.{fits_flags}

@@ -1,7 +1,5 @@
 -- `bristol_lines::gates::gate_of` meets its contract: by the kind and the test on the first numbers.
 -- Assumes nothing.
-use borrow.Author.Rules.{rules}
-use native.Mathlib.Omega.{arith}
 use mathlib.Core.Path.{sym, ◌∙◌}
 use Rattle.bristol_lines.specs.Steps.{gate_from}
 use Rattle.bristol_lines.proofs.gates.gate_of.Goals as goal

@@ -1,6 +1,5 @@
 -- `bristol_lines::gates::kind_finding` meets its contract: in each arm the kind is that arm's.
 -- Assumes nothing.
-use borrow.Author.Rules.{rules}
 use Rattle.bristol_lines.specs.Rules.{is_known}
 use Rattle.bristol_lines.specs.Steps.{kind_finding}
 use Rattle.bristol_lines.proofs.gates.kind_finding.Goals as goal

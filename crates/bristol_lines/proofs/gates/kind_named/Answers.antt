@@ -1,7 +1,6 @@
 -- `bristol_lines::gates::kind_named` meets its contract: the three tests in turn.
 -- Assumes nothing.
 use mathlib.Core.Path.{sym, ◌∙◌}
-use borrow.Author.Rules.{rules}
 use Rattle.bristol_lines.proofs.Names.{is-xor, is-and, is-inv, is-other}
 use Rattle.bristol_lines.proofs.gates.kind_named.Goals as goal
 

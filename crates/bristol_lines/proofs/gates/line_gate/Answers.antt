@@ -1,6 +1,5 @@
 -- `bristol_lines::gates::line_gate` meets its contract: by what is found first.
 -- Assumes nothing.
-use borrow.Author.Rules.{rules}
 use mathlib.Core.Path.{◌≡◌, ap, ap₂, ◌∙◌}
 use mathlib.Core.Bool.{◌&&◌, and_comm}
 use Rattle.bristol_lines.specs.Steps.{form_finding, first_of}

@@ -2,7 +2,6 @@
 -- Assumes nothing.
 use native.Mathlib.Omega.{arith}
 use mathlib.Core.Path.{◌∙◌}
-use borrow.Author.Rules.{rules}
 use Rattle.bristol_lines.proofs.Names.{kind-long, kind-three}
 use Rattle.bristol_lines.proofs.gates.line_kind.Goals as goal
 

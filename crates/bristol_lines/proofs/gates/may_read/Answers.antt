@@ -1,8 +1,5 @@
 -- `bristol_lines::gates::may_read` meets its contract: an input, or by where the wire is written.
 -- Assumes nothing.
-use borrow.Author.Rules.{rules}
-use mathlib.Core.Path.{ap, ◌∙◌}
-use mathlib.Core.Bool.{Bool}
 use borrow.Author.Tests.{lt-ltb, le-ltb}
 use Rattle.bristol_lines.specs.Steps.{may_read}
 use Rattle.bristol_lines.proofs.gates.may_read.Goals as goal

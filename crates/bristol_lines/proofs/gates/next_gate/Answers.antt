@@ -1,6 +1,5 @@
 -- `bristol_lines::gates::next_gate` meets its contract: by cases of the next line.
 -- Assumes nothing.
-use borrow.Author.Rules.{rules}
 use native.Mathlib.Omega.{arith}
 use Rattle.bristol_text.proofs.Lines.{line_after, line-inside}
 use Rattle.bristol_lines.proofs.Lined.{gate-none, gate-here}

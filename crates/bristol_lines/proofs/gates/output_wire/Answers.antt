@@ -1,6 +1,5 @@
 -- `bristol_lines::gates::output_wire` meets its contract: in each arm the gate is that arm's.
 -- Assumes nothing.
-use borrow.Author.Rules.{rules}
 use mathlib.Core.Path.{refl}
 use Rattle.bristol_lines.specs.Rules.{writes}
 use Rattle.bristol_lines.proofs.gates.output_wire.Goals as goal

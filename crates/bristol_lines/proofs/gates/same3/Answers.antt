@@ -1,6 +1,5 @@
 -- `bristol_lines::gates::same3` meets its contract.
 -- Assumes nothing.
-use borrow.Author.Rules.{rules}
 use Rattle.bits.specs.Bytes.{same_bytes}
 use Rattle.bristol_lines.proofs.gates.same3.Goals as goal
 

@@ -1,6 +1,5 @@
 -- `bristol_lines::heading::counts` meets its contract: by cases of what is read.
 -- Assumes nothing.
-use borrow.Author.Rules.{rules}
 use mathlib.Core.Path.{sym, ◌∙◌}
 use Rattle.bristol_lines.proofs.Heads.{counts-none, counts-one, counts-more, counts_all}
 use Rattle.bristol_lines.proofs.heading.counts.Goals as goal

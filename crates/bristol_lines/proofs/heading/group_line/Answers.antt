@@ -1,6 +1,5 @@
 -- `bristol_lines::heading::group_line` meets its contract: by cases of the next line.
 -- Assumes nothing.
-use borrow.Author.Rules.{rules}
 use native.Mathlib.Omega.{arith}
 use mathlib.Core.Path.{sym, ◌∙◌}
 use Rattle.bristol_text.proofs.Lines.{line_after, line-inside}

@@ -1,6 +1,5 @@
 -- `bristol_lines::heading::groups` meets its contract: the first number, and so many sizes after it.
 -- Assumes nothing.
-use borrow.Author.Rules.{rules}
 use mathlib.Core.Path.{sym, ◌∙◌}
 use Rattle.bristol_lines.proofs.Heads.{groups_none, groups-room, groups-all}
 use Rattle.bristol_lines.proofs.heading.groups.Goals as goal

@@ -1,6 +1,5 @@
 -- `bristol_lines::heading::read_header` meets its contract: by cases of line 1.
 -- Assumes nothing.
-use borrow.Author.Rules.{rules}
 use native.Mathlib.Omega.{arith}
 use mathlib.Core.Path.{sym, ◌∙◌}
 use Rattle.bristol_text.proofs.Lines.{line_after, line-inside}

@@ -1,6 +1,5 @@
 -- `bristol_lines::heading::read_inputs` meets its contract: by cases of the sum on the line.
 -- Assumes nothing.
-use borrow.Author.Rules.{rules}
 use native.Mathlib.Omega.{arith}
 use mathlib.Core.Path.{sym, ap, ◌∙◌}
 use Rattle.bristol_lines.specs.Rules.{output_line}

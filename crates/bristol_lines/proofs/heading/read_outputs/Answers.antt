@@ -1,6 +1,5 @@
 -- `bristol_lines::heading::read_outputs` meets its contract: by cases of the sum on the line.
 -- Assumes nothing.
-use borrow.Author.Rules.{rules}
 use native.Mathlib.Omega.{arith}
 use Rattle.bristol_lines.proofs.Heads.{sum-at, sum-none, outputs-none, outputs-above, outputs-few, outputs-many, outputs-begun}
 use Rattle.bristol_lines.proofs.heading.read_outputs.Goals as goal

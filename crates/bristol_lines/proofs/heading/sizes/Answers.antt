@@ -1,9 +1,8 @@
 -- `bristol_lines::heading::sizes` meets its contract. The loop's invariant: the sizes that are left, with the sum so far, give what all of them give.
 -- Assumes nothing.
-use borrow.Author.Rules.{rules}
 use native.Mathlib.Omega.{arith}
 use mathlib.Core.Path.{sym, ◌∙◌}
-use Rattle.bristol_lines.proofs.Heads.{Summed, summed-none, summed-long, summed-bad, summed-more, summed-all, summed-short, size_small}
+use Rattle.bristol_lines.proofs.Heads.{summed-none, summed-long, summed-bad, summed-more, summed-all, summed-short, size_small}
 use Rattle.bristol_lines.proofs.heading.sizes.Goals as goal
 
 pub loop-at-init : goal.loop-at-init

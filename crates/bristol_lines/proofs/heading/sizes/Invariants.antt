@@ -1,9 +1,6 @@
 -- `bristol_lines::heading::sizes` meets its contract. The loop's invariant: the sizes that are left, with the sum so far, give what all of them give.
 -- Assumes nothing.
-use borrow.Author.Rules.{rules}
-use native.Mathlib.Omega.{arith}
-use mathlib.Core.Path.{sym, ◌∙◌}
-use Rattle.bristol_lines.proofs.Heads.{Summed, summed-none, summed-long, summed-bad, summed-more, summed-all, summed-short, size_small}
+use Rattle.bristol_lines.proofs.Heads.{Summed}
 use Rattle.bristol_lines.proofs.heading.sizes.Given as goal
 
 abbrev pub invariant-loop-at : goal.invariant-loop-at

@@ -1,7 +1,6 @@
 -- `circuit::records::and_one` meets its contract: in each arm the gate is that arm's.
 -- Assumes nothing.
 use mathlib.Core.Path.{sym, ap}
-use borrow.Author.Rules.{rules}
 use Rattle.circuit.specs.Steps.{and_one}
 use Rattle.circuit.proofs.records.and_one.Goals as goal
 

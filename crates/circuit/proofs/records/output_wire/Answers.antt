@@ -1,7 +1,5 @@
 -- `circuit::records::output_wire` meets its contract.
 -- Assumes nothing.
-use native.Mathlib.Omega.{arith}
-use borrow.Author.Rules.{rules}
 use Rattle.circuit.proofs.Slots.{width-known}
 use Rattle.circuit.proofs.records.output_wire.Goals as goal
 

@@ -1,6 +1,5 @@
 -- `circuit::records::record` meets its contract.
 -- Assumes nothing.
-use borrow.Author.Rules.{rules}
 use Rattle.circuit.proofs.records.record.Goals as goal
 
 pub record_with-requires : goal.record_with-requires

@@ -1,7 +1,5 @@
 -- `correcting::loading::clear_corrections` meets its contract.
 -- Assumes nothing.
-use borrow.Author.Rules.{rules}
-use native.Mathlib.Omega.{arith}
 use Rattle.correcting.proofs.Turns.{corrections-done}
 use Rattle.correcting.proofs.loading.clear_corrections.Goals as goal
 

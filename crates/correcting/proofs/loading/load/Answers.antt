@@ -1,6 +1,5 @@
 -- `correcting::loading::load` meets its contract.
 -- Assumes nothing.
-use borrow.Author.Rules.{rules}
 use native.Mathlib.Omega.{arith}
 use mathlib.Core.Path.{ap, ◌∙◌}
 use Rattle.planes.specs.Steps.{rows_at}

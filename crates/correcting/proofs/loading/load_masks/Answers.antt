@@ -2,12 +2,10 @@
 -- Assumes nothing.
 use native.Mathlib.Omega.{arith}
 use mathlib.Core.Path.{◌≡◌, refl, ◌∙◌}
-use Prim.Native.Nat.{◌-◌, ◌≤◌}
-use lib.ListN.{length}
+use Prim.Native.Nat.{◌-◌}
 use Rattle.bits.specs.Bits.{bit_at}
 use Rattle.words.specs.Words.{parity}
 use Rattle.gates.proofs.Steps.{room-kept}
-use Rattle.correcting.specs.Steps.{masks_loaded}
 use Rattle.correcting_gate.proofs.Words.{bit-low}
 use Rattle.correcting.proofs.Turns.{masks-none, masks-turn}
 use Rattle.correcting.proofs.loading.load_masks.Goals as goal

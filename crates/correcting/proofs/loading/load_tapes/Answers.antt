@@ -1,6 +1,5 @@
 -- `correcting::loading::load_tapes` meets its contract: the tapes are loaded, the words after them cleared.
 -- Assumes nothing.
-use borrow.Author.Rules.{rules}
 use native.Mathlib.Omega.{arith}
 use Rattle.gates.proofs.Steps.{room-kept}
 use Rattle.correcting.proofs.Turns.{tapes-done}

@@ -1,6 +1,5 @@
 -- `correcting::running::and_gate` meets its contract.
 -- Assumes nothing.
-use borrow.Author.Rules.{rules}
 use native.Mathlib.Omega.{arith}
 use mathlib.Core.Path.{◌∙◌}
 use Rattle.planes.proofs.Fits.{spare-small}

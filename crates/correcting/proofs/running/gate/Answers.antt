@@ -1,6 +1,5 @@
 -- `correcting::running::gate` meets its contract, kind by kind.
 -- Assumes nothing.
-use borrow.Author.Rules.{rules}
 use native.Mathlib.Omega.{arith}
 use Rattle.gates.proofs.Steps.{fit-gate}
 use Rattle.correcting.proofs.running.gate.Goals as goal

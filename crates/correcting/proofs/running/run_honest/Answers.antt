@@ -1,6 +1,5 @@
 -- `correcting::running::run_honest` meets its contract.
 -- Assumes nothing.
-use borrow.Author.Rules.{rules}
 use native.Mathlib.Omega.{arith}
 use Rattle.walk.proofs.Turns.{ready, ended}
 use Rattle.packed.proofs.Runs.{lent-held}

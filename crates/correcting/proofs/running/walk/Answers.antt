@@ -1,13 +1,8 @@
 -- `correcting::running::walk` meets its contract. The loop's invariant: the gates that are left, from the memory so far, give what all of them give.
 -- Assumes nothing.
-use borrow.Author.Rules.{rules}
 use native.Mathlib.Omega.{arith}
-use mathlib.Core.Path.{◌≡◌, refl, sym, ap, ◌∙◌}
-use Prim.Native.Nat.{ℕ, zero, suc, ◌+◌, ◌-◌, ◌*◌, ◌≤◌, ◌<◌}
-use lib.ListN.{length, get_or, set, length-set}
-use mathlib.Core.Bool.{true}
-use Rattle.circuit.specs.Circuit.{ands}
-use Rattle.circuit.specs.Steps.{walks, wired, gates_from}
+use mathlib.Core.Path.{refl, sym, ap, ◌∙◌}
+use Prim.Native.Nat.{◌-◌}
 use Rattle.circuit.proofs.Chain.{Here, here, inside, next-read, gate-read, and_one-le, ands-turn}
 use Rattle.circuit.proofs.Run.{wired-on}
 use Rattle.planes.specs.Steps.{rows_at}

@@ -3,13 +3,13 @@
 use mathlib.Core.List.{List}
 use native.Mathlib.Numerals.{add-one}
 use lib.Seq.{drop-cons}
-use lib.ListN.{drop_of_length-le, drop, length, get_or}
+use lib.ListN.{drop_of_length-le, length, get_or}
 use Rattle.keccak.proofs.Steps.{absorb_byte-room, joined-full, joined-part}
 use Rattle.keccak.specs.Steps.{absorb_byte, turned, absorbs}
 use Rattle.keccak.specs.declared.sponge.Sponge.{Sponge}
 use native.Mathlib.Omega.{arith}
 use mathlib.Core.Path.{◌≡◌, refl, sym, ap, ◌∙◌}
-use Prim.Native.Nat.{ℕ, ◌+◌, ◌-◌, ◌≤◌, ◌<◌}
+use Prim.Native.Nat.{ℕ, ◌+◌, ◌-◌, ◌<◌}
 use Rattle.keccak.proofs.sponge.absorb_bytes.Goals as goal
 use Rattle.keccak.proofs.sponge.absorb_bytes.Goals.{Joined-at-rate, then-at-rate, else-at-rate}
 
@@ -18,7 +18,7 @@ joined : (c : Joined-at-rate)
     → ◌≡◌ {A = Sponge} (record { lanes = c.if-at-rate.l; fill = c.if-at-rate.at }) (turned c.args.rate (record { lanes = c.xor_byte.new.l; fill = c.loop-i.at + 1 }))
 joined c =
     elim c.if-at-rate.branch [
-      then-at-rate w ↦ joined-full _ _ _ _ _ w.if-at-rate.true (w.l-is ∙ w.permute.ensures) w.at-is
+      | then-at-rate w ↦ joined-full _ _ _ _ _ w.if-at-rate.true (w.l-is ∙ w.permute.ensures) w.at-is
       | else-at-rate w ↦ joined-part _ _ _ _ _ w.if-at-rate.false w.l-is w.at-is
     ]
 

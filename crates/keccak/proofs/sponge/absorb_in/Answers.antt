@@ -8,7 +8,6 @@ use Rattle.keccak.proofs.Steps.{absorbs-room, absorbs-aligned, absorbs-parts}
 use native.Mathlib.Omega.{arith}
 use mathlib.Core.Path.{◌≡◌, sym, ap}
 use Rattle.keccak.specs.declared.sponge.Sponge.{Sponge}
-use borrow.Author.Rules.{rules}
 use Rattle.keccak.proofs.sponge.absorb_in.Goals as goal
 
 pub slice_bounds-absorb_bytes-end : goal.slice_bounds-absorb_bytes-end

@@ -1,11 +1,9 @@
 -- `keccak::sponge::absorb_lanes` meets its contract: the loop's invariant is that of the bytes, at a lane's start.
 -- Assumes nothing.
-use lib.ListN.{drop_of_length-le, length-take, length-drop, drop, length}
-use Rattle.keccak.proofs.Steps.{absorbs-segment, joined-full, joined-part}
-use Prim.Native.Nat.{◌%◌, ◌+◌, ◌-◌, ◌≤◌, ◌<◌}
+use lib.ListN.{drop, length}
+use Prim.Native.Nat.{◌%◌, ◌-◌, ◌≤◌, ◌<◌}
 use Rattle.keccak.specs.Steps.{absorbs}
-use native.Mathlib.Omega.{arith}
-use mathlib.Core.Path.{◌≡◌, refl, sym, ap, ◌∙◌}
+use mathlib.Core.Path.{◌≡◌}
 use Rattle.keccak.proofs.sponge.absorb_lanes.Given as goal
 
 abbrev pub invariant-loop-i : goal.invariant-loop-i

@@ -2,7 +2,6 @@
 -- Assumes nothing.
 use Rattle.keccak.specs.Steps.{byte_at}
 use mathlib.Core.Path.{refl}
-use borrow.Author.Rules.{rules}
 use Rattle.keccak.proofs.state.byte_at.Goals as goal
 
 pub returns : goal.returns

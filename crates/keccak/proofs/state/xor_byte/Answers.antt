@@ -4,7 +4,6 @@ use Prim.Native.Nat.{◌%◌, ◌*◌}
 use lib.Pow.{shl_exact}
 use Rattle.keccak.specs.Steps.{xor_byte}
 use native.Mathlib.Omega.{arith}
-use borrow.Author.Rules.{rules}
 use Rattle.keccak.proofs.state.xor_byte.Goals as goal
 
 pub returns : goal.returns

@@ -1,11 +1,9 @@
 -- `keccak::state::xor_lanes` meets its contract: the loop's invariant: what is left, XORed in from here, gives what all gives from the start.
 -- Assumes nothing.
-use Rattle.keccak.proofs.WholeLanes.{xor_bytes-turn}
 use Prim.Native.Nat.{◌%◌, ◌+◌, ◌-◌, ◌≤◌}
-use lib.ListN.{drop, drop_of_length-le, length}
+use lib.ListN.{drop, length}
 use Rattle.keccak.specs.Steps.{xor_bytes}
-use native.Mathlib.Omega.{arith}
-use mathlib.Core.Path.{◌≡◌, sym, ap, ◌∙◌}
+use mathlib.Core.Path.{◌≡◌}
 use Rattle.keccak.proofs.state.xor_lanes.Given as goal
 
 abbrev pub invariant-loop-i : goal.invariant-loop-i

@@ -1,6 +1,5 @@
 -- `masks::chain::carried` meets its contract.
 -- Assumes nothing.
-use mathlib.Core.Path.{◌≡◌}
 use Prim.Native.Nat.{◌%◌}
 use borrow.Author.Tests.{eq-eqb, ne_eqb}
 use Rattle.masks.specs.Steps.{carried}

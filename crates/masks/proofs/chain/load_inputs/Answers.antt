@@ -1,13 +1,10 @@
 -- `masks::chain::load_inputs` meets its contract. The loop's invariant: k masks are loaded.
 -- Assumes nothing.
 use native.Mathlib.Omega.{arith}
-use mathlib.Core.Path.{◌≡◌, refl, ◌∙◌}
-use Prim.Native.Nat.{◌-◌, ◌≤◌}
-use lib.ListN.{length, length-set}
-use Rattle.bits.specs.Bits.{bit_val, bit_at}
-use Rattle.words.specs.Steps.{fill}
+use mathlib.Core.Path.{refl}
+use Prim.Native.Nat.{◌-◌}
+use lib.ListN.{length-set}
 use Rattle.words.proofs.Fill.{fill_none}
-use Rattle.masks.specs.Steps.{tape_bit}
 use Rattle.masks.proofs.Adding.{load-done, load-turn}
 use Rattle.masks.proofs.chain.load_inputs.Goals as goal
 

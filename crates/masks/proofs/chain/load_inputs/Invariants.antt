@@ -1,14 +1,11 @@
 -- `masks::chain::load_inputs` meets its contract. The loop's invariant: k masks are loaded.
 -- Assumes nothing.
-use native.Mathlib.Omega.{arith}
-use mathlib.Core.Path.{◌≡◌, refl, ◌∙◌}
+use mathlib.Core.Path.{◌≡◌}
 use Prim.Native.Nat.{◌-◌, ◌≤◌}
-use lib.ListN.{length, length-set}
+use lib.ListN.{length}
 use Rattle.bits.specs.Bits.{bit_val, bit_at}
 use Rattle.words.specs.Steps.{fill}
-use Rattle.words.proofs.Fill.{fill_none}
 use Rattle.masks.specs.Steps.{tape_bit}
-use Rattle.masks.proofs.Adding.{load-done, load-turn}
 use Rattle.masks.proofs.chain.load_inputs.Given as goal
 
 abbrev pub invariant-loop-k : goal.invariant-loop-k

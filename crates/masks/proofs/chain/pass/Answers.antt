@@ -1,7 +1,6 @@
 -- `masks::chain::pass` meets its contract: in each arm the gate is that arm's.
 -- Assumes nothing.
 use mathlib.Core.Path.{refl}
-use borrow.Author.Rules.{rules}
 use native.Mathlib.Omega.{arith}
 use lib.ListN.{length-set}
 use Rattle.masks.proofs.Begun.{grown-byte, and-passes}

@@ -3,17 +3,13 @@
 -- Assumes nothing.
 use native.Mathlib.Omega.{arith}
 use mathlib.Core.Path.{◌≡◌, refl, sym, ap, ◌∙◌}
-use mathlib.Core.Bool.{true}
-use Prim.Native.Nat.{◌+◌, ◌-◌, ◌≤◌}
-use lib.ListN.{length}
-use Rattle.bits.specs.Bits.{oct}
-use Rattle.circuit.specs.Circuit.{ands}
+use Prim.Native.Nat.{◌+◌, ◌-◌}
 use Rattle.circuit.specs.File.{inputs_of}
-use Rattle.circuit.specs.Steps.{and_one, gates_from, walks, wired}
+use Rattle.circuit.specs.Steps.{and_one}
 use Rattle.circuit.proofs.Chain.{Here, here, inside, gate-read, next-read, and_one-le}
 use Rattle.circuit.proofs.Run.{wired-on}
-use Rattle.masks.proofs.Begun.{Begun, begun-none}
-use Rattle.masks.proofs.Turns.{ands-here, turn-asks, joint, joint-end, joint-turn, count_turn, begun-turn}
+use Rattle.masks.proofs.Begun.{begun-none}
+use Rattle.masks.proofs.Turns.{ands-here, turn-asks, joint-end, joint-turn, count_turn, begun-turn}
 use Rattle.masks.proofs.Joint.{ready-parts}
 use Rattle.masks.proofs.chain.walk.Goals as goal
 use Rattle.masks.proofs.chain.walk.Goals.{In-loop-left}

@@ -1,20 +1,15 @@
 -- `masks::chain::walk` meets its contract. The loop's invariant: the gates that are left, from the memory so far, give what all of them give;
 -- the byte at hand has the corrections of the last byte that is begun.
 -- Assumes nothing.
-use native.Mathlib.Omega.{arith}
-use mathlib.Core.Path.{◌≡◌, refl, sym, ap, ◌∙◌}
+use mathlib.Core.Path.{◌≡◌}
 use mathlib.Core.Bool.{true}
 use Prim.Native.Nat.{◌+◌, ◌-◌, ◌≤◌}
 use lib.ListN.{length}
 use Rattle.bits.specs.Bits.{oct}
 use Rattle.circuit.specs.Circuit.{ands}
-use Rattle.circuit.specs.File.{inputs_of}
-use Rattle.circuit.specs.Steps.{and_one, gates_from, walks, wired}
-use Rattle.circuit.proofs.Chain.{Here, here, inside, gate-read, next-read, and_one-le}
-use Rattle.circuit.proofs.Run.{wired-on}
-use Rattle.masks.proofs.Begun.{Begun, begun-none}
-use Rattle.masks.proofs.Turns.{ands-here, turn-asks, joint, joint-end, joint-turn, count_turn, begun-turn}
-use Rattle.masks.proofs.Joint.{ready-parts}
+use Rattle.circuit.specs.Steps.{gates_from, walks, wired}
+use Rattle.masks.proofs.Begun.{Begun}
+use Rattle.masks.proofs.Turns.{joint}
 use Rattle.masks.proofs.chain.walk.Given as goal
 
 abbrev pub invariant-loop-left : goal.invariant-loop-left

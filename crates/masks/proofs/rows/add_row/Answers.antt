@@ -1,11 +1,9 @@
 -- `masks::rows::add_row` meets its contract. The loop's invariant: j bytes are added.
 -- Assumes nothing.
 use native.Mathlib.Omega.{arith}
-use mathlib.Core.Path.{◌≡◌, refl, ◌∙◌}
-use Prim.Native.Nat.{ℕ, ◌-◌, ◌≤◌}
-use lib.ListN.{length, drop, length-set}
-use mathlib.Core.List.{List}
-use Rattle.masks.specs.Steps.{added}
+use mathlib.Core.Path.{◌≡◌, refl}
+use Prim.Native.Nat.{◌-◌}
+use lib.ListN.{length-set}
 use Rattle.masks.proofs.Adding.{add_turn}
 use Rattle.masks.proofs.rows.add_row.Goals as goal
 

@@ -1,12 +1,10 @@
 -- `masks::rows::add_row` meets its contract. The loop's invariant: j bytes are added.
 -- Assumes nothing.
-use native.Mathlib.Omega.{arith}
-use mathlib.Core.Path.{◌≡◌, refl, ◌∙◌}
+use mathlib.Core.Path.{◌≡◌}
 use Prim.Native.Nat.{ℕ, ◌-◌, ◌≤◌}
-use lib.ListN.{length, drop, length-set}
+use lib.ListN.{length, drop}
 use mathlib.Core.List.{List}
 use Rattle.masks.specs.Steps.{added}
-use Rattle.masks.proofs.Adding.{add_turn}
 use Rattle.masks.proofs.rows.add_row.Given as goal
 
 abbrev pub invariant-loop-j : goal.invariant-loop-j

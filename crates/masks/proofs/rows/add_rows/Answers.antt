@@ -2,11 +2,9 @@
 -- Assumes nothing.
 use native.Mathlib.Omega.{arith}
 use mathlib.Core.Path.{◌≡◌, refl, ap, ◌∙◌}
-use Prim.Native.Nat.{ℕ, ◌+◌, ◌-◌, ◌*◌, ◌≤◌}
-use lib.ListN.{length, drop}
-use mathlib.Core.List.{List}
+use Prim.Native.Nat.{◌+◌, ◌-◌, ◌*◌, ◌≤◌}
+use lib.ListN.{length}
 use Rattle.bits.proofs.Rows.{row_fits}
-use Rattle.masks.specs.Steps.{cleared, summed}
 use Rattle.masks.proofs.Adding.{row-added, sum-none}
 use Rattle.masks.proofs.Sums.{clear-length}
 use Rattle.masks.proofs.rows.add_rows.Goals as goal

@@ -1,14 +1,10 @@
 -- `masks::rows::add_rows` meets its contract. The loop's invariant: i rows are added.
 -- Assumes nothing.
-use native.Mathlib.Omega.{arith}
-use mathlib.Core.Path.{◌≡◌, refl, ap, ◌∙◌}
-use Prim.Native.Nat.{ℕ, ◌+◌, ◌-◌, ◌*◌, ◌≤◌}
+use mathlib.Core.Path.{◌≡◌}
+use Prim.Native.Nat.{ℕ, ◌-◌, ◌≤◌}
 use lib.ListN.{length, drop}
 use mathlib.Core.List.{List}
-use Rattle.bits.proofs.Rows.{row_fits}
 use Rattle.masks.specs.Steps.{cleared, summed}
-use Rattle.masks.proofs.Adding.{row-added, sum-none}
-use Rattle.masks.proofs.Sums.{clear-length}
 use Rattle.masks.proofs.rows.add_rows.Given as goal
 
 abbrev pub invariant-loop-i : goal.invariant-loop-i

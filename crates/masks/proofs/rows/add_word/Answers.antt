@@ -1,6 +1,5 @@
 -- `masks::rows::add_word` meets its contract: words are XORed byte by byte.
 -- Assumes nothing.
-use borrow.Author.Rules.{rules}
 use native.Mathlib.Omega.{arith}
 use mathlib.Core.Path.{◌∙◌}
 use Rattle.masks.proofs.Adding.{word-added}

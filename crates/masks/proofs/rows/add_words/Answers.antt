@@ -2,8 +2,8 @@
 -- Assumes nothing.
 use native.Mathlib.Omega.{arith}
 use mathlib.Core.Path.{◌≡◌, refl, ap, ◌∙◌}
-use Prim.Native.Nat.{ℕ, ◌-◌, ◌*◌, ◌/◌, ◌≤◌}
-use lib.ListN.{length, drop}
+use Prim.Native.Nat.{ℕ, ◌-◌, ◌*◌, ◌/◌}
+use lib.ListN.{drop}
 use Rattle.masks.specs.Steps.{added}
 use Rattle.masks.proofs.Adding.{add_none, add-word-turn}
 use Rattle.masks.proofs.rows.add_words.Goals as goal

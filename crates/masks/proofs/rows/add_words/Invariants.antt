@@ -1,11 +1,9 @@
 -- `masks::rows::add_words` meets its contract. The loop's invariant: k words are added.
 -- Assumes nothing.
-use native.Mathlib.Omega.{arith}
-use mathlib.Core.Path.{◌≡◌, refl, ap, ◌∙◌}
-use Prim.Native.Nat.{ℕ, ◌-◌, ◌*◌, ◌/◌, ◌≤◌}
+use mathlib.Core.Path.{◌≡◌}
+use Prim.Native.Nat.{◌-◌, ◌*◌, ◌≤◌}
 use lib.ListN.{length, drop}
 use Rattle.masks.specs.Steps.{added}
-use Rattle.masks.proofs.Adding.{add_none, add-word-turn}
 use Rattle.masks.proofs.rows.add_words.Given as goal
 
 abbrev pub invariant-loop-k : goal.invariant-loop-k

@@ -4,7 +4,6 @@ use mathlib.Core.Path.{sym, ap, ◌∙◌}
 use native.Mathlib.Omega.{arith}
 use lib.ListN.{length}
 use Rattle.mpc.proofs.Places.{layout-asks, corrections-are, rows_are, held-part, held-size}
-use borrow.Author.Rules.{rules}
 use Rattle.mpc.proofs.holding.give_corrections.Goals as goal
 
 pub layout-l-requires : goal.layout-l-requires

@@ -1,7 +1,6 @@
 -- `mpc::holding::hold` meets its contract.
 -- Assumes nothing.
 use Rattle.mpc.proofs.Places.{layout-asks, both-start, both_end, both-size, both-put}
-use borrow.Author.Rules.{rules}
 use Rattle.mpc.proofs.holding.hold.Goals as goal
 
 pub layout-l-requires : goal.layout-l-requires

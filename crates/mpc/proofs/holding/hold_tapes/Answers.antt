@@ -1,11 +1,6 @@
 -- `mpc::holding::hold_tapes` meets its contract.
 -- Assumes nothing.
-use mathlib.Core.Path.{sym, ap, ◌∙◌}
-use Prim.Native.Nat.{ℕ, ◌+◌}
-use Rattle.planes.specs.Steps.{rows_at}
-use Rattle.walk.specs.Steps.{layout_of}
-use Rattle.mpc.proofs.Places.{layout-asks, rows_are, leaves-are, tapes-start, tapes-end, tapes-size, tapes-put}
-use borrow.Author.Rules.{rules}
+use Rattle.mpc.proofs.Places.{layout-asks, tapes-start, tapes-end, tapes-size, tapes-put}
 use Rattle.mpc.proofs.holding.hold_tapes.Goals as goal
 
 pub layout-l-requires : goal.layout-l-requires

@@ -1,7 +1,6 @@
 -- `mpc::lending::clear_after` meets its contract.
 -- Assumes nothing.
 use mathlib.Core.Path.{sym}
-use borrow.Author.Rules.{rules}
 use lib.Seq.{length-take-le}
 use Rattle.mpc.proofs.Lent.{part-cleared, work-kept}
 use Rattle.mpc.proofs.lending.clear_after.Goals as goal

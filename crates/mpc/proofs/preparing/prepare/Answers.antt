@@ -1,7 +1,6 @@
 -- `mpc::preparing::prepare` meets its contract.
 -- Assumes nothing.
 use mathlib.Core.Path.{refl}
-use borrow.Author.Rules.{rules}
 use Rattle.mpc.proofs.Opened.{opened}
 use Rattle.mpc.proofs.Lent.{known-few, work-long}
 use Rattle.mpc.proofs.Prepared.{prepare-refused, prepare-short, prepare-left}

@@ -1,7 +1,6 @@
 -- `mpc::preparing::prepare_held` meets its contract.
 -- Assumes nothing.
-use Rattle.mpc.proofs.Places.{few_wires, memory-held, placed, layout-asks, corrections-are, rows_are, tapes-length, working-kept, lent, prepared-made}
-use borrow.Author.Rules.{rules}
+use Rattle.mpc.proofs.Places.{few_wires, memory-held, placed, layout-asks, corrections-are, rows_are, working-kept, lent, prepared-made}
 use Rattle.mpc.proofs.preparing.prepare_held.Goals as goal
 
 pub layout-l-requires : goal.layout-l-requires

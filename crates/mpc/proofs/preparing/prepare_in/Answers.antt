@@ -3,7 +3,6 @@
 use mathlib.Core.Path.{ap, ◌∙◌}
 use Rattle.packed.specs.Steps.{corrections_held}
 use Rattle.mpc.proofs.Places.{placed, working-kept, prepared-corrections}
-use borrow.Author.Rules.{rules}
 use Rattle.mpc.proofs.preparing.prepare_in.Goals as goal
 
 pub prepare_held-requires : goal.prepare_held-requires

@@ -1,6 +1,5 @@
 -- `mpc::preparing::prepare_lent` meets its contract.
 -- Assumes nothing.
-use mathlib.Core.Path.{refl}
 use native.Mathlib.Omega.{arith}
 use Rattle.circuit.proofs.Answered.{held}
 use Rattle.mpc.proofs.Opened.{counted, ands-low}

@@ -1,10 +1,8 @@
 -- `mpc::running::run_in` meets its contract.
 -- Assumes nothing.
-use native.Mathlib.Omega.{arith}
 use mathlib.Core.Path.{◌∙◌}
 use Rattle.mpc.proofs.Places.{memory-held, placed, working-kept}
 use Rattle.mpc.proofs.Ran.{run-made}
-use borrow.Author.Rules.{rules}
 use Rattle.mpc.proofs.running.run_in.Goals as goal
 
 pub hold-requires : goal.hold-requires

@@ -1,6 +1,5 @@
 -- `mpc::running::run_lent` meets its contract.
 -- Assumes nothing.
-use mathlib.Core.Path.{refl}
 use Rattle.mpc.proofs.Opened.{counted}
 use Rattle.mpc.proofs.Asks.{ands-few}
 use Rattle.mpc.proofs.Ran.{run-parties, run_length, run-unused, run-done, run-lent-fits}

@@ -2,7 +2,7 @@
 -- Assumes nothing.
 use mathlib.Core.Path.{◌≡◌, ap, ◌∙◌}
 use native.Mathlib.Omega.{arith}
-use Prim.Native.Nat.{◌-◌, ◌≤◌}
+use Prim.Native.Nat.{◌-◌}
 use Rattle.circuit.specs.File.{circuit_of}
 use Rattle.plain.specs.Tapes.{unused_rows}
 use Rattle.mpc.proofs.Opened.{ands-low}

@@ -1,12 +1,9 @@
 -- `mpc::tests::unused_rows` meets its contract. The loop's invariant: `good` tells of the first i rows.
 -- Assumes nothing.
-use mathlib.Core.Path.{◌≡◌, ap, ◌∙◌}
-use native.Mathlib.Omega.{arith}
+use mathlib.Core.Path.{◌≡◌}
 use Prim.Native.Nat.{◌-◌, ◌≤◌}
 use Rattle.circuit.specs.File.{circuit_of}
 use Rattle.plain.specs.Tapes.{unused_rows}
-use Rattle.mpc.proofs.Opened.{ands-low}
-use Rattle.mpc.proofs.Tested.{unused-none, unused-turn}
 use Rattle.mpc.proofs.tests.unused_rows.Given as goal
 
 abbrev pub invariant-loop-i : goal.invariant-loop-i

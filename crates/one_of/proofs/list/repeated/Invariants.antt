@@ -1,13 +1,10 @@
 -- `one_of::list::repeated` meets its contract. The loop's invariant: what is gathered is the comparison with the first i entries.
 -- Assumes nothing.
-use mathlib.Core.Path.{◌≡◌, ap, ◌∙◌}
+use mathlib.Core.Path.{◌≡◌}
 use Prim.Native.Nat.{◌-◌, ◌≤◌}
-use native.Mathlib.Omega.{arith}
-use borrow.Author.Rules.{rules}
 use Rattle.bits.specs.Bits.{oct}
 use Rattle.bits.specs.Bytes.{row_of}
 use Rattle.one_of.specs.OneOf.{among}
-use Rattle.one_of.proofs.Coded.{among_none, among-turn}
 use Rattle.one_of.proofs.list.repeated.Given as goal
 
 abbrev pub invariant-loop-i : goal.invariant-loop-i

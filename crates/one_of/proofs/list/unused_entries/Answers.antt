@@ -1,11 +1,8 @@
 -- `one_of::list::unused_entries` meets its contract. The loop's invariant: what is gathered is the test of the first e entries.
 -- Assumes nothing.
 use mathlib.Core.Path.{◌≡◌}
-use Prim.Native.Nat.{◌-◌, ◌≤◌}
+use Prim.Native.Nat.{◌-◌}
 use native.Mathlib.Omega.{arith}
-use borrow.Author.Rules.{rules}
-use Rattle.bits.specs.Bits.{oct}
-use Rattle.one_of.specs.OneOf.{unused_entries}
 use Rattle.one_of.proofs.Coded.{unused-none, unused-turn}
 use Rattle.one_of.proofs.list.unused_entries.Goals as goal
 

@@ -2,11 +2,8 @@
 -- Assumes nothing.
 use mathlib.Core.Path.{◌≡◌}
 use Prim.Native.Nat.{◌-◌, ◌≤◌}
-use native.Mathlib.Omega.{arith}
-use borrow.Author.Rules.{rules}
 use Rattle.bits.specs.Bits.{oct}
 use Rattle.one_of.specs.OneOf.{unused_entries}
-use Rattle.one_of.proofs.Coded.{unused-none, unused-turn}
 use Rattle.one_of.proofs.list.unused_entries.Given as goal
 
 abbrev pub invariant-loop-e : goal.invariant-loop-e

@@ -2,7 +2,6 @@
 -- Assumes nothing.
 use mathlib.Core.Path.{◌∙◌}
 use native.Mathlib.Omega.{arith}
-use borrow.Author.Rules.{rules}
 use Rattle.circuit.specs.File.{fields_of}
 use Rattle.one_of.specs.OneOf.{entries}
 use Rattle.one_of.proofs.Coded.{entry-few, top, sum_same, zero_same, entry-copy, entry-and, entry-join}

@@ -2,7 +2,6 @@
 -- Assumes nothing.
 use mathlib.Core.Path.{ap, ◌∙◌}
 use native.Mathlib.Omega.{arith}
-use borrow.Author.Rules.{rules}
 use Rattle.bits.specs.Bits.{oct}
 use Rattle.circuit.specs.File.{fields_of}
 use Rattle.one_of.proofs.Coded.{bit-inside, literal-one, literal-zero}

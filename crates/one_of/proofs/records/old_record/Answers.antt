@@ -1,6 +1,5 @@
 -- `one_of::records::old_record` meets its contract.
 -- Assumes nothing.
-use borrow.Author.Rules.{rules}
 use Rattle.one_of.proofs.Coded.{old-same}
 use Rattle.one_of.proofs.records.old_record.Goals as goal
 

@@ -1,6 +1,5 @@
 -- `one_of::records::onward` meets its contract.
 -- Assumes nothing.
-use native.Mathlib.Omega.{arith}
 use borrow.Author.Tests.{lt-ltb, le-ltb}
 use Rattle.one_of.proofs.records.onward.Goals as goal
 

@@ -3,7 +3,6 @@
 use mathlib.Core.Path.{ap, ◌∙◌}
 use Prim.Native.Nat.{ℕ, ◌+◌}
 use native.Mathlib.Omega.{arith}
-use borrow.Author.Rules.{rules}
 use Rattle.circuit.specs.File.{fields_of}
 use Rattle.one_of.specs.OneOf.{entries}
 use Rattle.one_of.proofs.Coded.{prefix-first, prefix-later, entry-few, top, sum_same}

@@ -2,7 +2,6 @@
 -- Assumes nothing.
 use mathlib.Core.Path.{ap}
 use Prim.Native.Nat.{ℕ, ◌+◌}
-use borrow.Author.Rules.{rules}
 use Rattle.circuit.specs.File.{fields_of}
 use Rattle.one_of.proofs.Coded.{relinked-last, relinked-same}
 use Rattle.one_of.proofs.records.relinked.Goals as goal

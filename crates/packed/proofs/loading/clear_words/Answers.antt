@@ -2,10 +2,8 @@
 -- Assumes nothing.
 use native.Mathlib.Omega.{arith}
 use mathlib.Core.Path.{◌≡◌, refl, ◌∙◌}
-use Prim.Native.Nat.{◌-◌, ◌≤◌}
-use lib.ListN.{length}
+use Prim.Native.Nat.{◌-◌}
 use Rattle.gates.proofs.Steps.{room-kept}
-use Rattle.packed.specs.Steps.{words_cleared}
 use Rattle.packed.proofs.Loads.{cleared-none, cleared-turn}
 use Rattle.packed.proofs.loading.clear_words.Goals as goal
 

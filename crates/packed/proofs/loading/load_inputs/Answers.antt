@@ -2,10 +2,8 @@
 -- Assumes nothing.
 use native.Mathlib.Omega.{arith}
 use mathlib.Core.Path.{◌≡◌, refl, ◌∙◌}
-use Prim.Native.Nat.{◌-◌, ◌≤◌}
-use lib.ListN.{length}
+use Prim.Native.Nat.{◌-◌}
 use Rattle.gates.proofs.Steps.{room-kept}
-use Rattle.packed.specs.Steps.{inputs_loaded}
 use Rattle.packed.proofs.Loads.{inputs-none, inputs-turn}
 use Rattle.packed.proofs.loading.load_inputs.Goals as goal
 

@@ -1,12 +1,9 @@
 -- `packed::loading::load_inputs` meets its contract. The loop's invariant: w wires are loaded.
 -- Assumes nothing.
-use native.Mathlib.Omega.{arith}
-use mathlib.Core.Path.{◌≡◌, refl, ◌∙◌}
+use mathlib.Core.Path.{◌≡◌}
 use Prim.Native.Nat.{◌-◌, ◌≤◌}
 use lib.ListN.{length}
-use Rattle.gates.proofs.Steps.{room-kept}
 use Rattle.packed.specs.Steps.{inputs_loaded}
-use Rattle.packed.proofs.Loads.{inputs-none, inputs-turn}
 use Rattle.packed.proofs.loading.load_inputs.Given as goal
 
 abbrev pub invariant-loop-w : goal.invariant-loop-w

@@ -1,6 +1,5 @@
 -- `packed::loading::load_showing` meets its contract.
 -- Assumes nothing.
-use borrow.Author.Rules.{rules}
 use native.Mathlib.Omega.{arith}
 use mathlib.Core.Path.{◌∙◌}
 use Rattle.gates.proofs.Steps.{room-kept}

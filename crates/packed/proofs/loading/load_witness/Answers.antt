@@ -1,6 +1,5 @@
 -- `packed::loading::load_witness` meets its contract.
 -- Assumes nothing.
-use borrow.Author.Rules.{rules}
 use native.Mathlib.Omega.{arith}
 use Rattle.gates.proofs.Steps.{room-kept}
 use Rattle.walk.proofs.Turns.{layout-room, layout-wires}

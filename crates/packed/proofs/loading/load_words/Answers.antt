@@ -1,6 +1,5 @@
 -- `packed::loading::load_words` meets its contract: the tapes are loaded, the words after them cleared, the corrections put.
 -- Assumes nothing.
-use borrow.Author.Rules.{rules}
 use native.Mathlib.Omega.{arith}
 use mathlib.Core.Path.{◌∙◌}
 use Rattle.gates.proofs.Steps.{room-kept}

@@ -1,11 +1,9 @@
 -- `packed::loading::mask_inputs` meets its contract. The loop's invariant: the first w bits are put.
 -- Assumes nothing.
 use native.Mathlib.Omega.{arith}
-use mathlib.Core.Path.{◌≡◌, refl, ◌∙◌}
-use Prim.Native.Nat.{◌-◌, ◌≤◌}
-use lib.ListN.{length}
-use Rattle.bits.specs.Bits.{pack}
-use Rattle.walk.proofs.Turns.{firsts, bits_none, bits-turn, bits-all}
+use mathlib.Core.Path.{refl, ◌∙◌}
+use Prim.Native.Nat.{◌-◌}
+use Rattle.walk.proofs.Turns.{bits_none, bits-turn, bits-all}
 use Rattle.packed.specs.Steps.{masked_bit}
 use Rattle.packed.proofs.Loads.{masked-turn}
 use Rattle.packed.proofs.loading.mask_inputs.Goals as goal

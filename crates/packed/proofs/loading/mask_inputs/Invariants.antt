@@ -1,13 +1,11 @@
 -- `packed::loading::mask_inputs` meets its contract. The loop's invariant: the first w bits are put.
 -- Assumes nothing.
-use native.Mathlib.Omega.{arith}
-use mathlib.Core.Path.{◌≡◌, refl, ◌∙◌}
+use mathlib.Core.Path.{◌≡◌}
 use Prim.Native.Nat.{◌-◌, ◌≤◌}
 use lib.ListN.{length}
 use Rattle.bits.specs.Bits.{pack}
-use Rattle.walk.proofs.Turns.{firsts, bits_none, bits-turn, bits-all}
+use Rattle.walk.proofs.Turns.{firsts}
 use Rattle.packed.specs.Steps.{masked_bit}
-use Rattle.packed.proofs.Loads.{masked-turn}
 use Rattle.packed.proofs.loading.mask_inputs.Given as goal
 
 abbrev pub invariant-loop-w : goal.invariant-loop-w

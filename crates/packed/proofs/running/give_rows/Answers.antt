@@ -1,6 +1,5 @@
 -- `packed::running::give_rows` meets its contract.
 -- Assumes nothing.
-use borrow.Author.Rules.{rules}
 use native.Mathlib.Omega.{arith}
 use Rattle.walk.proofs.Turns.{layout-room, layout-ands, layout-outputs}
 use Rattle.packed.proofs.Rows.{rows-room, rows-given}

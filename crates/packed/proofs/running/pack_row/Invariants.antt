@@ -1,14 +1,11 @@
 -- `packed::running::pack_row` meets its contract. The loop's invariant: the first t bits are put.
 -- Assumes nothing.
-use native.Mathlib.Omega.{arith}
-use mathlib.Core.Path.{◌≡◌, refl, ap₂, ◌∙◌}
-use Prim.Native.Nat.{ℕ, ◌-◌, ◌*◌, ◌≤◌}
+use mathlib.Core.Path.{◌≡◌}
+use Prim.Native.Nat.{◌-◌, ◌*◌, ◌≤◌}
 use lib.ListN.{length}
 use Rattle.bits.specs.Bits.{pack}
 use Rattle.walk.proofs.Turns.{firsts}
 use Rattle.packed.specs.Steps.{sent_bit}
-use Rattle.packed.proofs.Loads.{sent-turn}
-use Rattle.packed.proofs.Rows.{row-none, row-turn}
 use Rattle.packed.proofs.running.pack_row.Given as goal
 
 abbrev pub invariant-loop-t : goal.invariant-loop-t

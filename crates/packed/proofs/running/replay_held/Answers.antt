@@ -1,6 +1,5 @@
 -- `packed::running::replay_held` meets its contract.
 -- Assumes nothing.
-use borrow.Author.Rules.{rules}
 use Rattle.packed.proofs.Runs.{lent-held, memory-replayed, output-replayed}
 use Rattle.packed.proofs.running.replay_held.Goals as goal
 

@@ -1,6 +1,5 @@
 -- `packed::running::run_held` meets its contract.
 -- Assumes nothing.
-use borrow.Author.Rules.{rules}
 use Rattle.packed.proofs.Runs.{lent-held, memory-ran, output-ran}
 use Rattle.packed.proofs.running.run_held.Goals as goal
 

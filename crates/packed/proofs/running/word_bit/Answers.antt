@@ -1,6 +1,5 @@
 -- `packed::running::word_bit` meets its contract.
 -- Assumes nothing.
-use native.Mathlib.Omega.{arith}
 use Rattle.bits.proofs.Numbers.{bit-at}
 use Rattle.packed.proofs.running.word_bit.Goals as goal
 

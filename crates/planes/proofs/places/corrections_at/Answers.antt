@@ -1,7 +1,6 @@
 -- `planes::places::corrections_at` meets its contract.
 -- Assumes nothing.
 use native.Mathlib.Omega.{arith}
-use borrow.Author.Rules.{rules}
 use Rattle.planes.proofs.Fits.{spare-small}
 use Rattle.planes.proofs.places.corrections_at.Goals as goal
 

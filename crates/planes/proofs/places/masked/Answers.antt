@@ -1,6 +1,5 @@
 -- `planes::places::masked` meets its contract.
 -- Assumes nothing.
-use borrow.Author.Rules.{rules}
 use mathlib.Core.Path.{ap}
 use Rattle.planes.specs.Steps.{masked}
 use Rattle.words.specs.Steps.{at}

@@ -1,6 +1,5 @@
 -- `planes::places::masked_at` meets its contract.
 -- Assumes nothing.
-use borrow.Author.Rules.{rules}
 use native.Mathlib.Omega.{arith}
 use Rattle.planes.proofs.places.masked_at.Goals as goal
 

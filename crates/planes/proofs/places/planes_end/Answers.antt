@@ -1,6 +1,5 @@
 -- `planes::places::planes_end` meets its contract.
 -- Assumes nothing.
-use borrow.Author.Rules.{rules}
 use Rattle.planes.proofs.places.planes_end.Goals as goal
 
 pub returns : goal.returns

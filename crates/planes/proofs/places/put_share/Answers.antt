@@ -1,6 +1,5 @@
 -- `planes::places::put_share` meets its contract.
 -- Assumes nothing.
-use borrow.Author.Rules.{rules}
 use Rattle.planes.specs.Steps.{put_share}
 use Rattle.planes.proofs.places.put_share.Goals as goal
 

@@ -1,6 +1,5 @@
 -- `planes::places::seeds_at` meets its contract.
 -- Assumes nothing.
-use borrow.Author.Rules.{rules}
 use mathlib.Core.Path.{refl}
 use Rattle.planes.proofs.places.seeds_at.Goals as goal
 

@@ -1,7 +1,6 @@
 -- `planes::places::seeds_end` meets its contract.
 -- Assumes nothing.
 use native.Mathlib.Omega.{arith}
-use borrow.Author.Rules.{rules}
 use Rattle.planes.proofs.places.seeds_end.Goals as goal
 
 pub overflow_add-result : goal.overflow_add-result

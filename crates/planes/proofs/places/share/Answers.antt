@@ -1,6 +1,5 @@
 -- `planes::places::share` meets its contract.
 -- Assumes nothing.
-use borrow.Author.Rules.{rules}
 use Rattle.planes.specs.Steps.{share}
 use Rattle.planes.proofs.places.share.Goals as goal
 

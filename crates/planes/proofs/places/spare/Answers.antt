@@ -1,7 +1,6 @@
 -- `planes::places::spare` meets its contract.
 -- Assumes nothing.
 use native.Mathlib.Omega.{arith}
-use borrow.Author.Rules.{rules}
 use Rattle.planes.specs.Steps.{spare}
 use Rattle.planes.proofs.places.spare.Goals as goal
 

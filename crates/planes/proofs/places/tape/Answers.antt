@@ -1,6 +1,5 @@
 -- `planes::places::tape` meets its contract.
 -- Assumes nothing.
-use borrow.Author.Rules.{rules}
 use mathlib.Core.Path.{ap, ◌∙◌}
 use Rattle.planes.specs.Steps.{tape}
 use Rattle.bits.specs.Bytes.{le_at}

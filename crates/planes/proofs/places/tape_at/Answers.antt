@@ -1,6 +1,5 @@
 -- `planes::places::tape_at` meets its contract.
 -- Assumes nothing.
-use borrow.Author.Rules.{rules}
 use mathlib.Core.Path.{refl}
 use Rattle.planes.proofs.places.tape_at.Goals as goal
 

@@ -1,6 +1,5 @@
 -- `planes::rows::store_block` meets its contract.
 -- Assumes nothing.
-use borrow.Author.Rules.{rules}
 use native.Mathlib.Omega.{arith}
 use Rattle.planes.proofs.Within.{block_out}
 use Rattle.planes.proofs.rows.store_block.Goals as goal

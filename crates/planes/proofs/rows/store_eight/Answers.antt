@@ -2,8 +2,7 @@
 -- Assumes nothing.
 use native.Mathlib.Omega.{arith}
 use mathlib.Core.Path.{◌≡◌, refl, ap, ◌∙◌}
-use Prim.Native.Nat.{ℕ, ◌-◌, ◌≤◌}
-use lib.ListN.{length}
+use Prim.Native.Nat.{ℕ, ◌-◌}
 use Rattle.blocks.specs.Steps.{transposed_rows}
 use Rattle.planes.specs.Steps.{stored_words}
 use Rattle.planes.proofs.Turning.{store-column, store-none}

@@ -1,12 +1,9 @@
 -- `planes::rows::store_eight_within` meets its contract. The invariant: b bytes of each row are stored.
 -- Assumes nothing.
-use native.Mathlib.Omega.{arith}
-use mathlib.Core.Path.{◌≡◌, refl, ap, ◌∙◌}
-use Prim.Native.Nat.{ℕ, ◌-◌, ◌≤◌}
+use mathlib.Core.Path.{◌≡◌}
+use Prim.Native.Nat.{◌-◌, ◌≤◌}
 use lib.ListN.{length}
-use Rattle.blocks.specs.Steps.{transposed_rows}
 use Rattle.planes.specs.Steps.{stored_words}
-use Rattle.planes.proofs.Turning.{store-column, store-none}
 use Rattle.planes.proofs.rows.store_eight_within.Given as goal
 
 abbrev pub invariant-loop-b : goal.invariant-loop-b

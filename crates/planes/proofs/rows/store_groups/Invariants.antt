@@ -1,11 +1,9 @@
 -- `planes::rows::store_groups` meets its contract. The invariant: g groups of rows are stored.
 -- Assumes nothing.
-use mathlib.Core.Path.{◌≡◌, refl, ap, ◌∙◌}
-use Prim.Native.Nat.{ℕ, ◌+◌, ◌-◌, ◌*◌, ◌/◌, ◌≤◌}
-use native.Mathlib.Omega.{arith}
+use mathlib.Core.Path.{◌≡◌}
+use Prim.Native.Nat.{◌+◌, ◌-◌, ◌*◌, ◌≤◌}
 use lib.ListN.{length}
 use Rattle.planes.specs.Steps.{stored_groups}
-use Rattle.planes.proofs.Turning.{group-within, stored-none, stored-turn}
 use Rattle.planes.proofs.rows.store_groups.Given as goal
 
 abbrev pub invariant-loop-g : goal.invariant-loop-g

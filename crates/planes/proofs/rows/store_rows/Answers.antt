@@ -1,6 +1,5 @@
 -- `planes::rows::store_rows` meets its contract.
 -- Assumes nothing.
-use borrow.Author.Rules.{rules}
 use native.Mathlib.Omega.{arith}
 use Rattle.planes.proofs.Turning.{rows-stored}
 use Rattle.planes.proofs.rows.store_rows.Goals as goal

@@ -2,8 +2,7 @@
 -- Assumes nothing.
 use native.Mathlib.Omega.{arith}
 use mathlib.Core.Path.{◌≡◌, refl, ap, ◌∙◌}
-use Prim.Native.Nat.{ℕ, ◌-◌, ◌≤◌}
-use lib.ListN.{length}
+use Prim.Native.Nat.{ℕ, ◌-◌}
 use Rattle.planes.specs.Steps.{stored_words}
 use Rattle.planes.proofs.Turning.{store-none}
 use Rattle.planes.proofs.Within.{store-block-turn, store-within-turn}

@@ -1,12 +1,9 @@
 -- `planes::rows::store_within` meets its contract. The invariant: k bytes of each row are stored.
 -- Assumes nothing.
-use native.Mathlib.Omega.{arith}
-use mathlib.Core.Path.{◌≡◌, refl, ap, ◌∙◌}
-use Prim.Native.Nat.{ℕ, ◌-◌, ◌≤◌}
+use mathlib.Core.Path.{◌≡◌}
+use Prim.Native.Nat.{◌-◌, ◌≤◌}
 use lib.ListN.{length}
 use Rattle.planes.specs.Steps.{stored_words}
-use Rattle.planes.proofs.Turning.{store-none}
-use Rattle.planes.proofs.Within.{store-block-turn, store-within-turn}
 use Rattle.planes.proofs.rows.store_within.Given as goal
 
 abbrev pub invariant-loop-k : goal.invariant-loop-k

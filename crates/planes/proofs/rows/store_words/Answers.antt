@@ -2,8 +2,7 @@
 -- Assumes nothing.
 use native.Mathlib.Omega.{arith}
 use mathlib.Core.Path.{◌≡◌, refl, ap, ◌∙◌}
-use Prim.Native.Nat.{ℕ, ◌-◌, ◌≤◌}
-use lib.ListN.{length}
+use Prim.Native.Nat.{ℕ, ◌-◌}
 use Rattle.planes.specs.Steps.{stored_words}
 use Rattle.planes.proofs.Turning.{store-more, store-none, store-turn}
 use Rattle.planes.proofs.rows.store_words.Goals as goal

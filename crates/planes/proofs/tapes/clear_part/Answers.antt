@@ -2,8 +2,8 @@
 -- Assumes nothing.
 use native.Mathlib.Omega.{arith}
 use mathlib.Core.Path.{◌≡◌, refl, ap, ◌∙◌}
-use Prim.Native.Nat.{ℕ, ◌-◌, ◌≤◌}
-use lib.ListN.{length, length-set}
+use Prim.Native.Nat.{ℕ, ◌-◌}
+use lib.ListN.{length-set}
 use Rattle.planes.specs.Steps.{cleared}
 use Rattle.planes.proofs.Turning.{clear_none, clear-turn}
 use Rattle.planes.proofs.tapes.clear_part.Goals as goal

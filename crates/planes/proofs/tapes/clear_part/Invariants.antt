@@ -1,11 +1,9 @@
 -- `planes::tapes::clear_part` meets its contract. The loop's invariant: j bytes are zero.
 -- Assumes nothing.
-use native.Mathlib.Omega.{arith}
-use mathlib.Core.Path.{◌≡◌, refl, ap, ◌∙◌}
-use Prim.Native.Nat.{ℕ, ◌-◌, ◌≤◌}
-use lib.ListN.{length, length-set}
+use mathlib.Core.Path.{◌≡◌}
+use Prim.Native.Nat.{◌-◌, ◌≤◌}
+use lib.ListN.{length}
 use Rattle.planes.specs.Steps.{cleared}
-use Rattle.planes.proofs.Turning.{clear_none, clear-turn}
 use Rattle.planes.proofs.tapes.clear_part.Given as goal
 
 abbrev pub invariant-loop-j : goal.invariant-loop-j

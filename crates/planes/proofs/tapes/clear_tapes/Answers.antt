@@ -1,6 +1,5 @@
 -- `planes::tapes::clear_tapes` meets its contract.
 -- Assumes nothing.
-use borrow.Author.Rules.{rules}
 use native.Mathlib.Omega.{arith}
 use Rattle.planes.proofs.Turning.{tapes-cleared}
 use Rattle.planes.proofs.tapes.clear_tapes.Goals as goal

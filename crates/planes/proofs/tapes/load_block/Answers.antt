@@ -1,10 +1,8 @@
 -- `planes::tapes::load_block` meets its contract. The invariant: b bytes of each row are loaded.
 -- Assumes nothing.
-use borrow.Author.Rules.{rules}
 use native.Mathlib.Omega.{arith}
 use mathlib.Core.Path.{◌≡◌, refl, ap, ◌∙◌}
-use Prim.Native.Nat.{ℕ, ◌+◌, ◌-◌, ◌*◌, ◌≤◌}
-use lib.ListN.{length}
+use Prim.Native.Nat.{ℕ, ◌+◌, ◌-◌, ◌*◌}
 use Rattle.blocks.specs.Steps.{transposed_rows}
 use Rattle.planes.specs.Steps.{loaded_words}
 use Rattle.planes.proofs.Turning.{load-none}

@@ -1,14 +1,9 @@
 -- `planes::tapes::load_block` meets its contract. The invariant: b bytes of each row are loaded.
 -- Assumes nothing.
-use borrow.Author.Rules.{rules}
-use native.Mathlib.Omega.{arith}
-use mathlib.Core.Path.{◌≡◌, refl, ap, ◌∙◌}
-use Prim.Native.Nat.{ℕ, ◌+◌, ◌-◌, ◌*◌, ◌≤◌}
+use mathlib.Core.Path.{◌≡◌}
+use Prim.Native.Nat.{◌+◌, ◌-◌, ◌*◌, ◌≤◌}
 use lib.ListN.{length}
-use Rattle.blocks.specs.Steps.{transposed_rows}
 use Rattle.planes.specs.Steps.{loaded_words}
-use Rattle.planes.proofs.Turning.{load-none}
-use Rattle.planes.proofs.Within.{rows-column, rows-length}
 use Rattle.planes.proofs.tapes.load_block.Given as goal
 
 abbrev pub invariant-loop-b : goal.invariant-loop-b

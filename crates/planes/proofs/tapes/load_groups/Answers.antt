@@ -1,10 +1,9 @@
 -- `planes::tapes::load_groups` meets its contract. The invariant: g groups of rows are loaded.
 -- Assumes nothing.
 use mathlib.Core.Path.{◌≡◌, refl, ap, ◌∙◌}
-use Prim.Native.Nat.{ℕ, ◌+◌, ◌-◌, ◌*◌, ◌/◌, ◌≤◌}
-use borrow.Author.Rules.{rules}
+use Prim.Native.Nat.{ℕ, ◌+◌, ◌-◌, ◌/◌}
 use native.Mathlib.Omega.{arith}
-use lib.ListN.{length, drop}
+use lib.ListN.{drop}
 use Rattle.planes.specs.Steps.{loaded_groups}
 use Rattle.planes.proofs.Turning.{group-within, tapes-none}
 use Rattle.planes.proofs.Within.{groups-within-turn}

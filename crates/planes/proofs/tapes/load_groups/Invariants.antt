@@ -1,13 +1,9 @@
 -- `planes::tapes::load_groups` meets its contract. The invariant: g groups of rows are loaded.
 -- Assumes nothing.
-use mathlib.Core.Path.{◌≡◌, refl, ap, ◌∙◌}
-use Prim.Native.Nat.{ℕ, ◌+◌, ◌-◌, ◌*◌, ◌/◌, ◌≤◌}
-use borrow.Author.Rules.{rules}
-use native.Mathlib.Omega.{arith}
+use mathlib.Core.Path.{◌≡◌}
+use Prim.Native.Nat.{◌+◌, ◌-◌, ◌*◌, ◌≤◌}
 use lib.ListN.{length, drop}
 use Rattle.planes.specs.Steps.{loaded_groups}
-use Rattle.planes.proofs.Turning.{group-within, tapes-none}
-use Rattle.planes.proofs.Within.{groups-within-turn}
 use Rattle.planes.proofs.tapes.load_groups.Given as goal
 
 abbrev pub invariant-loop-g : goal.invariant-loop-g

@@ -1,6 +1,5 @@
 -- `planes::tapes::load_rows` meets its contract: the words are cleared, then the groups of rows are loaded.
 -- Assumes nothing.
-use borrow.Author.Rules.{rules}
 use native.Mathlib.Omega.{arith}
 use Rattle.planes.proofs.Within.{rows-in-words}
 use Rattle.planes.proofs.tapes.load_rows.Goals as goal

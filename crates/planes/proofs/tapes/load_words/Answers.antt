@@ -2,8 +2,7 @@
 -- Assumes nothing.
 use native.Mathlib.Omega.{arith}
 use mathlib.Core.Path.{◌≡◌, refl, ap, ◌∙◌}
-use Prim.Native.Nat.{ℕ, ◌-◌, ◌≤◌}
-use lib.ListN.{length}
+use Prim.Native.Nat.{ℕ, ◌-◌}
 use Rattle.planes.specs.Steps.{loaded_words}
 use Rattle.planes.proofs.Turning.{load-none}
 use Rattle.planes.proofs.Within.{load-block-turn, load-within-turn}

@@ -1,12 +1,9 @@
 -- `planes::tapes::load_words` meets its contract. The invariant: k bytes of each row are loaded.
 -- Assumes nothing.
-use native.Mathlib.Omega.{arith}
-use mathlib.Core.Path.{◌≡◌, refl, ap, ◌∙◌}
-use Prim.Native.Nat.{ℕ, ◌-◌, ◌≤◌}
+use mathlib.Core.Path.{◌≡◌}
+use Prim.Native.Nat.{◌-◌, ◌≤◌}
 use lib.ListN.{length}
 use Rattle.planes.specs.Steps.{loaded_words}
-use Rattle.planes.proofs.Turning.{load-none}
-use Rattle.planes.proofs.Within.{load-block-turn, load-within-turn}
 use Rattle.planes.proofs.tapes.load_words.Given as goal
 
 abbrev pub invariant-loop-k : goal.invariant-loop-k

@@ -2,10 +2,7 @@
 -- Assumes nothing.
 use native.Mathlib.Omega.{arith}
 use mathlib.Core.Path.{◌≡◌, refl, ◌∙◌}
-use mathlib.Core.List.{List}
-use Prim.Native.Nat.{ℕ, ◌-◌, ◌≤◌}
-use lib.ListN.{length}
-use Rattle.planes.specs.Steps.{put_bits}
+use Prim.Native.Nat.{◌-◌}
 use Rattle.planes.proofs.Turning.{put-turn}
 use Rattle.planes.proofs.tapes.put_bits.Goals as goal
 

@@ -1,12 +1,10 @@
 -- `planes::tapes::put_bits` meets its contract. The loop's invariant: t bits are put.
 -- Assumes nothing.
-use native.Mathlib.Omega.{arith}
-use mathlib.Core.Path.{◌≡◌, refl, ◌∙◌}
+use mathlib.Core.Path.{◌≡◌}
 use mathlib.Core.List.{List}
 use Prim.Native.Nat.{ℕ, ◌-◌, ◌≤◌}
 use lib.ListN.{length}
 use Rattle.planes.specs.Steps.{put_bits}
-use Rattle.planes.proofs.Turning.{put-turn}
 use Rattle.planes.proofs.tapes.put_bits.Given as goal
 
 abbrev pub invariant-loop-t : goal.invariant-loop-t

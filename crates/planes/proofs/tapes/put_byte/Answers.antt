@@ -2,10 +2,7 @@
 -- Assumes nothing.
 use native.Mathlib.Omega.{arith}
 use mathlib.Core.Path.{◌≡◌, refl, ◌∙◌}
-use mathlib.Core.List.{[], ◌∷◌}
-use Prim.Native.Nat.{◌-◌, ◌≤◌}
-use lib.ListN.{length}
-use Rattle.planes.specs.Steps.{put_bits}
+use Prim.Native.Nat.{◌-◌}
 use Rattle.planes.proofs.Turning.{put-none, put-byte-turn}
 use Rattle.planes.proofs.tapes.put_byte.Goals as goal
 

@@ -1,12 +1,10 @@
 -- `planes::tapes::put_byte` meets its contract. The loop's invariant: t bits are put.
 -- Assumes nothing.
-use native.Mathlib.Omega.{arith}
-use mathlib.Core.Path.{◌≡◌, refl, ◌∙◌}
+use mathlib.Core.Path.{◌≡◌}
 use mathlib.Core.List.{[], ◌∷◌}
 use Prim.Native.Nat.{◌-◌, ◌≤◌}
 use lib.ListN.{length}
 use Rattle.planes.specs.Steps.{put_bits}
-use Rattle.planes.proofs.Turning.{put-none, put-byte-turn}
 use Rattle.planes.proofs.tapes.put_byte.Given as goal
 
 abbrev pub invariant-loop-t : goal.invariant-loop-t

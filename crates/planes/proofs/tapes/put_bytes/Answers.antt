@@ -2,9 +2,7 @@
 -- Assumes nothing.
 use native.Mathlib.Omega.{arith}
 use mathlib.Core.Path.{◌≡◌, refl, ◌∙◌}
-use Prim.Native.Nat.{◌-◌, ◌*◌, ◌/◌, ◌≤◌}
-use lib.ListN.{length}
-use Rattle.planes.specs.Steps.{put_bits}
+use Prim.Native.Nat.{◌-◌, ◌/◌}
 use Rattle.planes.proofs.Turning.{put-none, put-bytes-turn}
 use Rattle.planes.proofs.tapes.put_bytes.Goals as goal
 

@@ -1,11 +1,9 @@
 -- `planes::tapes::put_bytes` meets its contract. The loop's invariant: the bits of k bytes are put.
 -- Assumes nothing.
-use native.Mathlib.Omega.{arith}
-use mathlib.Core.Path.{◌≡◌, refl, ◌∙◌}
-use Prim.Native.Nat.{◌-◌, ◌*◌, ◌/◌, ◌≤◌}
+use mathlib.Core.Path.{◌≡◌}
+use Prim.Native.Nat.{◌-◌, ◌*◌, ◌≤◌}
 use lib.ListN.{length}
 use Rattle.planes.specs.Steps.{put_bits}
-use Rattle.planes.proofs.Turning.{put-none, put-bytes-turn}
 use Rattle.planes.proofs.tapes.put_bytes.Given as goal
 
 abbrev pub invariant-loop-k : goal.invariant-loop-k

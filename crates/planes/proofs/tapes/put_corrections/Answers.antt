@@ -1,6 +1,5 @@
 -- `planes::tapes::put_corrections` meets its contract.
 -- Assumes nothing.
-use borrow.Author.Rules.{rules}
 use native.Mathlib.Omega.{arith}
 use Rattle.planes.proofs.Fits.{spare-small}
 use Rattle.planes.proofs.Within.{corrections-put}

@@ -2,10 +2,7 @@
 -- Assumes nothing.
 use native.Mathlib.Omega.{arith}
 use mathlib.Core.Path.{◌≡◌, refl, ◌∙◌}
-use mathlib.Core.List.{List}
-use Prim.Native.Nat.{ℕ, ◌-◌, ◌≤◌}
-use lib.ListN.{length, drop}
-use Rattle.planes.specs.Steps.{put_bits}
+use Prim.Native.Nat.{◌-◌}
 use Rattle.planes.proofs.Within.{put-within-turn}
 use Rattle.planes.proofs.tapes.put_held_bits.Goals as goal
 

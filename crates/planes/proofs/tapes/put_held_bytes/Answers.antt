@@ -2,9 +2,7 @@
 -- Assumes nothing.
 use native.Mathlib.Omega.{arith}
 use mathlib.Core.Path.{◌≡◌, refl, ◌∙◌}
-use Prim.Native.Nat.{◌-◌, ◌*◌, ◌/◌, ◌≤◌}
-use lib.ListN.{length, drop}
-use Rattle.planes.specs.Steps.{put_bits}
+use Prim.Native.Nat.{◌-◌, ◌/◌}
 use Rattle.planes.proofs.Turning.{put-none}
 use Rattle.planes.proofs.Within.{put-held-turn}
 use Rattle.planes.proofs.tapes.put_held_bytes.Goals as goal

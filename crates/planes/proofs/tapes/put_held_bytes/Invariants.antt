@@ -1,12 +1,9 @@
 -- `planes::tapes::put_held_bytes` meets its contract. The loop's invariant: the bits of k bytes are put.
 -- Assumes nothing.
-use native.Mathlib.Omega.{arith}
-use mathlib.Core.Path.{◌≡◌, refl, ◌∙◌}
-use Prim.Native.Nat.{◌-◌, ◌*◌, ◌/◌, ◌≤◌}
+use mathlib.Core.Path.{◌≡◌}
+use Prim.Native.Nat.{◌-◌, ◌*◌, ◌≤◌}
 use lib.ListN.{length, drop}
 use Rattle.planes.specs.Steps.{put_bits}
-use Rattle.planes.proofs.Turning.{put-none}
-use Rattle.planes.proofs.Within.{put-held-turn}
 use Rattle.planes.proofs.tapes.put_held_bytes.Given as goal
 
 abbrev pub invariant-loop-k : goal.invariant-loop-k

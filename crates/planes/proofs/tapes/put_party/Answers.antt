@@ -1,6 +1,5 @@
 -- `planes::tapes::put_party` meets its contract.
 -- Assumes nothing.
-use borrow.Author.Rules.{rules}
 use native.Mathlib.Omega.{arith}
 use Rattle.planes.proofs.Turning.{party-put}
 use Rattle.planes.proofs.tapes.put_party.Goals as goal

@@ -4,7 +4,6 @@ use borrow.Author.Tests.{lt-ltb, le-ltb}
 use Rattle.planes.specs.Steps.{rows_in}
 use native.Mathlib.Omega.{arith}
 use Prim.Native.Nat.{◌-◌, ◌*◌, ◌≤◌, ◌<◌}
-use borrow.Author.Rules.{rules}
 use Rattle.planes.proofs.tapes.rows_in.Goals as goal
 
 pub returns-then-left-lt8 : goal.returns-then-left-lt8

@@ -1,6 +1,5 @@
 -- `planes::tapes::turn_rows` meets its contract: a word gathered from the rows, transposed and stored.
 -- Assumes nothing.
-use borrow.Author.Rules.{rules}
 use native.Mathlib.Omega.{arith}
 use Rattle.planes.proofs.Within.{rows-length, rows-turned}
 use Rattle.planes.proofs.tapes.turn_rows.Goals as goal

@@ -1,13 +1,11 @@
 -- `shown_parts::cuts::ands_passed` meets its contract. The loop's invariant: the count and the AND gates up to the cut make up all of them.
 -- Assumes nothing.
 use mathlib.Core.List.{[]}
-use mathlib.Core.Bool.{true}
 use mathlib.Core.Path.{◌≡◌, ap, ◌∙◌}
-use Prim.Native.Nat.{ℕ, ◌+◌, ◌-◌, ◌≤◌}
+use Prim.Native.Nat.{ℕ, ◌+◌, ◌-◌}
 use native.Mathlib.Omega.{arith}
-use borrow.Author.Rules.{rules}
 use Rattle.circuit.specs.Circuit.{ands}
-use Rattle.circuit.specs.Steps.{walks, gates_from}
+use Rattle.circuit.specs.Steps.{walks}
 use Rattle.circuit.proofs.Chain.{next-read, ands-turn, ands-none, inside, here, Here, gates-end, and_one-le}
 use Rattle.shown_parts.proofs.cuts.ands_passed.Goals as goal
 use Rattle.shown_parts.proofs.cuts.ands_passed.Goals.{In-loop-left}

@@ -3,10 +3,9 @@
 use Rattle.words.specs.Steps.{at}
 use Rattle.words.specs.Steps.{gathered}
 use Rattle.words.proofs.Turns.{blocks, gather-blocks, gather_none, gather-turn, place-within, times_eight}
-use borrow.Author.Rules.{rules}
 use native.Mathlib.Omega.{arith}
 use mathlib.Core.Path.{◌≡◌, sym, ap, ◌∙◌}
-use Prim.Native.Nat.{ℕ, ◌+◌, ◌-◌, ◌*◌, ◌≤◌}
+use Prim.Native.Nat.{ℕ, ◌+◌, ◌-◌, ◌*◌}
 use Rattle.words.proofs.transpose.gather.Goals as goal
 
 pub gather8-requires : goal.gather8-requires

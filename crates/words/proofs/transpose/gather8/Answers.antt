@@ -2,7 +2,6 @@
 -- Assumes nothing.
 use Rattle.words.proofs.Turns.{gather-sum}
 use mathlib.Core.Path.{refl}
-use borrow.Author.Rules.{rules}
 use Rattle.words.proofs.transpose.gather8.Goals as goal
 
 pub returns : goal.returns

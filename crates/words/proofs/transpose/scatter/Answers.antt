@@ -4,8 +4,8 @@ use Rattle.words.specs.Steps.{scattered}
 use Rattle.words.proofs.Turns.{place-within, scatter-none, scatter-turn, times_eight}
 use native.Mathlib.Omega.{arith}
 use mathlib.Core.Path.{◌≡◌, refl, sym, ap, ◌∙◌}
-use Prim.Native.Nat.{ℕ, ◌-◌, ◌≤◌}
-use lib.ListN.{length, length-set}
+use Prim.Native.Nat.{ℕ, ◌-◌}
+use lib.ListN.{length-set}
 use Rattle.words.proofs.transpose.scatter.Goals as goal
 
 pub scatter8-requires : goal.scatter8-requires

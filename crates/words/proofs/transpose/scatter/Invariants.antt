@@ -1,11 +1,9 @@
 -- `words::transpose::scatter` meets its contract. The invariant: i bytes are stored.
 -- Assumes nothing.
 use Rattle.words.specs.Steps.{scattered}
-use Rattle.words.proofs.Turns.{place-within, scatter-none, scatter-turn, times_eight}
-use native.Mathlib.Omega.{arith}
-use mathlib.Core.Path.{◌≡◌, refl, sym, ap, ◌∙◌}
-use Prim.Native.Nat.{ℕ, ◌-◌, ◌≤◌}
-use lib.ListN.{length, length-set}
+use mathlib.Core.Path.{◌≡◌}
+use Prim.Native.Nat.{◌-◌, ◌≤◌}
+use lib.ListN.{length}
 use Rattle.words.proofs.transpose.scatter.Given as goal
 
 abbrev pub invariant-loop-i : goal.invariant-loop-i

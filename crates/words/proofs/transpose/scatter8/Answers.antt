@@ -3,7 +3,6 @@
 use Rattle.words.proofs.Turns.{eight-stores}
 use native.Mathlib.Omega.{arith}
 use lib.ListN.{length-set}
-use borrow.Author.Rules.{rules}
 use Rattle.words.proofs.transpose.scatter8.Goals as goal
 
 pub bounds-memory-j-2 : goal.bounds-memory-j-2

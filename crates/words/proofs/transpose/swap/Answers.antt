@@ -2,7 +2,6 @@
 -- Assumes nothing.
 use Rattle.words.specs.Steps.{swapped}
 use mathlib.Core.Path.{refl}
-use borrow.Author.Rules.{rules}
 use Rattle.words.proofs.transpose.swap.Goals as goal
 
 pub returns : goal.returns

@@ -2,7 +2,6 @@
 -- Assumes nothing.
 use Rattle.words.proofs.Swaps.{three-swaps}
 use native.Mathlib.Omega.{arith}
-use borrow.Author.Rules.{rules}
 use Rattle.words.proofs.transpose.transpose8.Goals as goal
 
 pub returns : goal.returns

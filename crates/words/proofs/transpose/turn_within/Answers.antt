@@ -2,7 +2,6 @@
 -- Assumes nothing.
 use Rattle.words.proofs.Turns.{turned-word}
 use native.Mathlib.Omega.{arith}
-use borrow.Author.Rules.{rules}
 use Rattle.words.proofs.transpose.turn_within.Goals as goal
 
 pub returns : goal.returns

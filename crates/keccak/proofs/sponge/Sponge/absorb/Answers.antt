@@ -1,6 +1,5 @@
 -- `keccak::sponge::Sponge::absorb` meets its contract.
 -- Assumes nothing.
-use borrow.Author.Rules.{rules}
 use Rattle.keccak.proofs.sponge.Sponge.absorb.Goals as goal
 
 pub returns : goal.returns

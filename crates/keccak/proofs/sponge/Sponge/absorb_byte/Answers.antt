@@ -1,7 +1,6 @@
 -- `keccak::sponge::Sponge::absorb_byte` meets its contract.
 -- Assumes nothing.
 use Rattle.keccak.specs.Steps.{absorb_byte}
-use borrow.Author.Rules.{rules}
 use Rattle.keccak.proofs.sponge.Sponge.absorb_byte.Goals as goal
 
 pub returns : goal.returns

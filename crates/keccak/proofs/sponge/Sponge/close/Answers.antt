@@ -1,7 +1,6 @@
 -- `keccak::sponge::Sponge::close` meets its contract.
 -- Assumes nothing.
 use Rattle.keccak.specs.Steps.{closed}
-use borrow.Author.Rules.{rules}
 use Rattle.keccak.proofs.sponge.Sponge.close.Goals as goal
 
 pub returns : goal.returns

@@ -1,6 +1,5 @@
 -- `keccak::sponge::Sponge::give` meets its contract.
 -- Assumes nothing.
-use borrow.Author.Rules.{rules}
 use Rattle.keccak.proofs.sponge.Sponge.give.Goals as goal
 
 pub returns : goal.returns

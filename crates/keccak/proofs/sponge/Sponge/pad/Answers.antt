@@ -3,7 +3,6 @@
 use mathlib.Core.Path.{refl, ap, ◌∙◌}
 use Rattle.keccak.specs.Steps.{turned, closed, padded}
 use Rattle.keccak.proofs.Steps.{turned-full}
-use borrow.Author.Rules.{rules}
 use Rattle.keccak.proofs.sponge.Sponge.pad.Goals as goal
 
 pub returns : goal.returns

@@ -7,7 +7,6 @@ use Rattle.keccak.proofs.Steps.{squeezed-room, squeezed-aligned, given-parts}
 use Rattle.keccak.specs.Steps.{squeezed}
 use native.Mathlib.Omega.{arith}
 use mathlib.Core.Path.{◌≡◌, sym, ap, ◌∙◌}
-use borrow.Author.Rules.{rules}
 use Rattle.keccak.proofs.sponge.Sponge.squeeze.Goals as goal
 
 pub slice_bounds-squeeze_bytes-end-2 : goal.slice_bounds-squeeze_bytes-end-2

@@ -5,7 +5,6 @@ use Prim.Native.Nat.{◌<◌}
 use Rattle.keccak.specs.Steps.{given_byte, squeeze_byte}
 use Rattle.keccak.proofs.Steps.{turned-room, turned-part}
 use native.Mathlib.Omega.{arith}
-use borrow.Author.Rules.{rules}
 use Rattle.keccak.proofs.sponge.Sponge.squeeze_byte.Goals as goal
 
 pub give-requires : goal.give-requires

@@ -3,8 +3,8 @@
 use mathlib.Core.List.{[], ◌∷◌, ◌++◌}
 use native.Mathlib.Numerals.{add-one}
 use lib.Seq.{take-suc-set}
-use lib.ListN.{take, length, length-set}
-use Rattle.keccak.proofs.Steps.{halfway-start, halfway-more, halfway-end, turned-room, joined-full, joined-part, Halfway}
+use lib.ListN.{take, length-set}
+use Rattle.keccak.proofs.Steps.{halfway-start, halfway-more, halfway-end, turned-room, joined-full, joined-part}
 use Rattle.keccak.specs.Steps.{byte_at, squeezes, squeezed, squeeze_byte, turned}
 use Rattle.keccak.specs.declared.sponge.Sponge.{Sponge}
 use Prim.Native.Nat.{◌+◌, ◌-◌, ◌<◌}
@@ -18,7 +18,7 @@ joined : (c : Joined-at-rate)
     → ◌≡◌ {A = Sponge} (record { lanes = c.if-at-rate.l; fill = c.if-at-rate.at }) (turned c.args.rate (record { lanes = c.loop-i.l; fill = c.loop-i.at }))
 joined c =
     elim c.if-at-rate.branch [
-      then-at-rate w ↦ joined-full _ _ _ _ _ w.if-at-rate.true (w.l-is ∙ w.permute.ensures) w.at-is
+      | then-at-rate w ↦ joined-full _ _ _ _ _ w.if-at-rate.true (w.l-is ∙ w.permute.ensures) w.at-is
       | else-at-rate w ↦ joined-part _ _ _ _ _ w.if-at-rate.false w.l-is w.at-is
     ]
 

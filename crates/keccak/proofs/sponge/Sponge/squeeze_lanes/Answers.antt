@@ -3,9 +3,9 @@
 use Rattle.bits.specs.Bytes.{le_bytes}
 use Prim.Native.Nat.{◌/◌, ◌%◌, ℕ, ◌+◌, ◌-◌, ◌<◌}
 use mathlib.Core.List.{List, ◌++◌}
-use lib.ListN.{take, length, get_or}
+use lib.ListN.{take, get_or}
 use Rattle.keccak.proofs.WholeLanes.{squeeze-next-lane, take-lane}
-use Rattle.keccak.proofs.Steps.{halfway-start, halfway-more, halfway-end, turned-room, turned-aligned, joined-full, joined-part, Halfway}
+use Rattle.keccak.proofs.Steps.{halfway-start, halfway-more, halfway-end, turned-room, turned-aligned, joined-full, joined-part}
 use Rattle.keccak.specs.declared.sponge.Sponge.{Sponge}
 use Rattle.keccak.specs.Steps.{turned}
 use native.Mathlib.Omega.{arith}
@@ -18,7 +18,7 @@ joined : (c : Joined-from-rate)
     → ◌≡◌ {A = Sponge} (record { lanes = c.if-from-rate.l; fill = c.if-from-rate.from }) (turned c.args.rate (record { lanes = c.loop-i.l; fill = c.loop-i.from }))
 joined c =
     elim c.if-from-rate.branch [
-      then-from-rate w ↦ joined-full _ _ _ _ _ w.if-from-rate.true (w.l-is ∙ w.permute.ensures) w.from-is
+      | then-from-rate w ↦ joined-full _ _ _ _ _ w.if-from-rate.true (w.l-is ∙ w.permute.ensures) w.from-is
       | else-from-rate w ↦ joined-part _ _ _ _ _ w.if-from-rate.false w.l-is w.from-is
     ]
 

@@ -1,16 +1,9 @@
 -- `keccak::sponge::Sponge::squeeze_lanes` meets its contract: the loop's invariant: halfway through giving out, at a lane's start.
 -- Assumes nothing.
-use Rattle.bits.specs.Bytes.{le_bytes}
-use Prim.Native.Nat.{◌/◌, ◌%◌, ℕ, ◌+◌, ◌-◌, ◌<◌}
-use mathlib.Core.List.{List, ◌++◌}
-use lib.ListN.{take, length, get_or}
-use Rattle.keccak.proofs.WholeLanes.{squeeze-next-lane, take-lane}
-use Rattle.keccak.proofs.Steps.{halfway-start, halfway-more, halfway-end, turned-room, turned-aligned, joined-full, joined-part, Halfway}
-use Rattle.keccak.specs.declared.sponge.Sponge.{Sponge}
-use mathlib.Core.Logic.{⊎_elim}
-use Rattle.keccak.specs.Steps.{turned}
-use native.Mathlib.Omega.{arith}
-use mathlib.Core.Path.{◌≡◌, sym, ap, ◌∙◌}
+use Prim.Native.Nat.{◌%◌, ◌-◌}
+use lib.ListN.{length}
+use Rattle.keccak.proofs.Steps.{Halfway}
+use mathlib.Core.Path.{◌≡◌}
 use Rattle.keccak.proofs.sponge.Sponge.squeeze_lanes.Given as goal
 
 abbrev pub invariant-loop-i : goal.invariant-loop-i

@@ -2,7 +2,6 @@
 -- Assumes nothing.
 use borrow.Author.Tests.{eq-eqb, ne_eqb}
 use Rattle.keccak.specs.Steps.{turned}
-use borrow.Author.Rules.{rules}
 use Rattle.keccak.proofs.sponge.Sponge.turn.Goals as goal
 
 pub returns-then-at-rate : goal.returns-then-at-rate

@@ -1,0 +1,17 @@
+-- `instance::seeding::seed_rows` meets its contract. The loop's invariant: the first i rows are written.
+-- Assumes nothing.
+use mathlib.Core.Path.{◌≡◌}
+use mathlib.Core.List.{flatten}
+use Prim.Native.Nat.{◌-◌, ◌*◌, ◌≤◌}
+use lib.ListN.{length, take, drop}
+use lib.Seq.{sets}
+use Rattle.bits.specs.Bits.{tabulate}
+use Rattle.instance.specs.Steps.{seed_but}
+use Rattle.instance.proofs.seeding.seed_rows.Given as goal
+
+abbrev pub invariant-loop-i : goal.invariant-loop-i
+invariant-loop-i l =
+    (l.i ≤ l.n) × ((length l.memory ≡ length l.initial.memory) × (l.memory ≡ sets l.initial.memory l.to (flatten (tabulate l.i (seed_but l.p l.inst.context (take (16 * l.n) (drop l.leaves l.initial.memory)))))))
+
+abbrev pub decreases-loop-i : goal.decreases-loop-i
+decreases-loop-i l = l.n - l.i
