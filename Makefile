@@ -4,13 +4,15 @@
 #              target/; make bench KEEP=1 writes docs/proof-cost.txt and docs/proof-cost.svg
 # make install PREFIX=/usr/local   headers, archives, pkg-config files, wv, its manual page and completions
 # make dist    tarballs in target/dist: the sources, and the package that the README begins with
+# make fmt     the layout of every crate and of the Rust sources
 
 .PHONY: run test bench lib install dist fmt
 
 cargo_run = cargo run --release --manifest-path rust/Cargo.toml --target-dir target/rust --offline --locked --quiet
 costs = $(if $(KEEP),docs,target)/proof-cost
 PREFIX ?= /usr/local
-below = $(shell sed -n 's/^wivulameno://p' crates.txt)
+# How many crates make lib proves side by side: a check takes 1 to 4 GB.
+jobs = $(shell nproc)
 
 run: lib
 	@$(cargo_run) --package wv --bin depot -- target/run
@@ -18,12 +20,13 @@ run: lib
 test:
 	@tools/gate
 
-# rt check proves crates that do not stand on each other side by side, rt staticlib one after the other: so the crates
-# below the library come first.
+# rt lib proves the crates below the library one after the other, rt all check side by side, and keeps what it proved
+# for rt lib, which writes crates/wivulameno/out/libwivulameno.a.
 lib:
 	@mkdir -p target
-	@echo "The library is proved, then built: some ten minutes the first time; target/lib.out shows how far it is."
-	@{ rt check $(below) && rt staticlib wivulameno; } >target/lib.out 2>&1 || { cat target/lib.out; exit 1; }
+	@echo "The library is proved, then built, which is long the first time; target/lib.out shows how far it is."
+	@(cd crates/wivulameno && rt all check --jobs $(jobs) && rt lib) >target/lib.out 2>&1 || \
+		{ cat target/lib.out; exit 1; }
 
 bench: lib
 	$(cargo_run) --package bench
@@ -37,5 +40,5 @@ dist: lib
 	@tools/dist target/dist
 
 fmt:
-	rt fmt
+	for crate in crates/*/; do (cd $$crate && rt fmt) || exit 1; done
 	cd rust && cargo fmt

@@ -3,7 +3,7 @@
  * of a depot's day: read a circuit, evaluate a row, stock a shelf, draw a root,
  * prove, check, and the incident in which an old page is put back.
  *
- *   gcc -std=c99 -Iinclude examples/embed.c target/staticlib/libwivulameno.a
+ *   gcc -std=c99 -Iinclude examples/embed.c crates/wivulameno/out/libwivulameno.a
  */
 #include <stdint.h>
 #include <stdio.h>

@@ -22,7 +22,7 @@ fn printed(input: &[u8]) -> String {
         .stdin(Stdio::piped())
         .stdout(Stdio::piped())
         .spawn()
-        .unwrap_or_else(|error| panic!("{}: {error}; rt ci builds it, or rt run there", program.display()));
+        .unwrap_or_else(|error| panic!("{}: {error}; rt ci builds it", program.display()));
     // a program that has read enough may close its end first
     let _ = child.stdin.take().unwrap().write_all(input);
     String::from_utf8(child.wait_with_output().unwrap().stdout).unwrap()
