@@ -146,7 +146,9 @@ fn answer(begin: u8, waiting: [bool; 16], jobs: [Job; 16], count: u32, verdicts:
     }
 }
 
-// Services in cyclic order until the quota is used or nobody waits.
+// Services in cyclic order until the quota is used or nobody waits. A function of its own in the archive too, so that what it needs of the
+// stack is given back before the state is written.
+#[inline(never)]
 fn serve_all(
     begin: u8,
     waiting: [bool; 16],

@@ -242,16 +242,10 @@ impl Args {
 
     /// A whole number, if the option is there.
     pub fn number<T: FromStr>(&self, name: &str) -> Result<Option<T>, Failure> {
-        let whole = |text: &str| !text.is_empty() && text.bytes().all(|byte| byte.is_ascii_digit());
-        let number = |text: &str| text.parse().ok().filter(|_| whole(text));
-        let too_large = |text: &str| whole(text) && number(text).is_none();
-        match self.option(name) {
-            Some(value) if value.to_str().is_some_and(too_large) => {
-                let text = format!("--{name} {}: this number is too large", shown(value));
-                Err(Failure::Usage(text))
-            }
-            _ => self.parsed(name, "a whole number", number),
-        }
+        self.parsed(name, "a whole number", |digits| {
+            let all_digits = digits.bytes().all(|byte| byte.is_ascii_digit());
+            digits.parse().ok().filter(|_| all_digits)
+        })
     }
 
     /// A decimal number of 0 or more, if the option is there.

@@ -89,7 +89,7 @@ impl Folder {
         command
     }
 
-    /// The steps of a run that ends well. The first line says that they were watched.
+    /// The steps of a run that ends well.
     fn steps_of(&self, line: &str) -> Vec<String> {
         let trace = self.0.with_extension("trace");
         let _ = fs::remove_file(&trace);
@@ -99,9 +99,7 @@ impl Folder {
         assert!(ended.status.success(), "{line}: {ended:?}");
         let text = fs::read_to_string(&trace).expect("a trace");
         fs::remove_file(&trace).expect("a trace");
-        let mut lines = text.lines().map(without_number);
-        assert_eq!(lines.next().as_deref(), Some("loaded ."));
-        lines.collect()
+        text.lines().map(without_number).collect()
     }
 
     /// The number in a line of the status.
@@ -217,8 +215,12 @@ fn is_of_shelf(step: &str) -> bool {
 fn a_status_makes_no_step() {
     let folder = Folder::new("no_step");
     folder.new_shelf(1);
-    let steps = folder.steps_of("shelf status page --log log");
-    assert_eq!(steps, Vec::<String>::new());
+    let trace = folder.0.with_extension("trace");
+    let path = trace.to_str().expect("text");
+    let line = "shelf status page --log log";
+    let ended = folder.watched(line, "WV_STEPS_TRACE", path).output();
+    assert!(ended.expect("wv ends").status.success());
+    assert!(!trace.exists());
 }
 
 /// 500 runs and more are killed, each at a step of its own, and the shelf is used

@@ -117,14 +117,11 @@ fn mistakes_with_small_circuits() {
     folder
         .wv(&format!("{one} --count --place 1"))
         .mistaken("one of `--count` and `--place`");
-    for place in ["-1", "x", "+1", "1.0"] {
+    for place in ["-1", "x", "18446744073709551616", "+1", "1.0"] {
         folder
             .wv(&format!("{one} --place {place}"))
             .mistaken(&format!("--place {place}: this is not a whole number"));
     }
-    folder
-        .wv(&format!("{one} --place 18446744073709551616"))
-        .mistaken("--place 18446744073709551616: this number is too large");
     folder
         .wv(&format!("{one} --place 1 --out no/k"))
         .mistaken("no/k: ");

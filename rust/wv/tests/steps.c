@@ -4,8 +4,7 @@
  * removing, locking. Each is a step, counted from 0.
  *
  *   WV_STEPS_IN      the folder
- *   WV_STEPS_TRACE   a file to which each step is appended, a line each, after
- *                    the line `loaded .`
+ *   WV_STEPS_TRACE   a file to which each step is appended, a line each
  *   WV_STEPS_KILL    the process is killed at this step; a write is half done
  *   WV_STEPS_STOP    the process stops before this step, until it is continued
  */
@@ -79,12 +78,6 @@ static void trace(const char *what, const char *name, const char *other)
     if (fd < 0 || syscall(SYS_write, fd, line, (size_t)len) != len)
         abort();
     syscall(SYS_close, fd);
-}
-
-/* No step: says that this library is there, also where no step follows. */
-__attribute__((constructor)) static void loaded(void)
-{
-    trace("loaded", ".", "");
 }
 
 /* Is the process to be killed at this step? */
