@@ -7,7 +7,7 @@ ghost use Rattle.shared_bytes.specs.Answers.{enter_paper, check_paper};
 
 use calling::call;
 use shared::{Place, Places};
-use state_bytes::reading::decode;
+use state_bytes::decoding::decode;
 use state_bytes::writing::encode;
 
 // The answer of an entry; a refusal by its number.

@@ -13,7 +13,7 @@
 // modulo the rate, 136.
 #![tactic(auto)]
 
-pub mod reading;
+pub mod decoding;
 pub mod writing;
 
 // The bytes of the state.

@@ -29,7 +29,7 @@ refused-requires-then-not-served c = tt
 pub returns-then-not-served : goal.returns-then-not-served
 returns-then-not-served c =
     let x = c.args in
-    nobody-waits x.s x.quota x.buffer.now x.work.now (held _ _ c.both-named.ensures c.if-not-named.false-raw) c.refused-then-not-served.result
+    nobody-waits x.s x.quota x.buffer.now x.work.now (held _ _ c.both-named.ensures (cc)) c.refused-then-not-served.result
     (omega (arith, c.next_caller-served.ensures, leb-false c.next_caller-served.result 15 (fell _ _ refl c.if-not-served.true-raw))) c.refused-then-not-served.ensures
 
 pub refused-requires-then-work-lt-SHARED_WORK : goal.refused-requires-then-work-lt-SHARED_WORK

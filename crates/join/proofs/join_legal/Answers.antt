@@ -19,7 +19,7 @@ returns-then-not-same c =
 pub returns-then-not-within : goal.returns-then-not-within
 returns-then-not-within c =
     let x = c in
-    refuse-sums x.args.first.now x.args.second.now x.args.out.now x.args.y x.requires.0 x.args.z x.requires.1 _ _ c.sums_within-within.ensures refl c.if-not-same.false-raw c.if-not-within.true-raw
+    refuse-sums x.args.first.now x.args.second.now x.args.out.now x.args.y x.requires.0 x.args.z x.requires.1 _ _ c.sums_within-within.ensures refl (cc) c.if-not-within.true-raw
 
 pub build-requires : goal.build-requires
 build-requires c =

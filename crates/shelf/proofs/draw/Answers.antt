@@ -42,7 +42,7 @@ pub returns-then-draws : goal.returns-then-draws
 returns-then-draws c =
     let x = c.args in
     let o = taken-apart (goal.at.returns-then-draws c).In-Sound in
-    let z : c.in-Sound.shelf.ready ≢ 0 = c.if-first-eq0.false in
+    let z : c.in-Sound.shelf.ready ≢ 0 = omega arith in
     draw-refused x.page.now x.count refusals.Exhausted _ c.refuse-then-draws.ensures
     (draw-18 x.page.now x.count o.0 (c.if-count-due.false ∙ ap (λ (t : Shelf). t.draws) o.1) (λ q. z (ap (λ (t : Shelf). t.ready) o.1 ∙ q))
     (sym (ap (λ (t : Shelf). t.draws) o.1) ∙ c.if-draws.true))

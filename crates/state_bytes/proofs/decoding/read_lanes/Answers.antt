@@ -1,9 +1,9 @@
--- `state_bytes::reading::read_lanes` meets its contract.
+-- `state_bytes::decoding::read_lanes` meets its contract.
 -- Assumes nothing.
 use mathlib.Core.Path.{refl}
 use Prim.Native.Nat.{◌-◌}
 use Rattle.state_bytes.proofs.Filled.{filled_none, filled_more, filled-end}
-use Rattle.state_bytes.proofs.reading.read_lanes.Goals as goal
+use Rattle.state_bytes.proofs.decoding.read_lanes.Goals as goal
 
 pub loop-i-init : goal.loop-i-init
 loop-i-init c = filled_none 25 _ _ refl

@@ -1,15 +1,15 @@
--- `state_bytes::reading::read_flags` meets its contract.
+-- `state_bytes::decoding::read_jobs` meets its contract.
 -- Assumes nothing.
 use mathlib.Core.Path.{refl}
 use Prim.Native.Nat.{◌-◌}
 use Rattle.state_bytes.proofs.Filled.{filled_none, filled_more, filled-end}
-use Rattle.state_bytes.proofs.reading.read_flags.Goals as goal
+use Rattle.state_bytes.proofs.decoding.read_jobs.Goals as goal
 
 pub loop-i-init : goal.loop-i-init
 loop-i-init c = filled_none 16 _ _ refl
 
 pub loop-i-preserved : goal.loop-i-preserved
-loop-i-preserved c = filled_more 16 _ _ _ _ c.loop-i.invariant c.loop-i-test.true refl
+loop-i-preserved c = filled_more 16 _ _ _ _ c.loop-i.invariant c.loop-i-test.true c.read_job.ensures
 
 pub returns : goal.returns
 returns c = filled-end 16 _ _ _ c.loop-i.invariant c.loop-i-test.false
