@@ -83,9 +83,15 @@ shown c n j p x = record {
   row = x.msgs_p;
 }
 
--- step 3: the execution of Π among the parties i ≠ p
+-- step 3: the execution of Π among the parties i ≠ p, with the masked inputs and msgs_{j,p} as sent
 unfoldable pub simulation : Circuit → ℕ → Context → ℕ → Chosen → Transcript
-simulation c n j p x = replay_of c n p (shown c n j p x)
+simulation c n j p x =
+    replay_of c n p (record {
+      tapes = hidden c p (tapes c n j (opened_leaf n j p x));
+      corrections = cond (eqb (suc p) n) (replicate (oct (ands_of c)) 0) x.aux;
+      masked_inputs = x.masked;
+      row = x.msgs_p;
+    })
 
 -- msgs_{j,i} of that execution; of party p the bits as sent (`MessagesAsSent`)
 unfoldable pub msgs : Circuit → ℕ → Context → ℕ → Chosen → ℕ → List ℕ
