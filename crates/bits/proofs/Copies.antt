@@ -7,7 +7,7 @@ use mathlib.Core.List.{List, ◌++◌, append-nil, append_assoc}
 use Prim.Native.Nat.{ℕ, ◌+◌, ◌-◌, ◌≤◌, ◌<◌}
 use borrow.Rule.Slice.PartMut.{mid_of, post_of, put_mid, mid_len, Post-is}
 use lib.ListN.{length, get_or, set, take, drop, replicate, length-replicate}
-use lib.Seq.{take-suc, take-suc-set, take_all, drop-length, length-take-le}
+use lib.Seq.{sets, sets-eq, take-suc, take-suc-set, take_all, drop-length, length-take-le}
 
 -- one more byte is copied
 pub copy_more : (s d : List ℕ) (i : ℕ) → i < length d → length d ≡ length s → take i d ≡ take i s
@@ -37,3 +37,10 @@ part-cleared s d z a len h e q =
     let l : length (mid_of a (a + len - a) d) ≡ len = mid_len a (a + len) d h ∙ omega arith in
     sym (append_assoc (take a d) z (post_of a (a + len - a) d))
     ∙ ap₂ ◌++◌ (ap₂ ◌++◌ (ap (take a) e) (q ∙ ap (λ (n : ℕ). replicate n 0) l)) (Post-is a (a + len) d (omega arith) ∙ ap (drop (a + len)) e)
+
+-- a part is stored
+pub part-stored : (s r vs : List ℕ) (a n : ℕ) → a + n ≤ length s → length vs ≡ n → r ≡ vs → put_mid a (a + n - a) s r ≡ sets s a vs
+part-stored s r vs a n h l e =
+    sym (append_assoc (take a s) r (post_of a (a + n - a) s))
+    ∙ ap₂ (λ (x y : List ℕ). take a s ++ x ++ y) e (Post-is a (a + n) s (omega arith) ∙ ap (λ (k : ℕ). drop (a + k) s) (sym l))
+    ∙ sym (sets-eq vs s a (omega arith))

@@ -43,10 +43,6 @@ lengths_differ a b h = test-eq (same_bytes a b) false (λ e. absurd (h (ap lengt
 abbrev pub Agree : List ℕ → List ℕ → ℕ → ℕ → Type 0
 Agree a b i d = (d ≡ 0) ↔ ((k : ℕ) → k < i → get_or a k 0 ≡ get_or b k 0)
 
--- no byte differs among none
-pub agree-none : (a b : List ℕ) → Agree a b 0 0
-agree-none a b = (λ e k l. absurd (omega arith), λ h. refl)
-
 -- one byte more
 pub agree-more : (a b : List ℕ) (i d : ℕ) → Agree a b i d → Agree a b (i + 1) (bit_or d (bit_xor (get_or a i 0) (get_or b i 0)))
 agree-more a b i d g =

@@ -42,14 +42,13 @@ pub fn unused_zero(s: &[u8], k: usize) -> bool
         return true;
     }
     let mut rest = s[j] >> ((k % 8) as u8);
-    let mut i = j + 1;
-    while i < s.len() {
-        rest = rest | s[i];
-        i += 1;
+    for i in j + 1..s.len() {
+        rest |= s[i];
     }
     rest == 0
 }
 
+// Not by from_le_bytes and to_le_bytes: the three widths stand on one another, and their definitions go byte by byte.
 // The number in the 2 bytes of s from `at` on.
 pub fn read_u16(s: &[u8], at: usize) -> u16
     requires { at + 2 ≤ length s.now }
@@ -101,7 +100,7 @@ pub fn write_u64(s: &mut [u8], at: usize, x: u64)
     write_u32(s, at + 4, (x / 4294967296) as u32);
 }
 
-// Whether a and b are the same bytes.
+// Whether a and b are the same bytes. Not by ==, which stops at the first that differ: secrets decide no branch.
 pub fn same(a: &[u8], b: &[u8]) -> bool
     ensures { result ≡ same_bytes a.now b.now }
 {
@@ -109,35 +108,25 @@ pub fn same(a: &[u8], b: &[u8]) -> bool
         return false;
     }
     let mut diff: u8 = 0;
-    let mut i = 0;
-    while i < a.len() {
-        diff = diff | (a[i] ^ b[i]);
-        i += 1;
+    for (x, y) in a.iter().zip(b) {
+        diff |= x ^ y;
     }
     diff == 0
 }
 
-// Copies the bytes.
+// Copies the bytes. A call by this name is as plain as one of copy_from_slice, so it stays.
 pub fn copy(from: &[u8], to: &mut [u8])
     requires { length to.old ≡ length «from».now }
     ensures { to.new ≡ «from».now }
 {
-    let mut k = 0;
-    while k < to.len() {
-        to[k] = from[k];
-        k += 1;
-    }
+    to.copy_from_slice(from);
 }
 
-// Sets every byte to zero.
+// Sets every byte to zero. A call by this name is as plain as one of fill, so it stays.
 pub fn clear(s: &mut [u8])
     ensures { s.new ≡ replicate (length s.old) 0 }
 {
-    let mut k = 0;
-    while k < s.len() {
-        s[k] = 0;
-        k += 1;
-    }
+    s.fill(0);
 }
 
 // Row `party` of s in rows of len bytes; the empty part where it is not wholly inside.

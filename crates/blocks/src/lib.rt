@@ -13,10 +13,8 @@ pub fn read_rows(s: &[u8], j: usize, step: usize, n: usize) -> [u64; 8]
     ensures { result ≡ row_words n s.now j step }
 {
     let mut r = [0u64; 8];
-    let mut p = 0;
-    while p < n {
+    for p in 0..n {
         r[p] = bits::read_u64(s, j + p * step);
-        p += 1;
     }
     r
 }
@@ -95,9 +93,7 @@ pub fn store_column(w: [u64; 8], b: usize, memory: &mut [u8], j: usize, step: us
         return;
     }
     let d = (8 * b) as u64;
-    let mut i = 0;
-    while i < n {
+    for i in 0..n {
         memory[j + i * step] = ((w[i] >> d) % 256) as u8;
-        i += 1;
     }
 }

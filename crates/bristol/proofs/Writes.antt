@@ -4,11 +4,11 @@ use mathlib.Core.Path.{◌≡◌, refl, sym, ap, ap₂, subst, ◌∙◌}
 use mathlib.Core.Bool.{Bool, true, false, cond, not}
 use mathlib.Core.List.{List, [], ◌∷◌, ◌++◌, flatten}
 use mathlib.Core.Option.{Option, none, some}
+use Rattle.std.specs.Prelude.{Result, Ok, Err, IsOk}
 use Prim.Native.Nat.{ℕ, suc, ◌+◌, ◌-◌, ◌≤◌, ◌<◌}
 use native.Mathlib.Omega.{arith}
 use lib.ListN.{length, drop}
 use lib.Seq.{sets, length-sets}
-use Rattle.refusal.specs.Refusal.{number_of}
 use Rattle.refusal.specs.Outcome.{success, refuses}
 use Rattle.refusal.specs.declared.Refusal.{Refusal}
 use Rattle.bits.specs.Bits.{tabulate}
@@ -20,15 +20,11 @@ use Rattle.building.specs.Steps.{four_bytes}
 use Rattle.building.proofs.Built.{built, not-built}
 use Rattle.bristol_text.specs.Text.{Line, lines}
 use Rattle.bristol_text.specs.declared.Cursor.{Cursor}
-use Rattle.bristol_lines.specs.Rules.{GateLine, Text, Reading, refused, says, Below, is_known, kind_on, gate_on, writes, fits_below, last_wire, gate_else22, gate_lines}
+use Rattle.bristol_lines.specs.Rules.{GateLine, Text, Reading, refused, says, is_known, kind_on, gate_on, writes, fits_below, last_wire, gate_else22, gate_lines}
 use Rattle.bristol_lines.specs.Conversion.{slot_of, first_slot, text_file}
 use Rattle.bristol.specs.Operations.{conversion}
-use Rattle.bristol_lines.specs.Steps.{record_bytes, Begun, HeaderTold, line_of, gate_of, read_as, gate_read, first_gate, GateAt, Few, gates_at, refusal_of, gate_before, gates_from, Going, Output, Room, Started, stored, filed}
+use Rattle.bristol_lines.specs.Steps.{record_bytes, line_of, gate_of, read_as, gate_read, first_gate, Gated, GateAt, Few, gates_at, refusal_of, gate_before, gates_from, Going, Output, Room, Started, stored, filed}
 use Rattle.bristol_lines.specs.declared.Gate.{Gate}
-use Rattle.bristol_lines.specs.declared.GateRead.{GateRead}
-use Rattle.bristol_lines.specs.declared.GateRead.TheVariants.{Read, Unknown, Malformed}
-use Rattle.bristol_lines.specs.declared.Header.{Header}
-use Rattle.bristol_lines.specs.declared.Header.TheVariants as header
 use Rattle.bristol_lines.specs.declared.Sizes.{Sizes}
 use Rattle.bristol_lines.proofs.Accepted.{Accepted, More, gates-accepted, below, accepted}
 use Rattle.bristol.proofs.Filed.{header_part, output_part, file-length}
@@ -38,7 +34,7 @@ use Rattle.bristol.proofs.Stored.{fits-writes, all-stored, gates-from}
 -- the first of good gate lines, of which one is left at least
 pub record Passed (I O G n : ℕ) (above : List GateLine) (ls : List Line) : Type 0 where
   pub gate : Gate
-  pub read : first_gate ls ≡ Read gate
+  pub read : first_gate ls ≡ Ok gate
   pub fits : fits_below I G above (line_of gate) ≡ true
   pub good : refusal_of (gate_lines I O G n (above ++ (line_of gate ∷ [])) (drop 1 ls)) ≡ none
   pub gates : gates_from ls ≡ line_of gate ∷ gates_from (drop 1 ls)
@@ -91,25 +87,25 @@ pub record Next (s : List ℕ) (z : Sizes) (left at next : ℕ) (g : Gate) : Typ
   pub wire : Output z (writes (line_of g))
   pub gates : gates_from (lines (drop at s)) ≡ line_of g ∷ gates_from (lines (drop next s))
 
-module _ (s : List ℕ) (z : Sizes) (left at : ℕ) (go : Going s z left at) (h : 1 ≤ left) (r : GateRead) (next : ℕ) (l : GateAt s at r next) where
+read_ok : (s : List ℕ) (at : ℕ) (r : Result (Gate × Cursor) Refusal) → GateAt s at r → (g : Gate) → first_gate (lines (drop at s)) ≡ Ok g → IsOk r
+read_ok s at (Ok p) l g e = refl
+read_ok s at (Err k) l g e = absurd (cc)
+
+module _ (s : List ℕ) (z : Sizes) (left at : ℕ) (go : Going s z left at) (h : 1 ≤ left) (r : Result (Gate × Cursor) Refusal) (l : GateAt s at r) where
   first-line : Passed z.inputs z.outputs z.gates (left - 1) go.above (lines (drop at s))
   first-line =
       let p : left ≡ suc (left - 1) = omega arith in
       going_step z.inputs z.outputs z.gates (left - 1) go.above (lines (drop at s))
       (ap (λ (i : ℕ). refusal_of (gate_lines z.inputs z.outputs z.gates i go.above (lines (drop at s)))) (sym p) ∙ go.good)
 
-  is_read : r ≡ Read first-line.gate
-  is_read = l.read ∙ first-line.read
+  -- it has a gate
+  pub always-ok : IsOk r
+  always-ok = read_ok s at r l first-line.gate first-line.read
 
-  pub never-unknown : r ≡ Unknown → ⊥
-  never-unknown e = let z : ◌≡◌ {A = ℕ} 0 1 = cc is_read in omega arith
-
-  pub never-malformed : r ≡ Malformed → ⊥
-  never-malformed e = let z : ◌≡◌ {A = ℕ} 0 1 = cc is_read in omega arith
-
-  pub next-line : (g : Gate) → r ≡ Read g → Next s z left at next g
-  next-line g e =
-      let q : first-line.gate ≡ g = cc is_read in
+  pub next-line : (g : Gate) (c : Cursor) → r ≡ Ok (g, c) → Next s z left at c.at g
+  next-line g c e =
+      let l : Gated s at g c.at = subst (GateAt s at) e l in
+      let q : first-line.gate ≡ g = cc (l.read, first-line.read) in
       let w = fits-writes z.inputs z.gates go.above (line_of first-line.gate) first-line.fits in
       record {
         going = record { above = go.above ++ (line_of first-line.gate ∷ []); good = rw l.rest first-line.good };
@@ -128,12 +124,12 @@ pub record Held (s : List ℕ) (z : Sizes) (out₀ : List ℕ) (x : List ℕ) (o
 module _ (s : List ℕ) (z : Sizes) (out₀ x : List ℕ) where
   module _ (out : List ℕ) (g : Gate) (left at : ℕ) (k : Held s z out₀ x out g left at) where
     -- the record of the gate that is held, with the slot of the next
-    pub held_more : 1 ≤ left → (r : GateRead) (next : ℕ) → GateAt s at r next → (h : Gate) → r ≡ Read h → (slot : ℕ) → slot ≡ writes (line_of h) - z.inputs + 1
+    pub held_more : 1 ≤ left → (r : Result (Gate × Cursor) Refusal) → GateAt s at r → (h : Gate) (c : Cursor) → r ≡ Ok (h, c) → (slot : ℕ) → slot ≡ writes (line_of h) - z.inputs + 1
         → (new : List ℕ) → new ≡ sets out (record_place z.outputs (writes (line_of g) - z.inputs)) (record_bytes (line_of g) slot)
-        → Held s z out₀ x new h (left - 1) next
+        → Held s z out₀ x new h (left - 1) c.at
     unfolding stored first_slot slot_of
-    held_more p r next l h e slot f new q =
-        let n = next-line s z left at k.going p r next l h e in
+    held_more p r l h c e slot f new q =
+        let n = next-line s z left at k.going p r l h c e in
         record {
           few = omega (arith, k.few);
           size = ap length q ∙ length-sets out (record_place z.outputs (writes (line_of g) - z.inputs)) (record_bytes (line_of g) slot) ∙ k.size;
@@ -270,12 +266,6 @@ convert-refused (refused k) n out e =
 convert-refused (says t) n out e =
     let z : ◌≡◌ {A = ℕ} 0 1 = cc in
     absurd (omega arith)
-
-pub header_refused : (s : List ℕ) (x : Below → Reading) (r : Header) (k : Refusal) → r ≡ header.Refused k → HeaderTold s x r → (below : Below) → x below ≡ refused (number_of k)
-header_refused s x r k e h = subst (HeaderTold s x) e h
-
-pub header-good : (s : List ℕ) (x : Below → Reading) (r : Header) (z : Sizes) (c : Cursor) → r ≡ header.Good z c → HeaderTold s x r → Begun s x z c.at
-header-good s x r z c e h = subst (HeaderTold s x) e h
 
 pub room-same : (z : Sizes) (out new : List ℕ) → Room z out → length new ≡ length out → Room z new
 room-same z out new r e = record { few = r.few; room = omega (arith, r.room) }

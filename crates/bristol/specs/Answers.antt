@@ -1,17 +1,14 @@
 -- The answer of convert in the paper's terms.
 -- Assumes nothing.
-use Rattle.std.specs.Prelude.{List, [], ◌∷◌, ℕ}
-use Rattle.refusal.specs.Refusal.{number_of}
+use Rattle.std.specs.Prelude.{List, [], ◌∷◌, ℕ, Result}
+use Rattle.refusal.specs.declared.Refusal.{Refusal}
 use Rattle.refusal.specs.Outcome as outcomes
-use Rattle.refusal.specs.Outcome.{refusal, success, Outcome}
-use Rattle.bristol.specs.declared.Answer.{Answer}
-use Rattle.bristol.specs.declared.Answer.TheVariants.{Written, Refused}
+use Rattle.refusal.specs.Outcome.{told, Outcome}
 
 -- "success gives the file's length"
-abbrev pub paper : Answer → outcomes.Answer
-paper (Written k) = success (k ∷ [])
-paper (Refused k) = refusal (number_of k)
+abbrev pub paper : Result ℕ Refusal → outcomes.Answer
+paper r = told (λ k. k ∷ []) r
 
 -- the answer, and what the lent output then holds
-abbrev pub outcome : Answer → List ℕ → Outcome
+abbrev pub outcome : Result ℕ Refusal → List ℕ → Outcome
 outcome r out = record { answer = paper r; left = out ∷ [] }

@@ -4,12 +4,3 @@
 pub mod conversion;
 mod walk;
 mod writing;
-
-use refusal::Refusal;
-
-// What converting a text answers: the length written, or a refusal.
-#[derive(Clone, Copy)]
-pub enum Answer {
-    Written(usize),
-    Refused(Refusal),
-}

@@ -3,58 +3,44 @@ ghost use Rattle.std.specs.Prelude.{◌≡◌, length};
 ghost use Rattle.circuit.specs.Steps.{wire_bytes};
 ghost use Rattle.bristol_lines.specs.Steps.{Few, LineTold, verdict, refusal_of, gates_at};
 
+use bristol_lines::Sizes;
 use bristol_lines::gates::{fits, next_gate, output_wire};
-use bristol_lines::{Check, GateRead, LineCheck, Sizes};
 use bristol_text::{Cursor, next_line};
 use circuit::WIRE_BYTES;
 use refusal::Refusal;
 
-// Tests the next line as a gate line below those whose wires are flagged.
-fn check_line(s: &[u8], z: Sizes, c: Cursor, flags: &[u8; WIRE_BYTES]) -> LineCheck
+// Tests the next line as a gate line below those whose wires are flagged: the wire that it writes, and the place after it.
+fn check_line(
+    s: &[u8],
+    z: Sizes,
+    c: Cursor,
+    flags: &[u8; WIRE_BYTES],
+) -> Result<(usize, Cursor), Refusal>
     requires { (length flags.now ≡ wire_bytes) × Few z }
     ensures { LineTold s.now z c.at flags.now result }
 {
-    let line = next_gate(s, c);
-    let read = line.read;
-    let next = line.next;
-    match read {
-        GateRead::Unknown => LineCheck::Refused(Refusal::GateKind),
-        GateRead::Malformed => LineCheck::Refused(Refusal::Text),
-        GateRead::Read(g) => {
-            if fits(flags, z.inputs, z.gates, g) {
-                LineCheck::Writes(output_wire(g), next)
-            } else {
-                LineCheck::Refused(Refusal::Text)
-            }
-        }
+    let (gate, next) = next_gate(s, c)?;
+    if !fits(flags, z.inputs, z.gates, gate) {
+        return Err(Refusal::Text);
     }
+    Ok((output_wire(gate), next))
 }
 
 // Tests the gate lines, and that no line follows them.
-pub(crate) fn check_gates(s: &[u8], z: Sizes, c: Cursor) -> Check
+pub(crate) fn check_gates(s: &[u8], z: Sizes, c: Cursor) -> Result<(), Refusal>
     requires { Few z }
     ensures { verdict result ≡ refusal_of (gates_at s.now z c.at) }
 {
-    let mut flags = [0u8; WIRE_BYTES];
-    let mut left = z.gates;
+    let mut flags = [0; WIRE_BYTES];
     let mut at = c.at;
-    while 0 < left {
-        let r = check_line(s, z, Cursor { at }, &flags);
-        match r {
-            LineCheck::Refused(k) => {
-                return Check::Refused(k);
-            }
-            LineCheck::Writes(wire, next) => {
-                bits::put_bit(&mut flags, wire, 1);
-                at = next.at;
-            }
-        }
-        left -= 1;
+    for _ in 0..z.gates {
+        let (wire, next) = check_line(s, z, Cursor { at }, &flags)?;
+        bits::put_bit(&mut flags, wire, 1);
+        at = next.at;
     }
     let line = next_line(s, Cursor { at });
-    let first = line.first;
-    if first < s.len() {
-        return Check::Refused(Refusal::Text);
+    if line.first < s.len() {
+        return Err(Refusal::Text);
     }
-    Check::Good
+    Ok(())
 }

@@ -13,7 +13,7 @@ ghost use Rattle.bristol_lines.specs.Rules.{writes};
 ghost use Rattle.bristol_lines.specs.Steps.{record_bytes, line_of, gates_from, gates_at, refusal_of, Output, Room, Started, stored, filed};
 
 use bristol_lines::gates::{next_gate, output_wire};
-use bristol_lines::{Gate, GateRead, Sizes};
+use bristol_lines::{Gate, Sizes};
 use bristol_text::Cursor;
 use building::write_four;
 use circuit::records::output_place;
@@ -38,12 +38,9 @@ fn write_outputs(out: &mut [u8], z: Sizes)
     requires { Room z out.old }
     ensures { out.new ≡ sets out.old (output_place 0) (flatten (tabulate z.outputs (λ k. le_bytes width (z.inputs + z.gates - z.outputs + k)))) }
 {
-    let n = z.outputs;
     let first = z.inputs + z.gates - z.outputs;
-    let mut j = 0;
-    while j < n {
+    for j in 0..z.outputs {
         bits::write_u32(out, output_place(j), ((first + j) % 4294967296) as u32);
-        j += 1;
     }
 }
 
@@ -60,18 +57,6 @@ fn write_record(out: &mut [u8], z: Sizes, g: Gate, next: usize)
     }
 }
 
-// The gate of a line that is known to have one.
-fn gate_read(r: GateRead) -> Gate
-    requires { (r ≡ GateRead.Unknown → ⊥) × (r ≡ GateRead.Malformed → ⊥) }
-    ensures { r ≡ GateRead.Read result }
-{
-    match r {
-        GateRead::Read(g) => g,
-        GateRead::Unknown => Gate::Inv(0, 0),
-        GateRead::Malformed => Gate::Inv(0, 0),
-    }
-}
-
 // Writes the records of a gate and of those on the lines after it. Each links to the next.
 fn write_records(s: &[u8], z: Sizes, c: Cursor, first: Gate, out: &mut [u8])
     requires { Started s.now z c.at (writes (line_of first)) out.old }
@@ -79,17 +64,12 @@ fn write_records(s: &[u8], z: Sizes, c: Cursor, first: Gate, out: &mut [u8])
 {
     let mut g = first;
     let mut at = c.at;
-    let mut left = z.gates - 1;
-    while 0 < left {
-        let line = next_gate(s, Cursor { at });
-        let read = line.read;
-        let next = line.next;
-        let h = gate_read(read);
+    for _ in 1..z.gates {
+        let (h, next) = next_gate(s, Cursor { at }).unwrap();
         let slot = output_wire(h) - z.inputs + 1;
         write_record(out, z, g, slot);
         g = h;
         at = next.at;
-        left -= 1;
     }
     write_record(out, z, g, 0);
 }
@@ -104,10 +84,7 @@ pub(crate) fn write_file(s: &[u8], z: Sizes, c: Cursor, out: &mut [u8])
         write_outputs(out, z);
         return;
     }
-    let line = next_gate(s, c);
-    let read = line.read;
-    let next = line.next;
-    let g = gate_read(read);
+    let (g, next) = next_gate(s, c).unwrap();
     let slot = output_wire(g) - z.inputs + 1;
     write_fields(out, 0, z.inputs, z.outputs, z.gates, slot);
     write_outputs(out, z);

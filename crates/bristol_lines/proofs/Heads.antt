@@ -1,9 +1,12 @@
 -- The header lines: what the walk over their tokens finds.
 -- Assumes nothing.
-use mathlib.Core.Path.{◌≡◌, refl, sym, ap, subst, ◌∙◌}
+use mathlib.Core.Path.{◌≡◌, refl, sym, ap, ◌∙◌}
 use mathlib.Core.Bool.{Bool, true, false, cond, not, ◌&&◌}
 use mathlib.Core.List.{List, [], ◌∷◌, map}
 use mathlib.Core.Option.{Option, none, some}
+use Rattle.std.specs.Prelude.{Some, None, Result, Ok, Err}
+use Rattle.std.specs.Prelude as std
+use Rattle.std.proofs.lemmas.Option.{some_pair_parts}
 use mathlib.Core.Logic.{⊎_elim}
 use Prim.Native.Nat.{ℕ, suc, ◌+◌, ◌-◌, ◌*◌, ◌≤◌, ◌<◌}
 use native.Mathlib.Numerals.{add-one}
@@ -12,48 +15,40 @@ use lib.Dec.{eqb, leb, ltb, eqb-suc-suc}
 use lib.ListN.{length, get_or, take, drop}
 use borrow.Author.Tests.{eq-eqb, ne_eqb, lt-ltb, le-ltb, le-leb, lt-leb}
 use Rattle.bristol_text.specs.Text.{Line, lines, tokens, is_number, value_of, all_numbers, sum}
-use Rattle.bristol_text.specs.Steps.{stop, token_at, tokens_after, number_at, field_at, LineAt}
-use Rattle.bristol_text.specs.declared.Class.TheVariants.{InToken}
+use Rattle.bristol_text.specs.Steps.{stop, token_at, tokens_after, number_at, field_at, LineAt, in_token}
 use Rattle.bristol_text.specs.declared.Cursor.{Cursor}
-use Rattle.bristol_text.specs.declared.Number.TheVariants as number
 use Rattle.bristol_text.proofs.Along.{tokens-step, token-inside, number_read, number-unread, number_small}
 use Rattle.bristol_text.proofs.Before.{field-read, field-unread, last-here, more-here}
 use Rattle.bristol_text.proofs.Lines.{no_line, line-here}
 use Rattle.circuit.specs.File.{max_inputs, max_outputs, max_gates}
 use Rattle.bristol_lines.specs.Rules.{Reading, refused, Below, is_header, numbers_on, is_counts, is_groups, group_sum, output_line, input_line, count_line}
-use Rattle.bristol_lines.specs.Steps.{whole, counts_of, groups_of, sizes_of, first_groups, SumAt, GroupsAt, Begun, HeaderTold}
-use Rattle.bristol_lines.specs.declared.Counts.{Counts}
-use Rattle.bristol_lines.specs.declared.Counts.TheVariants as counts
-use Rattle.bristol_lines.specs.declared.Groups.{Groups}
-use Rattle.bristol_lines.specs.declared.Groups.TheVariants as groups
-use Rattle.bristol_lines.specs.declared.GroupLine.{GroupLine}
-use Rattle.bristol_lines.specs.declared.GroupLine.TheVariants as groupLine
-use Rattle.bristol_lines.specs.declared.Header.{Header}
-use Rattle.bristol_lines.specs.declared.Header.TheVariants as header
+use Rattle.bristol_lines.specs.Steps.{whole, counts_of, groups_of, sizes_of, first_groups, SumAt, Begun, HeaderTold}
+use Rattle.bristol_lines.specs.declared.Sizes.{Sizes}
+use Rattle.refusal.specs.declared.Refusal.{Refusal}
 
 pub and-false : (a : Bool) → a && false ≡ false
 and-false true = refl
 and-false false = refl
 
 -- the first token of a line, and those after it
-line-tokens : (l : List ℕ) → tokens l ≡ token_at l 0 ∷ tokens_after l (stop InToken l 0)
+line-tokens : (l : List ℕ) → tokens l ≡ token_at l 0 ∷ tokens_after l (stop in_token l 0)
 line-tokens l = tokens-step l 0 (omega arith)
 
 -- line 1, by its tokens
-counts_from : List (List ℕ) → Counts
+counts_from : List (List ℕ) → std.Option (ℕ × ℕ)
 counts_from ts =
-    cond (all_numbers ts && eqb (length (map value_of ts)) 2) (counts.Of (get_or (map value_of ts) 0 0) (get_or (map value_of ts) 1 0)) counts.Malformed
+    cond (all_numbers ts && eqb (length (map value_of ts)) 2) (Some (get_or (map value_of ts) 0 0, get_or (map value_of ts) 1 0)) None
 
 module _ (l : List ℕ) where
   counts-tokens : (ts : List (List ℕ)) → tokens l ≡ ts → counts_of l ≡ counts_from ts
   unfolding counts_of is_counts is_header numbers_on counts_from
   counts-tokens ts e = rw e
 
-counts-other : (ts : List (List ℕ)) → (length (map value_of ts) ≡ 2 → ⊥) → counts_from ts ≡ counts.Malformed
+counts-other : (ts : List (List ℕ)) → (length (map value_of ts) ≡ 2 → ⊥) → counts_from ts ≡ None
 unfolding counts_from
 counts-other ts n = rw (ne_eqb (length (map value_of ts)) 2 n, and-false (all_numbers ts))
 
-counts-bad : (ts : List (List ℕ)) → all_numbers ts ≡ false → counts_from ts ≡ counts.Malformed
+counts-bad : (ts : List (List ℕ)) → all_numbers ts ≡ false → counts_from ts ≡ None
 unfolding counts_from
 counts-bad ts n = rw n
 
@@ -65,66 +60,66 @@ second-bad : (t u : List ℕ) (ts : List (List ℕ)) → is_number u ≡ false �
 unfolding all_numbers
 second-bad t u ts n = rw n (and-false (is_number t))
 
-counts-two : (t u : List ℕ) → is_number t ≡ true → is_number u ≡ true → counts_from (t ∷ u ∷ []) ≡ counts.Of (value_of t) (value_of u)
+counts-two : (t u : List ℕ) → is_number t ≡ true → is_number u ≡ true → counts_from (t ∷ u ∷ []) ≡ Some (value_of t, value_of u)
 unfolding counts_from all_numbers
 counts-two t u a b = rw (a, b)
 
 module _ (l : List ℕ) where
-  pub counts-none : field_at l 0 ≡ number.Malformed → counts.Malformed ≡ counts_of l
+  pub counts-none : field_at l 0 ≡ None → counts_of l ≡ None
   counts-none e =
       ⊎_elim
-      (λ n. sym (counts-tokens l _ (line-tokens l) ∙ counts-bad _ (first-bad (token_at l 0) _ n)))
-      (λ h. sym (counts-tokens l _ (last-here l 0 (omega arith) h) ∙ counts-other _ (λ q. omega arith)))
+      (λ n. counts-tokens l _ (line-tokens l) ∙ counts-bad _ (first-bad (token_at l 0) _ n))
+      (λ h. counts-tokens l _ (last-here l 0 (omega arith) h) ∙ counts-other _ (λ q. omega arith))
       (field-unread l 0 e)
 
-  module _ (n : ℕ) (c : Cursor) (e : field_at l 0 ≡ number.Value n c) where
+  module _ (n : ℕ) (c : Cursor) (e : field_at l 0 ≡ Some (n, c)) where
     next : c.at ≤ length l
     next = let f = field-read l 0 n c e in omega (arith, f.ends, f.room)
 
-    two : tokens l ≡ token_at l 0 ∷ token_at l c.at ∷ tokens_after l (stop InToken l c.at)
+    two : tokens l ≡ token_at l 0 ∷ token_at l c.at ∷ tokens_after l (stop in_token l c.at)
     two =
         let f = field-read l 0 n c e in
         more-here l 0 (omega arith) f.room
         ∙ ap (λ (ts : List (List ℕ)). token_at l 0 ∷ ts) (ap (λ (k : ℕ). tokens (drop k l)) (sym f.ends) ∙ tokens-step l c.at next)
 
-    pub counts-one : number_at l c.at ≡ number.Malformed → counts.Malformed ≡ counts_of l
-    counts-one g = sym (counts-tokens l _ two ∙ counts-bad _ (second-bad (token_at l 0) (token_at l c.at) _ (number-unread l c.at g)))
+    pub counts-one : number_at l c.at ≡ None → counts_of l ≡ None
+    counts-one g = counts-tokens l _ two ∙ counts-bad _ (second-bad (token_at l 0) (token_at l c.at) _ (number-unread l c.at g))
 
-    module _ (m : ℕ) (d : Cursor) (g : number_at l c.at ≡ number.Value m d) where
-      pub counts-more : d.at < length l → counts.Malformed ≡ counts_of l
+    module _ (m : ℕ) (d : Cursor) (g : number_at l c.at ≡ Some (m, d)) where
+      pub counts-more : d.at < length l → counts_of l ≡ None
       unfolding tokens_after
       counts-more h =
           let k = number_read l c.at m d g in
-          let end : stop InToken l c.at < length l = omega (arith, k.ends) in
+          let end : stop in_token l c.at < length l = omega (arith, k.ends) in
           let three = two
-          ∙ ap (λ (b : Bool). token_at l 0 ∷ token_at l c.at ∷ cond b (tokens (drop (suc (stop InToken l c.at)) l)) []) (lt-ltb (stop InToken l c.at) (length l) end)
-          ∙ ap (λ (ts : List (List ℕ)). token_at l 0 ∷ token_at l c.at ∷ ts) (tokens-step l (suc (stop InToken l c.at)) end) in
-          sym (counts-tokens l _ three ∙ counts-other _ (λ q. omega arith))
+          ∙ ap (λ (b : Bool). token_at l 0 ∷ token_at l c.at ∷ cond b (tokens (drop (suc (stop in_token l c.at)) l)) []) (lt-ltb (stop in_token l c.at) (length l) end)
+          ∙ ap (λ (ts : List (List ℕ)). token_at l 0 ∷ token_at l c.at ∷ ts) (tokens-step l (suc (stop in_token l c.at)) end) in
+          counts-tokens l _ three ∙ counts-other _ (λ q. omega arith)
 
-      pub counts_all : length l ≤ d.at → counts.Of n m ≡ counts_of l
+      pub counts_all : length l ≤ d.at → counts_of l ≡ Some (n, m)
       unfolding tokens_after
       counts_all h =
           let f = field-read l 0 n c e in
           let k = number_read l c.at m d g in
           let all = two
-          ∙ ap (λ (b : Bool). token_at l 0 ∷ token_at l c.at ∷ cond b (tokens (drop (suc (stop InToken l c.at)) l)) [])
-          (le-ltb (stop InToken l c.at) (length l) (omega (arith, k.ends))) in
-          rw (f.value, k.value) (sym (counts-tokens l _ all ∙ counts-two (token_at l 0) (token_at l c.at) f.number k.number))
+          ∙ ap (λ (b : Bool). token_at l 0 ∷ token_at l c.at ∷ cond b (tokens (drop (suc (stop in_token l c.at)) l)) [])
+          (le-ltb (stop in_token l c.at) (length l) (omega (arith, k.ends))) in
+          rw (f.value, k.value) (counts-tokens l _ all ∙ counts-two (token_at l 0) (token_at l c.at) f.number k.number)
 
 -- the sizes of groups, one after the other
-sizes-end : (t : ℕ) → sizes_of 0 t [] ≡ groups.Sum t
+sizes-end : (t : ℕ) → sizes_of 0 t [] ≡ Some t
 unfolding sizes_of all_numbers sum
-sizes-end t = ap groups.Sum (omega arith)
+sizes-end t = ap (λ (n : ℕ). Some n) (omega arith)
 
-sizes-short : (left t : ℕ) → (left ≡ 0 → ⊥) → sizes_of left t [] ≡ groups.Malformed
+sizes-short : (left t : ℕ) → (left ≡ 0 → ⊥) → sizes_of left t [] ≡ None
 unfolding sizes_of all_numbers
 sizes-short left t n = rw (ne_eqb 0 left (λ e. n (sym e)))
 
-sizes-long : (t : ℕ) (x : List ℕ) (ts : List (List ℕ)) → sizes_of 0 t (x ∷ ts) ≡ groups.Malformed
+sizes-long : (t : ℕ) (x : List ℕ) (ts : List (List ℕ)) → sizes_of 0 t (x ∷ ts) ≡ None
 unfolding sizes_of
 sizes-long t x ts = rw (ne_eqb (length (x ∷ ts)) 0 (λ e. omega arith), and-false (all_numbers (x ∷ ts)))
 
-sizes-bad : (left t : ℕ) (x : List ℕ) (ts : List (List ℕ)) → is_number x ≡ false → sizes_of left t (x ∷ ts) ≡ groups.Malformed
+sizes-bad : (left t : ℕ) (x : List ℕ) (ts : List (List ℕ)) → is_number x ≡ false → sizes_of left t (x ∷ ts) ≡ None
 unfolding sizes_of
 sizes-bad left t x ts n = rw (first-bad x ts n)
 
@@ -142,11 +137,13 @@ pub record Summed (l : List ℕ) (n end t left at : ℕ) : Type 0 where
   pub same : sizes_of left t (tokens_after l at) ≡ sizes_of n 0 (tokens_after l end)
 
 module _ (l : List ℕ) (n end : ℕ) where
-  pub summed-none : end ≤ length l → Summed l n end 0 n end
-  summed-none h = record { inside = h; few = omega arith; small = omega arith; same = refl }
+  pub summed-none : end ≤ length l → Summed l n end 0 (n - 0) end
+  summed-none h =
+      let e : n - 0 ≡ n = omega arith in
+      rw e (record { inside = h; few = omega arith; small = omega arith; same = refl })
 
   module _ (t left at : ℕ) (k : Summed l n end t left at) where
-    here : at < length l → tokens_after l at ≡ token_at l (at + 1) ∷ tokens_after l (stop InToken l (at + 1))
+    here : at < length l → tokens_after l at ≡ token_at l (at + 1) ∷ tokens_after l (stop in_token l (at + 1))
     unfolding tokens_after
     here h =
         let one : suc at ≡ at + 1 = omega arith in
@@ -157,14 +154,14 @@ module _ (l : List ℕ) (n end : ℕ) where
     unfolding tokens_after
     none_left h = rw (le-ltb at (length l) h)
 
-    pub summed-long : at < length l → left ≡ 0 → groups.Malformed ≡ sizes_of n 0 (tokens_after l end)
+    pub summed-long : at < length l → left ≡ 0 → None ≡ sizes_of n 0 (tokens_after l end)
     summed-long h z =
-        sym (ap (λ (i : ℕ). sizes_of i t (tokens_after l at)) z ∙ ap (sizes_of 0 t) (here h) ∙ sizes-long t _ _) ∙ ap (λ (i : ℕ). sizes_of i t (tokens_after l at)) refl ∙ k.same
+        sym (ap (λ (i : ℕ). sizes_of i t (tokens_after l at)) z ∙ ap (sizes_of 0 t) (here h) ∙ sizes-long t _ _) ∙ k.same
 
-    pub summed-bad : at < length l → number_at l (at + 1) ≡ number.Malformed → groups.Malformed ≡ sizes_of n 0 (tokens_after l end)
+    pub summed-bad : at < length l → number_at l (at + 1) ≡ None → None ≡ sizes_of n 0 (tokens_after l end)
     summed-bad h e = sym (ap (sizes_of left t) (here h) ∙ sizes-bad left t _ _ (number-unread l (at + 1) e)) ∙ k.same
 
-    module _ (h : at < length l) (m : ℕ) (c : Cursor) (e : number_at l (at + 1) ≡ number.Value m c) where
+    module _ (h : at < length l) (m : ℕ) (c : Cursor) (e : number_at l (at + 1) ≡ Some (m, c)) where
       pub size_small : m < 1000000000
       size_small = let f = number_read l (at + 1) m c e in omega (arith, f.value, number_small (token_at l (at + 1)) f.number)
 
@@ -181,16 +178,16 @@ module _ (l : List ℕ) (n end : ℕ) where
                 (sym (ap (λ (i : ℕ). sizes_of i t (tokens_after l at)) p ∙ ap (sizes_of (suc (left - 1)) t) (here h) ∙ sizes-more (left - 1) t _ _ f.number) ∙ k.same);
           }
 
-    pub summed-all : length l ≤ at → left ≡ 0 → groups.Sum t ≡ sizes_of n 0 (tokens_after l end)
+    pub summed-all : length l ≤ at → left ≡ 0 → Some t ≡ sizes_of n 0 (tokens_after l end)
     summed-all h z = sym (rw (none_left h, z) (sizes-end t)) ∙ k.same
 
-    pub summed-short : length l ≤ at → (left ≡ 0 → ⊥) → groups.Malformed ≡ sizes_of n 0 (tokens_after l end)
+    pub summed-short : length l ≤ at → (left ≡ 0 → ⊥) → None ≡ sizes_of n 0 (tokens_after l end)
     summed-short h z = sym (rw (none_left h) (sizes-short left t z)) ∙ k.same
 
 -- a line of groups, by its tokens
-groups_from : List (List ℕ) → Groups
+groups_from : List (List ℕ) → std.Option ℕ
 groups_from ts =
-    cond (all_numbers ts && eqb (length (map value_of ts)) (get_or (map value_of ts) 0 0 + 1)) (groups.Sum (sum (drop 1 (map value_of ts)))) groups.Malformed
+    cond (all_numbers ts && eqb (length (map value_of ts)) (get_or (map value_of ts) 0 0 + 1)) (Some (sum (drop 1 (map value_of ts)))) None
 
 pub length-values : (ts : List (List ℕ)) → length (map value_of ts) ≡ length ts
 length-values [] = refl
@@ -205,7 +202,7 @@ groups-from t ts n =
     let z : sum (map value_of ts) ≡ 0 + sum (map value_of ts) = omega arith in
     rw (n, e, ← z)
 
-groups-first-bad : (t : List ℕ) (ts : List (List ℕ)) → is_number t ≡ false → groups_from (t ∷ ts) ≡ groups.Malformed
+groups-first-bad : (t : List ℕ) (ts : List (List ℕ)) → is_number t ≡ false → groups_from (t ∷ ts) ≡ None
 unfolding groups_from
 groups-first-bad t ts n = rw (first-bad t ts n)
 
@@ -214,10 +211,10 @@ module _ (l : List ℕ) where
   unfolding groups_of is_groups is_header numbers_on group_sum groups_from
   groups-tokens ts e = rw e
 
-  pub groups_none : number_at l 0 ≡ number.Malformed → groups.Malformed ≡ groups_of l
-  groups_none e = sym (groups-tokens _ (line-tokens l) ∙ groups-first-bad (token_at l 0) _ (number-unread l 0 e))
+  pub groups_none : number_at l 0 ≡ None → groups_of l ≡ None
+  groups_none e = groups-tokens _ (line-tokens l) ∙ groups-first-bad (token_at l 0) _ (number-unread l 0 e)
 
-  module _ (n : ℕ) (c : Cursor) (e : number_at l 0 ≡ number.Value n c) where
+  module _ (n : ℕ) (c : Cursor) (e : number_at l 0 ≡ Some (n, c)) where
     pub groups-room : (n < 1000000000) × (c.at ≤ length l)
     groups-room =
         let f = number_read l 0 n c e in (
@@ -238,16 +235,12 @@ unended : (l : List ℕ) (b : Bool) → b ≡ false → is_groups (record { byte
 unfolding is_groups is_header
 unended l b e = rw e
 
-sum-when : (b : Bool) (x n : ℕ) → cond b (groups.Sum x) groups.Malformed ≡ groups.Sum n → ◌≡◌ {A = Option ℕ} (cond b (some x) none) (some n)
+sum-when : (b : Bool) (x n : ℕ) → cond b (Some x) None ≡ Some n → ◌≡◌ {A = Option ℕ} (cond b (some x) none) (some n)
 sum-when true x n e = ap some (cc)
-sum-when false x n e =
-    let z : ◌≡◌ {A = ℕ} 0 1 = cc in
-    absurd (omega arith)
+sum-when false x n e = absurd (cc)
 
-none-when : (b : Bool) (x : ℕ) → cond b (groups.Sum x) groups.Malformed ≡ groups.Malformed → ◌≡◌ {A = Option ℕ} (cond b (some x) none) none
-none-when true x e =
-    let z : ◌≡◌ {A = ℕ} 0 1 = cc in
-    absurd (omega arith)
+none-when : (b : Bool) (x : ℕ) → cond b (Some x) None ≡ None → ◌≡◌ {A = Option ℕ} (cond b (some x) none) none
+none-when true x e = absurd (cc)
 none-when false x e = refl
 
 module _ (s : List ℕ) (at first last : ℕ) (k : LineAt s at first last) where
@@ -268,23 +261,17 @@ module _ (s : List ℕ) (at first last : ℕ) (k : LineAt s at first last) where
       line-is : lines (drop at s) ≡ whole part ∷ lines (drop last s)
       line-is = line-here s at first last k inside ∙ ap (λ (b : Bool). record { bytes = part; ended = b } ∷ lines (drop last s)) (lt-ltb last (length s) ended)
 
-      pub group-bad : groups_of part ≡ groups.Malformed → first_groups (lines (drop at s)) ≡ none
+      pub group-bad : groups_of part ≡ None → first_groups (lines (drop at s)) ≡ none
       unfolding first_groups groups_of
       group-bad e = ap first_groups line-is ∙ none-when (is_groups (whole part)) (group_sum (whole part)) e
 
-      pub group-sum : (n : ℕ) → groups_of part ≡ groups.Sum n → SumAt s at n last
+      pub group-sum : (n : ℕ) → groups_of part ≡ Some n → SumAt s at n last
       unfolding first_groups groups_of
       group-sum n e =
           record {
             found = ap first_groups line-is ∙ sum-when (is_groups (whole part)) (group_sum (whole part)) n e;
             rest = sym (ap (drop 1) line-is);
           }
-
-pub sum-at : (s : List ℕ) (at : ℕ) (r : GroupLine) (n : ℕ) (c : Cursor) → r ≡ groupLine.Sum n c → GroupsAt s at r → SumAt s at n c.at
-sum-at s at r n c e h = subst (GroupsAt s at) e h
-
-pub sum-none : (s : List ℕ) (at : ℕ) (r : GroupLine) → r ≡ groupLine.Malformed → GroupsAt s at r → first_groups (lines (drop at s)) ≡ none
-sum-none s at r e h = subst (GroupsAt s at) e h
 
 -- a reading by cases of the first line's sum
 none-false : (b : Bool) (x : ℕ) → ◌≡◌ {A = Option ℕ} (cond b (some x) none) none → b ≡ false
@@ -365,21 +352,17 @@ outputs-begun s at I G n next k a b c d e f =
       few = record { some_inputs = d; few_inputs = e; some_outputs = b; few_outputs = c; few_gates = f; enough = a };
     }
 
-pub header-same : (s : List ℕ) (r : Header) (x y : Below → Reading) → ((below : Below) → x below ≡ y below) → HeaderTold s y r → HeaderTold s x r
-header-same s (header.Good z c) x y e h = record { same = λ below. e below ∙ h.same below; few = h.few }
-header-same s (header.Refused k) x y e h = λ below. e below ∙ h below
+pub header-same : (s : List ℕ) (r : Result (Sizes × Cursor) Refusal) (x y : Below → Reading) → ((below : Below) → x below ≡ y below) → HeaderTold s y r → HeaderTold s x r
+header-same s (Ok p) x y e h = record { same = λ below. e below ∙ h.same below; few = h.few }
+header-same s (Err k) x y e h = λ below. e below ∙ h below
 
 -- line 1
-of-when : (b : Bool) (x y n m : ℕ) → cond b (counts.Of x y) counts.Malformed ≡ counts.Of n m → (b ≡ true) × ((x ≡ n) × (y ≡ m))
-of-when true x y n m e = (refl, (cc, cc))
-of-when false x y n m e =
-    let z : ◌≡◌ {A = ℕ} 0 1 = cc in
-    absurd (omega arith)
+of-when : (b : Bool) (x y n m : ℕ) → cond {A = std.Option (ℕ × ℕ)} b (Some (x, y)) None ≡ Some (n, m) → (b ≡ true) × ((x ≡ n) × (y ≡ m))
+of-when true x y n m e = (refl, some_pair_parts x n y m e)
+of-when false x y n m e = absurd (cc)
 
-unof-when : (b : Bool) (x y : ℕ) → cond b (counts.Of x y) counts.Malformed ≡ counts.Malformed → b ≡ false
-unof-when true x y e =
-    let z : ◌≡◌ {A = ℕ} 0 1 = cc in
-    absurd (omega arith)
+unof-when : (b : Bool) (x y : ℕ) → cond {A = std.Option (ℕ × ℕ)} b (Some (x, y)) None ≡ None → b ≡ false
+unof-when true x y e = absurd (cc)
 unof-when false x y e = refl
 
 uncounted : (l : List ℕ) (b : Bool) → b ≡ false → is_counts (record { bytes = l; ended = b }) ≡ false
@@ -410,13 +393,13 @@ module _ (below : Below) where
         abbrev l₁ : Line
         l₁ = whole (part s 0 first last k inside)
 
-        pub text-bad : counts_of (part s 0 first last k inside) ≡ counts.Malformed → count_line below (lines s) ≡ refused 22
+        pub text-bad : counts_of (part s 0 first last k inside) ≡ None → count_line below (lines s) ≡ refused 22
         unfolding counts_of
         text-bad e =
             ap (count_line below) (line-is s 0 first last k inside ended)
             ∙ count-bad l₁ _ (unof-when (is_counts l₁) (get_or (numbers_on l₁) 0 0) (get_or (numbers_on l₁) 1 0) e)
 
-        module _ (G W : ℕ) (e : counts_of (part s 0 first last k inside) ≡ counts.Of G W) where
+        module _ (G W : ℕ) (e : counts_of (part s 0 first last k inside) ≡ Some (G, W)) where
           counted : count_line below (lines s) ≡ cond (not (leb G max_gates)) (refused 24) (input_line below G W (lines (drop last s)))
           unfolding counts_of
           counted =

@@ -1,10 +1,11 @@
 -- Gate lines: what is read on one, and its place among the others.
 -- Assumes nothing.
-use mathlib.Core.Path.{◌≡◌, refl, sym, ap, ap₂, subst, ◌∙◌}
+use mathlib.Core.Path.{◌≡◌, refl, sym, ap, ap₂, ◌∙◌}
 use mathlib.Core.Bool.{Bool, true, false, cond, not, ◌&&◌, ◌||◌}
 use mathlib.Core.List.{List, [], ◌∷◌, ◌++◌}
 use mathlib.Core.Logic.{⊎_elim}
 use mathlib.Core.Option.{Option, none, some}
+use Rattle.std.specs.Prelude.{Result, Ok, Err}
 use Prim.Native.Nat.{ℕ, suc, ◌+◌, ◌-◌, ◌*◌, ◌≤◌, ◌<◌}
 use Rattle.bits.proofs.Numbers.{eq-or-ne, odd-bit_val}
 use native.Mathlib.Omega.{arith}
@@ -13,27 +14,21 @@ use lib.ListN.{length, get_or, take, drop}
 use borrow.Author.Tests.{eq-eqb, ne_eqb, lt-ltb, le-ltb, le-leb, lt-leb, ltb-true, eqb-true}
 use Rattle.bits.specs.Bits.{bit_val, bit_at, odd}
 use Rattle.bits.specs.Steps.{put_bit}
-use Rattle.bits.proofs.Packing.{length-put_bit, bit_at-put_bit, bit_at-put_bit-other}
+use Rattle.bits.proofs.Packing.{length-put_bit, bit_at-end, bit_at-put_bit, bit_at-put_bit-other}
 use Rattle.bits.proofs.Tests.{and-true-left, and-true-right}
 use Rattle.circuit.specs.Steps.{wire_bytes}
 use Rattle.bristol_text.specs.Text.{Line, lines}
-use Rattle.bristol_text.specs.Steps.{LineAt, values_before, are_fields, FieldsTold}
-use Rattle.bristol_text.specs.declared.Cursor.{Cursor}
+use Rattle.bristol_text.specs.Steps.{LineAt, values_before, are_fields, FirstFive}
+use Rattle.bristol_text.specs.declared.Fields.{Fields}
 use Rattle.refusal.specs.declared.Refusal.{Refusal}
-use Rattle.refusal.specs.Refusal.{number_of}
-use Rattle.bristol_text.proofs.Lines.{no_line, line-here, line_after, lines_end}
+use Rattle.refusal.specs.declared.Refusal.TheVariants as refusal
+use Rattle.bristol_text.proofs.Lines.{no_line, line-here}
 use Rattle.bristol_lines.specs.Rules.{GateLine, xor, and, inv, Reading, refused, is_known, kind_on, begins, gate_named, gate_on, writes, written, readable, writable, fits_below, gate_else22, gate_lines}
-use Rattle.bristol_lines.specs.Steps.{line_of, gate_of, read_as, gate_read, gate_from, starts_with, kind_finding, form_finding, first_of, first_gate, GateAt, flagged, written_on, may_read, may_write, fits_flags, line_refusal, Writing, LineTold, Few, gates_at, refusal_of}
+use Rattle.bristol_lines.specs.Steps.{line_of, gate_of, read_as, gate_read, gate_from, starts_with, first_gate, flagged, may_read, may_write, fits_flags, line_refusal, Writing, Few, gates_at, refusal_of}
 use Rattle.bristol_lines.specs.declared.Kind.{Kind}
 use Rattle.bristol_lines.specs.declared.Kind.TheVariants.{Xor, And, Inv, Other}
 use Rattle.bristol_lines.specs.declared.Gate.{Gate}
-use Rattle.bristol_lines.specs.declared.GateRead.{GateRead}
-use Rattle.bristol_lines.specs.declared.GateRead.TheVariants.{Read, Unknown, Malformed}
-use Rattle.bristol_lines.specs.declared.LineCheck.{LineCheck}
-use Rattle.bristol_lines.specs.declared.LineCheck.TheVariants as lineCheck
 use Rattle.bristol_lines.specs.declared.Sizes.{Sizes}
-use Rattle.bristol_lines.specs.declared.Finding.{Finding}
-use Rattle.bristol_lines.specs.declared.Finding.TheVariants as finding
 use Rattle.bristol_lines.proofs.Chained.{written-more}
 
 -- a bit is 1 where it is set
@@ -55,29 +50,52 @@ module _ (I G w : ℕ) (flags : List ℕ) where
   unfolding may_write
   write-none h l = rw (le-leb I w h, le-ltb w (I + G) l)
 
+module _ (I c w : ℕ) (flags : List ℕ) where
+  pub read-input : w < I → true ≡ may_read I flags c w
+  unfolding may_read
+  read-input h = rw (lt-ltb w I h)
+
+  pub read-flag : (b : ℕ) → b ≡ bit_val (bit_at flags w) → I ≤ w → (w ≡ c → ⊥) → eqb b 1 ≡ may_read I flags c w
+  unfolding may_read flagged
+  read-flag b e h n = rw (le-ltb w I h, ne_eqb w c n) (ap (λ (i : ℕ). eqb i 1) e ∙ bit-set (bit_at flags w))
+
+  pub read-own : I ≤ w → w ≡ c → false ≡ may_read I flags c w
+  unfolding may_read
+  read-own h e = rw (le-ltb w I h, eq-eqb w c e)
+
+  pub read-end : I ≤ w → (w ≡ c → ⊥) → 8 * length flags ≤ w → false ≡ may_read I flags c w
+  unfolding may_read flagged
+  read-end h n end = rw (le-ltb w I h, ne_eqb w c n, bit_at-end flags w end)
+
 -- a gate by the numbers before its kind
-read-cond : (b : Bool) (g : GateLine) → cond b (Read (gate_of g)) Malformed ≡ read_as (cond b (some g) none)
+read-cond : (b : Bool) (g : GateLine) → cond b (Ok (gate_of g)) (Err refusal.Text) ≡ read_as (cond b (some g) none)
 unfolding read_as
 read-cond true g = refl
 read-cond false g = refl
 
-module _ (l : List ℕ) (count : ℕ) (ns : List ℕ) (f : FieldsTold l true count ns) where
+module _ (l : List ℕ) (five : Fields) (f : FirstFive l five) where
   abbrev vs : List ℕ
   vs = values_before l
 
+  abbrev count : ℕ
+  count = five.count
+
+  abbrev ns : List ℕ
+  ns = five.numbers
+
   same-value : (i j : ℕ) → count ≡ i + 3 → i ≤ 2 → j < i + 3 → get_or ns j 0 ≡ get_or vs j 0
-  same-value i j e h k = sym (f.values refl j (omega arith) (omega arith))
+  same-value i j e h k = sym (f.values j (omega arith) (omega arith))
 
   -- the gate with i inputs
   module _ (i : ℕ) (low : 1 ≤ i) (high : i ≤ 2) (g : ℕ → ℕ → ℕ → GateLine) where
     by_count : (b : Bool) → eqb count (i + 3) ≡ b
-        → cond (starts_with i count (get_or ns 0 0) (get_or ns 1 0)) (Read (gate_of (g (get_or ns 2 0) (get_or ns 3 0) (get_or ns (i + 2) 0)))) Malformed
+        → cond (starts_with i count (get_or ns 0 0) (get_or ns 1 0)) (Ok (gate_of (g (get_or ns 2 0) (get_or ns 3 0) (get_or ns (i + 2) 0)))) (Err refusal.Text)
         ≡ read_as (cond (begins i (i + 3) vs) (some (g (get_or vs 2 0) (get_or vs 3 0) (get_or vs (i + 2) 0))) none)
     unfolding starts_with begins read_as
-    by_count false e = rw (sym (f.counted refl), e)
+    by_count false e = rw (sym f.counted, e)
     by_count true e =
         let n : count ≡ i + 3 = eqb-true count (i + 3) e in
-        rw (sym (f.counted refl), same-value i 0 n high (omega arith), same-value i 1 n high (omega arith), same-value i 2 n high (omega arith), same-value i 3 n high (omega arith), same-value i (i + 2) n high (omega arith))
+        rw (sym f.counted, same-value i 0 n high (omega arith), same-value i 1 n high (omega arith), same-value i 2 n high (omega arith), same-value i 3 n high (omega arith), same-value i (i + 2) n high (omega arith))
         (read-cond (eqb count (i + 3) && eqb (get_or vs 0 0) i && eqb (get_or vs 1 0) 1) (g (get_or vs 2 0) (get_or vs 3 0) (get_or vs (i + 2) 0)))
 
   pub gate_same : (k : Kind) → is_known k ≡ true → gate_from k count ns ≡ read_as (gate_named k vs)
@@ -87,69 +105,51 @@ module _ (l : List ℕ) (count : ℕ) (ns : List ℕ) (f : FieldsTold l true cou
   gate_same Inv e = by_count 1 (omega arith) (omega arith) (λ a b c. inv a c) (eqb count 4) refl
   gate_same Other e = cc
 
--- a gate line by what is found first
-found-unknown : (b w : Bool) (x : GateRead) → first_of (cond b finding.Good finding.Unknown) (form_finding w) ≡ finding.Unknown → Unknown ≡ cond (not b) Unknown x
-unfolding first_of form_finding
-found-unknown true true x e = let z : ◌≡◌ {A = ℕ} 0 1 = cc in absurd (omega arith)
-found-unknown true false x e = let z : ◌≡◌ {A = ℕ} 0 1 = cc in absurd (omega arith)
-found-unknown false w x e = refl
+and-false : (b : Bool) → b && false ≡ false
+and-false true = refl
+and-false false = refl
 
-found-malformed : (b w : Bool) (o : Option GateLine) → first_of (cond b finding.Good finding.Unknown) (form_finding w) ≡ finding.Malformed → Malformed ≡ cond (not b) Unknown (read_as (cond w o none))
-unfolding first_of form_finding read_as
-found-malformed true true o e = let z : ◌≡◌ {A = ℕ} 0 1 = cc in absurd (omega arith)
-found-malformed true false o e = refl
-found-malformed false w o e = let z : ◌≡◌ {A = ℕ} 0 1 = cc in absurd (omega arith)
+pub known_kind : (k : Kind) → (k ≡ Other → ⊥) → is_known k ≡ true
+unfolding is_known
+known_kind Xor n = refl
+known_kind And n = refl
+known_kind Inv n = refl
+known_kind Other n = absurd (n refl)
 
-found-good : (b w : Bool) → first_of (cond b finding.Good finding.Unknown) (form_finding w) ≡ finding.Good → (b ≡ true) × (w ≡ true)
-unfolding first_of form_finding
-found-good true true e = (refl, refl)
-found-good true false e = let z : ◌≡◌ {A = ℕ} 0 1 = cc in absurd (omega arith)
-found-good false w e = let z : ◌≡◌ {A = ℕ} 0 1 = cc in absurd (omega arith)
+-- a gate line: another kind, then no numbers before it or no LF, then by its numbers
+module _ (l : Line) where
+  pub gate-unknown : kind_on l.bytes ≡ Other → Err refusal.GateKind ≡ gate_read l
+  unfolding gate_read is_known
+  gate-unknown e = rw e
 
-read_whole : (b w : Bool) (o : Option GateLine) → b ≡ true → w ≡ true → read_as o ≡ cond (not b) Unknown (read_as (cond w o none))
-read_whole b w o e f = rw (e, f)
+  module _ (known : is_known (kind_on l.bytes) ≡ true) where
+    malformed : l.ended && are_fields l.bytes ≡ false → Err refusal.Text ≡ gate_read l
+    unfolding gate_read gate_on are_fields read_as
+    malformed e = rw (known, e)
 
-module _ (l : Line) (good : Bool) (count : ℕ) (ns : List ℕ) (f : FieldsTold l.bytes good count ns) (k : Kind) (named : k ≡ kind_on l.bytes) (found : Finding) (first : found ≡ first_of (kind_finding k) (form_finding (l.ended && good))) where
-  abbrev whole : Bool
-  whole = l.ended && are_fields l.bytes
+    pub gate-unfielded : are_fields l.bytes ≡ false → Err refusal.Text ≡ gate_read l
+    gate-unfielded e = malformed (ap (λ (b : Bool). l.ended && b) e ∙ and-false l.ended)
 
-  first-is : (x : Finding) → found ≡ x → first_of (cond (is_known (kind_on l.bytes)) finding.Good finding.Unknown) (form_finding whole) ≡ x
-  unfolding kind_finding
-  first-is x e = rw (sym named, sym f.tested) (sym first ∙ e)
+    pub gate-unended : l.ended ≡ false → Err refusal.Text ≡ gate_read l
+    gate-unended e = malformed (ap (λ (b : Bool). b && are_fields l.bytes) e)
 
-  pub gate-unknown : found ≡ finding.Unknown → Unknown ≡ gate_read l
-  unfolding gate_read
-  gate-unknown e = found-unknown (is_known (kind_on l.bytes)) whole _ (first-is finding.Unknown e)
-
-  pub gate-malformed : found ≡ finding.Malformed → Malformed ≡ gate_read l
-  unfolding gate_read gate_on are_fields
-  gate-malformed e = found-malformed (is_known (kind_on l.bytes)) whole _ (first-is finding.Malformed e)
-
-  pub gate-good : found ≡ finding.Good → gate_from k count ns ≡ gate_read l
-  unfolding gate_read gate_on are_fields values_before
-  gate-good e =
-      let both = found-good (is_known (kind_on l.bytes)) whole (first-is finding.Good e) in
-      let all : FieldsTold l.bytes true count ns =
-      subst (λ (b : Bool). FieldsTold l.bytes b count ns) (f.tested ∙ and-true-right l.ended (are_fields l.bytes) both.1) f in
-      gate_same l.bytes count ns all k (ap is_known named ∙ both.0) ∙ ap (λ (k : Kind). read_as (gate_named k (values_before l.bytes))) named
-      ∙ read_whole (is_known (kind_on l.bytes)) whole _ both.0 both.1
+    pub gate-good : (f : Fields) → FirstFive l.bytes f → l.ended ≡ true → gate_from (kind_on l.bytes) f.count f.numbers ≡ gate_read l
+    unfolding gate_read gate_on are_fields values_before
+    gate-good f k e = gate_same l.bytes f k (kind_on l.bytes) known ∙ rw (known, e, k.tested)
 
 -- the next line as a gate line
 module _ (s : List ℕ) (at first last : ℕ) (k : LineAt s at first last) where
-  pub gate-none : length s ≤ first → GateAt s at Malformed last
+  pub gate-none : length s ≤ first → first_gate (lines (drop at s)) ≡ Err refusal.Text
   unfolding first_gate
-  gate-none h =
-      let e = no_line s at first last k h in
-      record {
-        read = sym (ap first_gate e);
-        rest = lines_end s last (omega (arith, line_after s at first last k)) ∙ sym (ap (drop 1) e);
-      }
+  gate-none h = ap first_gate (no_line s at first last k h)
 
-  pub gate-here : (r : GateRead) → first < length s → r ≡ gate_read (record { bytes = take (last - first) (drop first s); ended = ltb last (length s) }) → GateAt s at r last
+  pub gate-here : (r : Result Gate Refusal) → first < length s → r ≡ gate_read (record { bytes = take (last - first) (drop first s); ended = ltb last (length s) })
+      → first_gate (lines (drop at s)) ≡ r
   unfolding first_gate
-  gate-here r h e =
-      let f = line-here s at first last k h in
-      record { read = e ∙ sym (ap first_gate f); rest = sym (ap (drop 1) f) }
+  gate-here r h e = ap first_gate (line-here s at first last k h) ∙ sym e
+
+  pub gate-rest : first < length s → lines (drop last s) ≡ drop 1 (lines (drop at s))
+  gate-rest h = sym (ap (drop 1) (line-here s at first last k h))
 
 -- a gate line among the others
 pub line-of-gate : (g : GateLine) → line_of (gate_of g) ≡ g
@@ -157,7 +157,7 @@ line-of-gate (xor a b c) = refl
 line-of-gate (and a b c) = refl
 line-of-gate (inv a c) = refl
 
-read_step : (b : Bool) (o : Option GateLine) (f : GateLine → Reading) (q : Gate) → cond (not b) Unknown (read_as o) ≡ Read q
+read_step : (b : Bool) (o : Option GateLine) (f : GateLine → Reading) (q : Gate) → cond (not b) (Err refusal.GateKind) (read_as o) ≡ Ok q
     → cond (not b) (refused 23) (gate_else22 o f) ≡ f (line_of q)
 unfolding read_as gate_else22
 read_step false o f q e =
@@ -183,16 +183,12 @@ module _ (I O G : ℕ) (flags : List ℕ) (above : List GateLine) (marks : (w : 
 
   -- where the wire that a line writes is not written above, the line reads as if it wrote none
   may-read : (c w : ℕ) → flagged flags c ≡ false → may_read I flags c w ≡ readable I G above w
-  unfolding may_read written_on readable flagged
+  unfolding may_read readable flagged
   may-read c w h =
       ⊎_elim
       (λ e. rw (eq-eqb w c e) (ap (λ (b : Bool). ltb w I || b) (sym (ap (written above) e ∙ sym (marks c) ∙ h))))
-      (λ n. rw (ne_eqb w c n) (ap (λ (b : Bool). ltb w I || b) (bit-set (bit_at flags w) ∙ marks w)))
+      (λ n. rw (ne_eqb w c n) (ap (λ (b : Bool). ltb w I || b) (marks w)))
       (eq-or-ne w c)
-
-  and-false : (b : Bool) → b && false ≡ false
-  and-false true = refl
-  and-false false = refl
 
   never : (c : ℕ) → flagged flags c ≡ true → may_write I G flags c ≡ false
   unfolding may_write
@@ -213,7 +209,7 @@ module _ (I O G : ℕ) (flags : List ℕ) (above : List GateLine) (marks : (w : 
       by_flag c (may_read I flags c a && may_read I flags c b) (readable I G above a && readable I G above b) (λ h. rw (may-read c a h, may-read c b h))
   fits-same (inv a c) = by_flag c _ _ (may-read c a)
 
-  refusal-step : (b : Bool) (o : Option GateLine) (f : GateLine → Reading) (k : ℕ) → line_refusal I G flags (cond (not b) Unknown (read_as o)) ≡ some k
+  refusal-step : (b : Bool) (o : Option GateLine) (f : GateLine → Reading) (k : ℕ) → line_refusal I G flags (cond (not b) (Err refusal.GateKind) (read_as o)) ≡ some k
       → cond (not b) (refused 23) (gate_else22 o (λ g. cond (not (fits_below I G above g)) (refused 22) (f g))) ≡ refused k
   unfolding read_as gate_else22 line_refusal
   refusal-step false o f k e = ap refused (cc)
@@ -227,7 +223,7 @@ module _ (I O G : ℕ) (flags : List ℕ) (above : List GateLine) (marks : (w : 
   line_refused n k [] e = ap refused (cc)
   line_refused n k (l ∷ ls) e = refusal-step (is_known (kind_on l.bytes)) (gate_on l) (λ g. gate_lines I O G n (above ++ (g ∷ [])) ls) k e
 
-  pub line-passed : (n : ℕ) (q : Gate) (ls : List Line) → first_gate ls ≡ Read q → fits_flags I G flags (line_of q) ≡ true
+  pub line-passed : (n : ℕ) (q : Gate) (ls : List Line) → first_gate ls ≡ Ok q → fits_flags I G flags (line_of q) ≡ true
       → gate_lines I O G (suc n) above ls ≡ gate_lines I O G n (above ++ (line_of q ∷ [])) (drop 1 ls)
   unfolding first_gate gate_read gate_lines
   line-passed n q [] e f =
@@ -280,10 +276,11 @@ pub record Walked (s : List ℕ) (z : Sizes) (start : ℕ) (flags : List ℕ) (l
   pub same : gate_lines z.inputs z.outputs z.gates left above (lines (drop at s)) ≡ gates_at s z start
 
 module _ (s : List ℕ) (z : Sizes) (start : ℕ) where
-  pub walked_none : (flags : List ℕ) → length flags ≡ wire_bytes → ((w : ℕ) → bit_at flags w ≡ false) → Walked s z start flags z.gates start
+  pub walked_none : (flags : List ℕ) → length flags ≡ wire_bytes → ((w : ℕ) → bit_at flags w ≡ false) → Walked s z start flags (z.gates - 0) start
   unfolding gates_at flagged written
   walked_none flags r n =
-      record { above = []; few = omega arith; room = r; marks = n; same = refl }
+      let e : z.gates - 0 ≡ z.gates = omega arith in
+      rw e (record { above = []; few = omega arith; room = r; marks = n; same = refl })
 
   module _ (flags : List ℕ) (left at : ℕ) (k : Walked s z start flags left at) where
     abbrev I : ℕ
@@ -333,11 +330,3 @@ module _ (s : List ℕ) (z : Sizes) (start : ℕ) where
       pub walked_all : length s ≤ first → none ≡ refusal_of (gates_at s z start)
       unfolding refusal_of gate_lines
       walked_all l = ap refusal_of (at-end h _ (no_line s at first last n l))
-
-pub told-refused : (s : List ℕ) (z : Sizes) (at : ℕ) (flags : List ℕ) (r : LineCheck) (k : Refusal) → r ≡ lineCheck.Refused k → LineTold s z at flags r
-    → line_refusal z.inputs z.gates flags (first_gate (lines (drop at s))) ≡ some (number_of k)
-told-refused s z at flags r k e h = subst (LineTold s z at flags) e h
-
-pub told_writes : (s : List ℕ) (z : Sizes) (at : ℕ) (flags : List ℕ) (r : LineCheck) (w : ℕ) (c : Cursor) → r ≡ lineCheck.Writes w c → LineTold s z at flags r
-    → Writing s z at flags w c.at
-told_writes s z at flags r w c e h = subst (LineTold s z at flags) e h

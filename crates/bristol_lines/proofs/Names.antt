@@ -1,15 +1,17 @@
 -- The kind with a name, by the three tests in turn.
 -- Assumes nothing.
-use mathlib.Core.Path.{◌≡◌, sym, ap, ◌∙◌}
-use mathlib.Core.Bool.{true, false}
+use mathlib.Core.Path.{◌≡◌, refl, sym, ap, ◌∙◌}
+use mathlib.Core.Bool.{Bool, true, false, ◌&&◌}
 use mathlib.Core.List.{List, [], ◌∷◌}
-use Prim.Native.Nat.{ℕ, suc, ◌+◌, ◌-◌}
+use Prim.Native.Nat.{ℕ, ◌-◌}
 use native.Mathlib.Omega.{arith}
-use lib.ListN.{length, get_or, drop, length-drop}
-use lib.Seq.{drop-cons, drop-length}
-use Rattle.bits.proofs.Equal.{lengths_differ}
+use lib.Dec.{eqb}
+use lib.ListN.{length, take, drop, length-drop}
+use lib.Seq.{take_all}
+use Rattle.std.specs.Cmp.Lexicographic.{pointwise}
 use Rattle.bits.specs.Bytes.{same_bytes}
-use Rattle.bristol_lines.specs.Rules.{name_xor, name_and, name_inv, kind_named, kind_on}
+use Rattle.bristol_text.specs.Text.{tokens, the_last}
+use Rattle.bristol_lines.specs.Rules.{name_xor, name_and, name_inv, kind_named}
 use Rattle.bristol_text.specs.Steps.{LastToken}
 use Rattle.bristol_lines.specs.declared.Kind.TheVariants.{Xor, And, Inv, Other}
 
@@ -30,28 +32,17 @@ module _ (t : List ℕ) where
   unfolding kind_named
   is-other d e f = rw (d, e, f)
 
-  -- a name of another length than 3 is no kind's
-  pub is-long : (length t ≡ 3 → ⊥) → Other ≡ kind_named t
-  is-long n = is-other (lengths_differ t name_xor n) (lengths_differ t name_and n) (lengths_differ t name_inv n)
+-- the test of the code on the last token
+same-names : (s t : List ℕ) → same_bytes s t ≡ pointwise eqb s t
+unfolding same_bytes
+same-names [] [] = refl
+same-names [] (y ∷ t) = refl
+same-names (x ∷ s) [] = refl
+same-names (x ∷ s) (y ∷ t) = ap (λ (b : Bool). eqb x y && b) (same-names s t)
 
--- the last three bytes
-three : (l : List ℕ) (at : ℕ) → length l ≡ at + 3 → drop at l ≡ get_or l at 0 ∷ get_or l (at + 1) 0 ∷ get_or l (at + 2) 0 ∷ []
-three l at e =
-    let one : suc at ≡ at + 1 = omega arith in
-    let two : suc (at + 1) ≡ at + 2 = omega arith in
-    let all : suc (at + 2) ≡ length l = omega arith in
-    drop-cons l at 0 (omega arith)
-    ∙ ap (λ (r : List ℕ). get_or l at 0 ∷ r)
-    (ap (λ (k : ℕ). drop k l) one ∙ drop-cons l (at + 1) 0 (omega arith)
-    ∙ ap (λ (r : List ℕ). get_or l (at + 1) 0 ∷ r)
-    (ap (λ (k : ℕ). drop k l) two ∙ drop-cons l (at + 2) 0 (omega arith)
-    ∙ ap (λ (r : List ℕ). get_or l (at + 2) 0 ∷ r) (ap (λ (k : ℕ). drop k l) all ∙ drop-length l)))
-
-module _ (l : List ℕ) (at : ℕ) (t : LastToken l at) where
-  pub kind-long : (length l - at ≡ 3 → ⊥) → Other ≡ kind_on l
-  unfolding kind_on
-  kind-long n = is-long (drop at l) (λ e. n (sym (length-drop at l) ∙ e)) ∙ ap kind_named t.last
-
-  pub kind-three : length l - at ≡ 3 → kind_named (get_or l at 0 ∷ get_or l (at + 1) 0 ∷ get_or l (at + 2) 0 ∷ []) ≡ kind_on l
-  unfolding kind_on
-  kind-three e = ap kind_named (sym (three l at (omega (arith, t.inside))) ∙ t.last)
+pub tested : (l : List ℕ) (at : ℕ) → LastToken l at → (s name : List ℕ) → s ≡ name → (r : Bool) → r ≡ pointwise eqb (take (length l - at) (drop at l)) s
+    → same_bytes (the_last (tokens l)) name ≡ r
+tested l at k s name e r f =
+    let last : take (length l - at) (drop at l) ≡ the_last (tokens l) =
+    take_all (length l - at) (drop at l) (omega (arith, length-drop at l)) ∙ k.last in
+    same-names (the_last (tokens l)) name ∙ sym (f ∙ rw (last, e) refl)

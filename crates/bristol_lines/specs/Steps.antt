@@ -1,11 +1,13 @@
 -- What only the contracts of steps use: no definition of the format stands here.
 -- Assumes nothing.
 use Rattle.std.specs.Prelude.{◌≡◌, Bool, true, cond, not, ◌&&◌, ◌||◌, List, [], ◌∷◌, ◌++◌, map, ℕ, ◌+◌, ◌-◌, ◌*◌, ◌≤◌, ◌<◌, eqb, leb, ltb, length, get_or, drop}
+use Rattle.std.specs.Prelude.{Some, None, Result, Ok, Err, ⊤}
+use Rattle.std.specs.Prelude as std
 use Rattle.std.proofs.Math.Option.{Option, none, some}
 use Rattle.std.proofs.lemmas.List.Edits.{sets}
 use Rattle.refusal.specs.Refusal.{number_of}
 use Rattle.bristol_text.specs.Text.{Line, lines, all_numbers, value_of, sum}
-use Rattle.bits.specs.Bits.{bit_val, bit_at}
+use Rattle.bits.specs.Bits.{bit_at}
 use Rattle.circuit.specs.Building.{front}
 use Rattle.circuit.specs.File.{max_inputs, max_outputs, max_gates}
 use Rattle.circuit.specs.Steps.{record_place}
@@ -13,26 +15,13 @@ use Rattle.bristol_lines.specs.Rules.{GateLine, xor, and, inv, Reading, refused,
 use Rattle.building.specs.Files.{Four}
 use Rattle.building.specs.Steps.{four_bytes}
 use Rattle.bristol_lines.specs.Conversion.{first_slot, record_of, text_file}
-use Rattle.bristol_lines.specs.declared.Counts.{Counts}
-use Rattle.bristol_lines.specs.declared.Counts.TheVariants as counts
-use Rattle.bristol_lines.specs.declared.Groups.{Groups}
-use Rattle.bristol_lines.specs.declared.Groups.TheVariants as groups
-use Rattle.bristol_lines.specs.declared.GroupLine.{GroupLine}
-use Rattle.bristol_lines.specs.declared.GroupLine.TheVariants as groupLine
-use Rattle.bristol_lines.specs.declared.Header.{Header}
-use Rattle.bristol_lines.specs.declared.Header.TheVariants as header
-use Rattle.bristol_lines.specs.declared.Check.{Check}
-use Rattle.bristol_lines.specs.declared.Check.TheVariants as check
+use Rattle.bristol_text.specs.declared.Cursor.{Cursor}
+use Rattle.refusal.specs.declared.Refusal.{Refusal}
+use Rattle.refusal.specs.declared.Refusal.TheVariants as refusal
 use Rattle.bristol_lines.specs.declared.Gate.{Gate}
 use Rattle.bristol_lines.specs.declared.Gate.TheVariants as gate
-use Rattle.bristol_lines.specs.declared.GateRead.{GateRead}
-use Rattle.bristol_lines.specs.declared.GateRead.TheVariants.{Read, Unknown, Malformed}
-use Rattle.bristol_lines.specs.declared.LineCheck.{LineCheck}
-use Rattle.bristol_lines.specs.declared.LineCheck.TheVariants as lineCheck
 use Rattle.bristol_lines.specs.declared.Kind.{Kind}
 use Rattle.bristol_lines.specs.declared.Kind.TheVariants.{Xor, And, Inv, Other}
-use Rattle.bristol_lines.specs.declared.Finding.{Finding}
-use Rattle.bristol_lines.specs.declared.Finding.TheVariants as finding
 use Rattle.bristol_lines.specs.declared.Sizes.{Sizes}
 
 -- a line that an LF ends
@@ -40,16 +29,16 @@ abbrev pub whole : List ℕ → Line
 whole l = record { bytes = l; ended = true }
 
 -- the numbers of a line 1
-unfoldable pub counts_of : List ℕ → Counts
-counts_of l = cond (is_counts (whole l)) (counts.Of (get_or (numbers_on (whole l)) 0 0) (get_or (numbers_on (whole l)) 1 0)) counts.Malformed
+unfoldable pub counts_of : List ℕ → std.Option (ℕ × ℕ)
+counts_of l = cond (is_counts (whole l)) (Some (get_or (numbers_on (whole l)) 0 0, get_or (numbers_on (whole l)) 1 0)) None
 
 -- the sum of the sizes on a line of groups
-unfoldable pub groups_of : List ℕ → Groups
-groups_of l = cond (is_groups (whole l)) (groups.Sum (group_sum (whole l))) groups.Malformed
+unfoldable pub groups_of : List ℕ → std.Option ℕ
+groups_of l = cond (is_groups (whole l)) (Some (group_sum (whole l))) None
 
 -- exactly `left` numbers more, with t as the sum before them
-unfoldable pub sizes_of : ℕ → ℕ → List (List ℕ) → Groups
-sizes_of left t ts = cond (all_numbers ts && eqb (length ts) left) (groups.Sum (t + sum (map value_of ts))) groups.Malformed
+unfoldable pub sizes_of : ℕ → ℕ → List (List ℕ) → std.Option ℕ
+sizes_of left t ts = cond (all_numbers ts && eqb (length ts) left) (Some (t + sum (map value_of ts))) None
 
 -- the sum on the first of some lines
 unfoldable pub first_groups : List Line → Option ℕ
@@ -61,9 +50,9 @@ pub record SumAt (s : List ℕ) (at n next : ℕ) : Type 0 where
   pub found : first_groups (lines (drop at s)) ≡ some n
   pub rest : lines (drop next s) ≡ drop 1 (lines (drop at s))
 
-abbrev pub GroupsAt : List ℕ → ℕ → GroupLine → Type 0
-GroupsAt s at (groupLine.Sum n c) = SumAt s at n c.at
-GroupsAt s at groupLine.Malformed = first_groups (lines (drop at s)) ≡ none
+abbrev pub GroupsAt : List ℕ → ℕ → std.Option (ℕ × Cursor) → Type 0
+GroupsAt s at (Some p) = SumAt s at p.0 p.1.at
+GroupsAt s at None = first_groups (lines (drop at s)) ≡ none
 
 -- sizes within the limits
 pub record Few (z : Sizes) : Type 0 where
@@ -83,9 +72,9 @@ pub record Begun (s : List ℕ) (x : Below → Reading) (z : Sizes) (at : ℕ) :
   pub same : (below : Below) → x below ≡ below z.inputs z.outputs z.gates (lines (drop at s))
   pub few : Few z
 
-abbrev pub HeaderTold : List ℕ → (Below → Reading) → Header → Type 0
-HeaderTold s x (header.Good z c) = Begun s x z c.at
-HeaderTold s x (header.Refused k) = (below : Below) → x below ≡ refused (number_of k)
+abbrev pub HeaderTold : List ℕ → (Below → Reading) → Result (Sizes × Cursor) Refusal → Type 0
+HeaderTold s x (Ok p) = Begun s x p.0 p.1.at
+HeaderTold s x (Err k) = (below : Below) → x below ≡ refused (number_of k)
 
 -- a gate as a gate line
 abbrev pub line_of : Gate → GateLine
@@ -93,61 +82,50 @@ line_of (gate.Xor a b c) = xor a b c
 line_of (gate.And a b c) = and a b c
 line_of (gate.Inv a c) = inv a c
 
--- a gate line as a gate, and as it is read
+-- a gate line as a gate, and as it is read: 23 is another kind, 22 malformed
 abbrev pub gate_of : GateLine → Gate
 gate_of (xor a b c) = gate.Xor a b c
 gate_of (and a b c) = gate.And a b c
 gate_of (inv a c) = gate.Inv a c
 
-unfoldable pub read_as : Option GateLine → GateRead
-read_as none = Malformed
-read_as (some g) = Read (gate_of g)
+unfoldable pub read_as : Option GateLine → Result Gate Refusal
+read_as none = Err refusal.Text
+read_as (some g) = Ok (gate_of g)
 
-unfoldable pub gate_read : Line → GateRead
-gate_read l = cond (not (is_known (kind_on l.bytes))) Unknown (read_as (gate_on l))
+unfoldable pub gate_read : Line → Result Gate Refusal
+gate_read l = cond (not (is_known (kind_on l.bytes))) (Err refusal.GateKind) (read_as (gate_on l))
 
 -- the first of some lines as a gate line
-unfoldable pub first_gate : List Line → GateRead
-first_gate [] = Malformed
+unfoldable pub first_gate : List Line → Result Gate Refusal
+first_gate [] = Err refusal.Text
 first_gate (l ∷ ls) = gate_read l
 
 -- the gate of a kind with k numbers before it, of which ns are the first
 unfoldable pub starts_with : ℕ → ℕ → ℕ → ℕ → Bool
 starts_with i k x y = eqb k (i + 3) && eqb x i && eqb y 1
 
-unfoldable pub gate_from : Kind → ℕ → List ℕ → GateRead
-gate_from Xor k ns = cond (starts_with 2 k (get_or ns 0 0) (get_or ns 1 0)) (Read (gate.Xor (get_or ns 2 0) (get_or ns 3 0) (get_or ns 4 0))) Malformed
-gate_from And k ns = cond (starts_with 2 k (get_or ns 0 0) (get_or ns 1 0)) (Read (gate.And (get_or ns 2 0) (get_or ns 3 0) (get_or ns 4 0))) Malformed
-gate_from Inv k ns = cond (starts_with 1 k (get_or ns 0 0) (get_or ns 1 0)) (Read (gate.Inv (get_or ns 2 0) (get_or ns 3 0))) Malformed
-gate_from Other k ns = Unknown
+unfoldable pub gate_from : Kind → ℕ → List ℕ → Result Gate Refusal
+gate_from Xor k ns = cond (starts_with 2 k (get_or ns 0 0) (get_or ns 1 0)) (Ok (gate.Xor (get_or ns 2 0) (get_or ns 3 0) (get_or ns 4 0))) (Err refusal.Text)
+gate_from And k ns = cond (starts_with 2 k (get_or ns 0 0) (get_or ns 1 0)) (Ok (gate.And (get_or ns 2 0) (get_or ns 3 0) (get_or ns 4 0))) (Err refusal.Text)
+gate_from Inv k ns = cond (starts_with 1 k (get_or ns 0 0) (get_or ns 1 0)) (Ok (gate.Inv (get_or ns 2 0) (get_or ns 3 0))) (Err refusal.Text)
+gate_from Other k ns = Err refusal.GateKind
 
--- what is found of a gate line's kind and of its form, and the first of two findings that is not good
-unfoldable pub kind_finding : Kind → Finding
-kind_finding k = cond (is_known k) finding.Good finding.Unknown
-
-unfoldable pub form_finding : Bool → Finding
-form_finding b = cond b finding.Good finding.Malformed
-
-unfoldable pub first_of : Finding → Finding → Finding
-first_of finding.Good b = b
-first_of finding.Unknown b = finding.Unknown
-first_of finding.Malformed b = finding.Malformed
-
--- what is told of the first of the lines from a place on as a gate line: how it reads, and the place after it
-pub record GateAt (s : List ℕ) (at : ℕ) (r : GateRead) (next : ℕ) : Type 0 where
-  pub read : r ≡ first_gate (lines (drop at s))
+-- what is told of the first of the lines from a place on: the gate on it, and the place after it
+pub record Gated (s : List ℕ) (at : ℕ) (g : Gate) (next : ℕ) : Type 0 where
+  pub read : first_gate (lines (drop at s)) ≡ Ok g
   pub rest : lines (drop next s) ≡ drop 1 (lines (drop at s))
+
+abbrev pub GateAt : List ℕ → ℕ → Result (Gate × Cursor) Refusal → Type 0
+GateAt s at (Ok p) = Gated s at p.0 p.1.at
+GateAt s at (Err k) = first_gate (lines (drop at s)) ≡ Err k
 
 -- the tests on a gate line's wires, where the flagged wires are written
 unfoldable pub flagged : List ℕ → ℕ → Bool
 flagged flags w = bit_at flags w
 
--- where a wire is written, on a line that writes wire c: 0 nowhere yet, 1 above, 2 here
-unfoldable pub written_on : List ℕ → ℕ → ℕ → ℕ
-written_on flags c w = cond (eqb w c) 2 (bit_val (bit_at flags w))
-
+-- a wire may be read on a line that writes wire c if it is an input, or another wire than c that is written above
 unfoldable pub may_read : ℕ → List ℕ → ℕ → ℕ → Bool
-may_read I flags c w = ltb w I || eqb (written_on flags c w) 1
+may_read I flags c w = ltb w I || (not (eqb w c) && flagged flags w)
 
 unfoldable pub may_write : ℕ → ℕ → List ℕ → ℕ → Bool
 may_write I G flags w = leb I w && ltb w (I + G) && not (flagged flags w)
@@ -158,31 +136,30 @@ fits_flags I G flags (and a b c) = may_read I flags c a && may_read I flags c b 
 fits_flags I G flags (inv a c) = may_read I flags c a && may_write I G flags c
 
 -- the refusal of a gate line, if it is refused
-unfoldable pub line_refusal : ℕ → ℕ → List ℕ → GateRead → Option ℕ
-line_refusal I G flags Unknown = some 23
-line_refusal I G flags Malformed = some 22
-line_refusal I G flags (Read g) = cond (fits_flags I G flags (line_of g)) none (some 22)
+unfoldable pub line_refusal : ℕ → ℕ → List ℕ → Result Gate Refusal → Option ℕ
+line_refusal I G flags (Err k) = some (number_of k)
+line_refusal I G flags (Ok g) = cond (fits_flags I G flags (line_of g)) none (some 22)
 
 -- what is told of the first of the lines from a place on: the wire that its gate writes, and the place after it, or its refusal
 pub record Writing (s : List ℕ) (z : Sizes) (at : ℕ) (flags : List ℕ) (w next : ℕ) : Type 0 where
   pub gate : Gate
-  pub read : first_gate (lines (drop at s)) ≡ Read gate
+  pub read : first_gate (lines (drop at s)) ≡ Ok gate
   pub fits : fits_flags z.inputs z.gates flags (line_of gate) ≡ true
   pub wire : w ≡ writes (line_of gate)
   pub rest : lines (drop next s) ≡ drop 1 (lines (drop at s))
 
-abbrev pub LineTold : List ℕ → Sizes → ℕ → List ℕ → LineCheck → Type 0
-LineTold s z at flags (lineCheck.Writes w c) = Writing s z at flags w c.at
-LineTold s z at flags (lineCheck.Refused k) = line_refusal z.inputs z.gates flags (first_gate (lines (drop at s))) ≡ some (number_of k)
+abbrev pub LineTold : List ℕ → Sizes → ℕ → List ℕ → Result (ℕ × Cursor) Refusal → Type 0
+LineTold s z at flags (Ok p) = Writing s z at flags p.0 p.1.at
+LineTold s z at flags (Err k) = line_refusal z.inputs z.gates flags (first_gate (lines (drop at s))) ≡ some (number_of k)
 
 -- the refusal of a reading, if it is refused
 unfoldable pub refusal_of : Reading → Option ℕ
 refusal_of (refused k) = some k
 refusal_of (says t) = none
 
-abbrev pub verdict : Check → Option ℕ
-verdict check.Good = none
-verdict (check.Refused k) = some (number_of k)
+abbrev pub verdict : Result ⊤ Refusal → Option ℕ
+verdict (Ok u) = none
+verdict (Err k) = some (number_of k)
 
 -- the gates on lines, of which each has one
 unfoldable pub gate_before : Option GateLine → List GateLine → List GateLine

@@ -3,6 +3,7 @@
 use mathlib.Core.Path.{◌≡◌, refl, sym, ap, ◌∙◌}
 use mathlib.Core.Bool.{Bool, true, false, cond}
 use mathlib.Core.List.{List, [], ◌∷◌}
+use Rattle.std.specs.Prelude.{Some, None}
 use Prim.Native.Nat.{ℕ, suc, ◌+◌, ◌-◌, ◌*◌, ◌^◌, ◌≤◌, ◌<◌}
 use native.Mathlib.Nat.{pow-suc, pow-le-pow_right, mul-le-mul_right}
 use native.Mathlib.Omega.{arith}
@@ -12,10 +13,8 @@ use lib.Seq.{slice, drop-drop, take_all}
 use borrow.Author.Tests.{leb-true, ltb-true, ltb-false}
 use Rattle.bits.proofs.Tests.{and-true-left, and-true-right}
 use Rattle.bristol_text.specs.Text.{space, pieces, tokens, is_digit, all_digits, is_number, value_after, value_of}
-use Rattle.bristol_text.specs.Steps.{run, passes, stop, token_at, tokens_after, number_at}
-use Rattle.bristol_text.specs.declared.Class.TheVariants.{InToken}
+use Rattle.bristol_text.specs.Steps.{run, stop, token_at, tokens_after, number_at, in_token}
 use Rattle.bristol_text.specs.declared.Cursor.{Cursor}
-use Rattle.bristol_text.specs.declared.Number.TheVariants.{Value, Malformed}
 use Rattle.bristol_text.proofs.Digits.{digit-high}
 use Rattle.bristol_text.proofs.Numbers.{slice-take, run_length, first-of, third_of}
 use Rattle.bristol_text.proofs.Pieces.{other, pieces_end, pieces-first}
@@ -24,15 +23,15 @@ module _ (l : List ℕ) (at : ℕ) (inside : at ≤ length l) where
   abbrev m : ℕ
   m = run (other space) (drop at l)
 
-  end_is : stop InToken l at ≡ at + m
-  unfolding stop passes
+  end_is : stop in_token l at ≡ at + m
+  unfolding stop
   end_is = refl
 
   token-is : token_at l at ≡ take m (drop at l)
   unfolding token_at
   token-is = ap (λ (k : ℕ). slice at k l) end_is ∙ slice-take l at m inside
 
-  pub token-inside : stop InToken l at ≤ length l
+  pub token-inside : stop in_token l at ≤ length l
   token-inside = omega (arith, end_is, run_length (other space) (drop at l), length-drop at l)
 
   after-step : (b : Bool) → ltb (at + m) (length l) ≡ b → tokens (drop at l) ≡ take m (drop at l) ∷ cond b (tokens (drop (suc (at + m)) l)) []
@@ -51,7 +50,7 @@ module _ (l : List ℕ) (at : ℕ) (inside : at ≤ length l) where
       ltb_no = ltb-false (at + m) (length l) e
 
   -- the first token from a place on, and those after it
-  pub tokens-step : tokens (drop at l) ≡ token_at l at ∷ tokens_after l (stop InToken l at)
+  pub tokens-step : tokens (drop at l) ≡ token_at l at ∷ tokens_after l (stop in_token l at)
   unfolding tokens_after
   tokens-step = after-step (ltb (at + m) (length l)) refl ∙ rw (token-is, end_is) refl
 
@@ -59,28 +58,26 @@ module _ (l : List ℕ) (at : ℕ) (inside : at ≤ length l) where
 pub record Numbered (l : List ℕ) (at n : ℕ) (c : Cursor) : Type 0 where
   pub number : is_number (token_at l at) ≡ true
   pub value : n ≡ value_of (token_at l at)
-  pub ends : c.at ≡ stop InToken l at
+  pub ends : c.at ≡ stop in_token l at
 
-pub value-when : (b : Bool) (x n : ℕ) (d c : Cursor) → cond b (Value x d) Malformed ≡ Value n c → (b ≡ true) × ((n ≡ x) × (c ≡ d))
-value-when true x n d c e = (refl, (cc, cc))
-value-when false x n d c e =
-    let z : ◌≡◌ {A = ℕ} 0 1 = cc in
-    absurd (omega arith)
+pub value-when : (b : Bool) (x y : ℕ × Cursor) → cond b (Some x) None ≡ Some y → (b ≡ true) × ((y.0 ≡ x.0) × (y.1 ≡ x.1))
+value-when true x y e = (refl, (cc, cc))
+value-when false x y e = absurd (cc)
 
-pub malformed-when : (b : Bool) (x : ℕ) (d : Cursor) → cond b (Value x d) Malformed ≡ Malformed → b ≡ false
-malformed-when true x d e = cc
-malformed-when false x d e = refl
+pub none-when : (b : Bool) (x : ℕ × Cursor) → cond b (Some x) None ≡ None → b ≡ false
+none-when true x e = cc
+none-when false x e = refl
 
 module _ (l : List ℕ) (at : ℕ) where
-  pub number_read : (n : ℕ) (c : Cursor) → number_at l at ≡ Value n c → Numbered l at n c
+  pub number_read : (n : ℕ) (c : Cursor) → number_at l at ≡ Some (n, c) → Numbered l at n c
   unfolding number_at
   number_read n c e =
-      let w = value-when (is_number (token_at l at)) (value_of (token_at l at)) n (record { at = stop InToken l at }) c e in
+      let w = value-when (is_number (token_at l at)) (value_of (token_at l at), record { at = stop in_token l at }) (n, c) e in
       record { number = w.0; value = w.1.0; ends = ap (λ (d : Cursor). d.at) w.1.1 }
 
-  pub number-unread : number_at l at ≡ Malformed → is_number (token_at l at) ≡ false
+  pub number-unread : number_at l at ≡ None → is_number (token_at l at) ≡ false
   unfolding number_at
-  number-unread e = malformed-when (is_number (token_at l at)) (value_of (token_at l at)) (record { at = stop InToken l at }) e
+  number-unread e = none-when (is_number (token_at l at)) (value_of (token_at l at), record { at = stop in_token l at }) e
 
 -- at most 9 digits make a number below 10 ^ 9
 value-small : (n : ℕ) (t : List ℕ) → all_digits t ≡ true → value_after n t < suc n * 10 ^ length t

@@ -3,22 +3,19 @@
 use mathlib.Core.Path.{◌≡◌, refl, sym, ap, ◌∙◌}
 use mathlib.Core.Bool.{Bool, true, false, cond}
 use mathlib.Core.List.{List, [], ◌∷◌, map}
+use Rattle.std.specs.Prelude.{Option, Some, None}
 use mathlib.Core.Logic.{◌⊎◌, inl, inr, ⊎_elim}
 use Prim.Native.Nat.{ℕ, suc, ◌+◌, ◌≤◌, ◌<◌}
 use native.Mathlib.Omega.{arith}
 use lib.Dec.{eqb, ltb}
 use lib.ListN.{length, get_or, drop, set, length-set}
 use lib.Seq.{get_or-set_same, get_or-set_other}
-use borrow.Author.Tests.{eq-eqb, ne_eqb, lt-ltb, le-ltb, ltb-true, ltb-false}
+use borrow.Author.Tests.{lt-ltb, le-ltb, ltb-true, ltb-false}
 use Rattle.bits.proofs.Numbers.{eq-or-ne}
 use Rattle.bristol_text.specs.Text.{space, on_first, pieces, tokens, all_but_last, is_number, value_of, all_numbers}
-use Rattle.bristol_text.specs.Steps.{stop, token_at, tokens_after, number_at, space_after, field_at, values_before, are_fields, FieldsTold}
-use Rattle.bristol_text.specs.declared.Class.{Class}
-use Rattle.bristol_text.specs.declared.Class.TheVariants.{InToken}
+use Rattle.bristol_text.specs.Steps.{stop, token_at, tokens_after, number_at, space_after, field_at, values_before, are_fields, FirstFive, in_token}
 use Rattle.bristol_text.specs.declared.Cursor.{Cursor}
-use Rattle.bristol_text.specs.declared.Number.{Number}
-use Rattle.bristol_text.specs.declared.Number.TheVariants.{Value, Malformed}
-use Rattle.bristol_text.proofs.Along.{tokens-step, token-inside, value-when, malformed-when, number_read, number-unread}
+use Rattle.bristol_text.proofs.Along.{tokens-step, value-when, none-when, number_read, number-unread}
 
 -- a token before those of a string is not the last
 but-last-cond : (t : List ℕ) (x : ℕ) (b : Bool) (ps : List (List ℕ))
@@ -69,18 +66,17 @@ module _ (l t : List ℕ) where
 pub record Spaced (l : List ℕ) (at n : ℕ) (c : Cursor) : Type 0 where
   pub number : is_number (token_at l at) ≡ true
   pub value : n ≡ value_of (token_at l at)
-  pub room : stop InToken l at < length l
-  pub ends : c.at ≡ suc (stop InToken l at)
+  pub room : stop in_token l at < length l
+  pub ends : c.at ≡ suc (stop in_token l at)
 
 module _ (l : List ℕ) (at : ℕ) where
-  space-read : (x : Number) (n : ℕ) (c : Cursor) → number_at l at ≡ x → space_after l x ≡ Value n c → Spaced l at n c
+  space-read : (x : Option (ℕ × Cursor)) (n : ℕ) (c : Cursor) → number_at l at ≡ x → space_after l x ≡ Some (n, c) → Spaced l at n c
   unfolding space_after
-  space-read Malformed n c e f =
-      let z : ◌≡◌ {A = ℕ} 0 1 = cc in
-      absurd (omega arith)
-  space-read (Value m d) n c e f =
-      let k = number_read l at m d e in
-      let w = value-when (ltb d.at (length l)) m n (record { at = d.at + 1 }) c f in
+  space-read None n c e f = absurd (cc)
+  space-read (Some p) n c e f =
+      let d : Cursor = p.1 in
+      let k = number_read l at p.0 d e in
+      let w = value-when (ltb d.at (length l)) (p.0, record { at = d.at + 1 }) (n, c) f in
       let a : c.at ≡ d.at + 1 = ap (λ (d : Cursor). d.at) w.1.1 in
       record {
         number = k.number;
@@ -89,50 +85,51 @@ module _ (l : List ℕ) (at : ℕ) where
         ends = omega (arith, k.ends);
       }
 
-  space-unread : (x : Number) → number_at l at ≡ x → space_after l x ≡ Malformed → (is_number (token_at l at) ≡ false) ⊎ (length l ≤ stop InToken l at)
+  space-unread : (x : Option (ℕ × Cursor)) → number_at l at ≡ x → space_after l x ≡ None → (is_number (token_at l at) ≡ false) ⊎ (length l ≤ stop in_token l at)
   unfolding space_after
-  space-unread Malformed e f = inl (number-unread l at e)
-  space-unread (Value m d) e f =
-      let k = number_read l at m d e in
-      let w = malformed-when (ltb d.at (length l)) m (record { at = d.at + 1 }) f in
+  space-unread None e f = inl (number-unread l at e)
+  space-unread (Some p) e f =
+      let d : Cursor = p.1 in
+      let k = number_read l at p.0 d e in
+      let w = none-when (ltb d.at (length l)) (p.0, record { at = d.at + 1 }) f in
       inr (omega (arith, k.ends, ltb-false d.at (length l) w))
 
-  pub field-read : (n : ℕ) (c : Cursor) → field_at l at ≡ Value n c → Spaced l at n c
+  pub field-read : (n : ℕ) (c : Cursor) → field_at l at ≡ Some (n, c) → Spaced l at n c
   unfolding field_at
   field-read n c e = space-read (number_at l at) n c refl e
 
-  pub field-unread : field_at l at ≡ Malformed → (is_number (token_at l at) ≡ false) ⊎ (length l ≤ stop InToken l at)
+  pub field-unread : field_at l at ≡ None → (is_number (token_at l at) ≡ false) ⊎ (length l ≤ stop in_token l at)
   unfolding field_at
   field-unread e = space-unread (number_at l at) refl e
 
   module _ (inside : at ≤ length l) where
     -- the line's rest has one token, or one before others
-    pub last-here : length l ≤ stop InToken l at → tokens (drop at l) ≡ token_at l at ∷ []
+    pub last-here : length l ≤ stop in_token l at → tokens (drop at l) ≡ token_at l at ∷ []
     unfolding tokens_after
-    last-here h = tokens-step l at inside ∙ rw (le-ltb (stop InToken l at) (length l) h)
+    last-here h = tokens-step l at inside ∙ rw (le-ltb (stop in_token l at) (length l) h)
 
-    pub more-here : stop InToken l at < length l → tokens (drop at l) ≡ token_at l at ∷ tokens (drop (suc (stop InToken l at)) l)
+    pub more-here : stop in_token l at < length l → tokens (drop at l) ≡ token_at l at ∷ tokens (drop (suc (stop in_token l at)) l)
     unfolding tokens_after
-    more-here h = tokens-step l at inside ∙ rw (lt-ltb (stop InToken l at) (length l) h)
+    more-here h = tokens-step l at inside ∙ rw (lt-ltb (stop in_token l at) (length l) h)
 
     -- where no field can be read, the token is the last or no number
-    pub fields-end : field_at l at ≡ Malformed → stop InToken l at < length l → are_fields (drop at l) ≡ false
+    pub fields-end : field_at l at ≡ None → stop in_token l at < length l → are_fields (drop at l) ≡ false
     fields-end e h =
         ⊎_elim
-        (λ g. more-bad (drop at l) (token_at l at) (drop (suc (stop InToken l at)) l) (more-here h) g)
+        (λ g. more-bad (drop at l) (token_at l at) (drop (suc (stop in_token l at)) l) (more-here h) g)
         (λ g. absurd (omega arith))
         (field-unread e)
 
 -- a place is not after the end of what starts there
-stop-after : (k : Class) (l : List ℕ) (at : ℕ) → at ≤ stop k l at
+stop-after : (p : ℕ → Bool) (l : List ℕ) (at : ℕ) → at ≤ stop p l at
 unfolding stop
 stop-after k l at = omega arith
 
 -- a field ends after the place where it starts
-pub field-after : (l : List ℕ) (at n : ℕ) (c : Cursor) → field_at l at ≡ Value n c → at < c.at
+pub field-after : (l : List ℕ) (at n : ℕ) (c : Cursor) → field_at l at ≡ Some (n, c) → at < c.at
 field-after l at n c e =
     let f = field-read l at n c e in
-    omega (arith, f.ends, stop-after InToken l at)
+    omega (arith, f.ends, stop-after in_token l at)
 
 -- what is known after some of the numbers before a line's last token
 pub record Gathered (l ns : List ℕ) (at count : ℕ) : Type 0 where
@@ -151,11 +148,11 @@ module _ (l : List ℕ) where
 
   module _ (ns : List ℕ) (at count : ℕ) (g : Gathered l ns at count) where
     -- a number more, in its place if it has one
-    gathered-more : (n : ℕ) (c : Cursor) → field_at l at ≡ Value n c → (ms : List ℕ) → length ms ≡ 5
+    gathered-more : (n : ℕ) (c : Cursor) → field_at l at ≡ Some (n, c) → (ms : List ℕ) → length ms ≡ 5
         → ((i : ℕ) → i < count → get_or ms i 0 ≡ get_or ns i 0) → (count < 5 → get_or ms count 0 ≡ n) → Gathered l ms c.at (count + 1)
     gathered-more n c e ms room same new =
         record {
-          few = omega (arith, f.ends, g.few, stop-after InToken l at);
+          few = omega (arith, f.ends, g.few, stop-after in_token l at);
           inside = omega (arith, f.ends, f.room);
           room = room;
           tested = rw f.ends (sym (more-good (drop at l) (token_at l at) _ ts f.number) ∙ g.tested);
@@ -167,57 +164,46 @@ module _ (l : List ℕ) where
         f : Spaced l at n c
         f = field-read l at n c e
 
-        ts : tokens (drop at l) ≡ token_at l at ∷ tokens (drop (suc (stop InToken l at)) l)
+        ts : tokens (drop at l) ≡ token_at l at ∷ tokens (drop (suc (stop in_token l at)) l)
         ts = more-here l at g.inside f.room
 
-        first : values_before (drop at l) ≡ n ∷ values_before (drop (suc (stop InToken l at)) l)
+        first : values_before (drop at l) ≡ n ∷ values_before (drop (suc (stop in_token l at)) l)
         first =
             more-values (drop at l) (token_at l at) _ ts
-            ∙ ap (λ (x : ℕ). x ∷ values_before (drop (suc (stop InToken l at)) l)) (sym f.value)
+            ∙ ap (λ (x : ℕ). x ∷ values_before (drop (suc (stop in_token l at)) l)) (sym f.value)
 
         here : (i : ℕ) → i < 5 → i ≡ count → get_or (values_before l) i 0 ≡ get_or ms i 0
         here i a e =
             ap (λ (k : ℕ). get_or (values_before l) k 0) (omega arith) ∙ g.rest 0 ∙ ap (λ (vs : List ℕ). get_or vs 0 0) first
             ∙ sym (ap (λ (k : ℕ). get_or ms k 0) e ∙ new (omega arith))
 
-    pub gathered-set : (n : ℕ) (c : Cursor) → field_at l at ≡ Value n c → count < 5 → Gathered l (set ns count n) c.at (count + 1)
+    pub gathered-set : (n : ℕ) (c : Cursor) → field_at l at ≡ Some (n, c) → count < 5 → Gathered l (set ns count n) c.at (count + 1)
     gathered-set n c e h =
         gathered-more n c e (set ns count n) (length-set ns count n ∙ g.room)
         (λ i b. get_or-set_other ns count i n 0 (λ q. omega arith)) (λ b. get_or-set_same ns count n 0 (omega (arith, g.room)))
 
-    pub gathered-kept : (n : ℕ) (c : Cursor) → field_at l at ≡ Value n c → 5 ≤ count → Gathered l ns c.at (count + 1)
+    pub gathered-kept : (n : ℕ) (c : Cursor) → field_at l at ≡ Some (n, c) → 5 ≤ count → Gathered l ns c.at (count + 1)
     gathered-kept n c e h = gathered-more n c e ns g.room (λ i b. refl) (λ b. absurd (omega arith))
 
     -- the rest of the line is its last token
-    gathered-all : length l ≤ stop InToken l at → FieldsTold l true count ns
+    gathered-all : length l ≤ stop in_token l at → FirstFive l (record { count = count; numbers = ns })
     gathered-all h =
         let ts = last-here l at g.inside h in
         record {
-          tested = sym (sym g.tested ∙ one-good (drop at l) (token_at l at) ts);
+          tested = sym g.tested ∙ one-good (drop at l) (token_at l at) ts;
           room = g.room;
-          counted = λ z. omega (arith, g.counted, ap length (one-values (drop at l) (token_at l at) ts));
-          values = λ z. g.values;
+          counted = omega (arith, g.counted, ap length (one-values (drop at l) (token_at l at) ts));
+          values = g.values;
         }
 
     -- the line's end
-    pub gathered-end : length l ≤ at → FieldsTold l true count ns
-    gathered-end h = gathered-all (omega (arith, stop-after InToken l at))
+    pub gathered-end : length l ≤ at → FirstFive l (record { count = count; numbers = ns })
+    gathered-end h = gathered-all (omega (arith, stop-after in_token l at))
 
-    -- no field can be read
-    pub gathered-stop : (end : ℕ) → end ≡ stop InToken l at → field_at l at ≡ Malformed → FieldsTold l (eqb end (length l)) count ns
-    gathered-stop end e f = at-end (ltb end (length l)) refl
-      where
-        at-end : (b : Bool) → ltb end (length l) ≡ b → FieldsTold l (eqb end (length l)) count ns
-        at-end true h =
-            let lt : end < length l = ltb-true end (length l) h in
-            let no : eqb end (length l) ≡ false = ne_eqb end (length l) (omega arith) in
-            record {
-              tested = no ∙ sym (sym g.tested ∙ fields-end l at g.inside f (omega arith));
-              room = g.room;
-              counted = λ z. let w : ◌≡◌ {A = ℕ} 0 1 = cc in absurd (omega arith);
-              values = λ z. let w : ◌≡◌ {A = ℕ} 0 1 = cc in absurd (omega arith);
-            }
-        at-end false h =
-            let ge : length l ≤ end = ltb-false end (length l) h in
-            let same : end ≡ length l = omega (arith, token-inside l at g.inside) in
-            rw (eq-eqb end (length l) same) (gathered-all (omega arith))
+    -- no field can be read: what stands there is no number, or the last token
+    module _ (e : field_at l at ≡ None) where
+      pub gathered-bad : stop in_token l at < length l → are_fields l ≡ false
+      gathered-bad h = sym g.tested ∙ fields-end l at g.inside e h
+
+      pub gathered-last : length l ≤ stop in_token l at → FirstFive l (record { count = count; numbers = ns })
+      gathered-last h = gathered-all h

@@ -10,8 +10,7 @@ use lib.ListN.{length, get_or, take, drop, length-drop, drop_of_length-le}
 use lib.Seq.{drop-cons, drop-drop, get_or-drop, take_all}
 use borrow.Author.Tests.{ltb-true, ltb-false, not-false}
 use Rattle.bristol_text.specs.Text.{LF, on_first, pieces, Line, as_lines, not_empty, lines}
-use Rattle.bristol_text.specs.Steps.{run, passes, stop, LineAt}
-use Rattle.bristol_text.specs.declared.Class.TheVariants.{Ending}
+use Rattle.bristol_text.specs.Steps.{run, stop, LineAt, ending}
 use Rattle.bristol_text.proofs.Numbers.{run_length}
 use Rattle.bristol_text.proofs.Pieces.{other, pieces_end, pieces-first}
 
@@ -80,13 +79,13 @@ first-at : (l : List ℕ) (x : ℕ) (r : List ℕ) → l ≡ x ∷ r → eqb x L
     → lines l ≡ whole (take (run (other LF) l) l) ∷ lines (drop (suc (run (other LF) l)) l)
 first-at l x r e f h = rw e (lines-first x r f (rw e at h))
 
-skip-more : (x : ℕ) (l : List ℕ) (b : Bool) → eqb x LF ≡ b → lines l ≡ lines (drop (run (passes Ending) l) l)
-    → lines (x ∷ l) ≡ lines (drop (run (passes Ending) (x ∷ l)) (x ∷ l))
-unfolding run passes
+skip-more : (x : ℕ) (l : List ℕ) (b : Bool) → eqb x LF ≡ b → lines l ≡ lines (drop (run ending l) l)
+    → lines (x ∷ l) ≡ lines (drop (run ending (x ∷ l)) (x ∷ l))
+unfolding run
 skip-more x l true e f = lines-skip x l e ∙ f ∙ rw e
 skip-more x l false e f = rw e
 
-skip-run : (l : List ℕ) → lines l ≡ lines (drop (run (passes Ending) l) l)
+skip-run : (l : List ℕ) → lines l ≡ lines (drop (run ending l) l)
 unfolding run
 skip-run [] = refl
 skip-run (x ∷ l) = skip-more x l (eqb x LF) refl (skip-run l)
@@ -106,9 +105,9 @@ stop-byte : (p : ℕ → Bool) (s : List ℕ) (at : ℕ) → at + run p (drop at
 stop-byte p s at h = ap p (sym (get_or-drop at s (run p (drop at s)) 0)) ∙ run-byte p (drop at s) (omega (arith, length-drop at s))
 
 -- empty lines are skipped: the lines from a place on are those from the next byte that is no LF
-lines_next : (s : List ℕ) (at : ℕ) → lines (drop at s) ≡ lines (drop (stop Ending s at) s)
+lines_next : (s : List ℕ) (at : ℕ) → lines (drop at s) ≡ lines (drop (stop ending s at) s)
 unfolding stop
-lines_next s at = skip-run (drop at s) ∙ ap lines (drop-drop (run (passes Ending) (drop at s)) at s)
+lines_next s at = skip-run (drop at s) ∙ ap lines (drop-drop (run ending (drop at s)) at s)
 
 -- at the end there is no line
 pub lines_end : (s : List ℕ) (at : ℕ) → length s ≤ at → lines (drop at s) ≡ []
@@ -145,7 +144,7 @@ module _ (s : List ℕ) (at first last : ℕ) (k : LineAt s at first last) where
   no_line h = lines_next s at ∙ ap (λ (i : ℕ). lines (drop i s)) (sym k.starts) ∙ lines_end s first h
 
   last-is : last ≡ first + run (other LF) (drop first s)
-  unfolding stop passes
+  unfolding stop
   last-is = k.ends
 
   pub line_after : first ≤ last
@@ -156,7 +155,7 @@ module _ (s : List ℕ) (at first last : ℕ) (k : LineAt s at first last) where
 
   -- the line, and the lines from its end on
   pub line-here : first < length s → lines (drop at s) ≡ record { bytes = take (last - first) (drop first s); ended = ltb last (length s) } ∷ lines (drop last s)
-  unfolding stop passes
+  unfolding stop
   line-here h =
       let m : last - first ≡ run (other LF) (drop first s) = omega (arith, last-is) in
       let byte : eqb (get_or s first 0) LF ≡ false =

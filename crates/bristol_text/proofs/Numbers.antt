@@ -3,6 +3,7 @@
 use mathlib.Core.Path.{◌≡◌, refl, sym, ap, ◌∙◌}
 use mathlib.Core.Bool.{Bool, true, false, cond, not, ◌&&◌, ◌||◌}
 use mathlib.Core.List.{List, [], ◌∷◌}
+use Rattle.std.specs.Prelude.{Some, None}
 use Prim.Native.Nat.{ℕ, suc, ◌+◌, ◌-◌, ◌≤◌, ◌<◌}
 use native.Mathlib.Omega.{arith}
 use lib.Dec.{eqb, leb, eqb-zero-suc, eqb-suc-suc}
@@ -11,9 +12,8 @@ use lib.Seq.{slice, slice-cons, slice_empty, length-slice, take-add, drop_at, le
 use borrow.Author.Tests.{leb-true, eq-eqb, eqb-true}
 use Rattle.bits.proofs.Tests.{and-true-left, and-true-right, test-eq}
 use Rattle.bristol_text.specs.Text.{is_digit, all_digits, is_number, value_of}
-use Rattle.bristol_text.specs.Steps.{run, passes, stop, token_at, number_at, Digits}
-use Rattle.bristol_text.specs.declared.Class.TheVariants.{Digit, InToken}
-use Rattle.bristol_text.specs.declared.Number.TheVariants.{Value, Malformed}
+use Rattle.bristol_text.specs.Steps.{run, stop, token_at, number_at, Digits, in_token}
+use Rattle.bristol_text.proofs.Digits.{Counted, counted_none, counted-all}
 use Rattle.bristol_text.proofs.Runs.{digit-in-token}
 
 -- every byte passes p
@@ -38,8 +38,8 @@ module _ (p q : ℕ → Bool) (within : (x : ℕ) → p x ≡ true → q x ≡ t
   all-run [] = refl
   all-run (x ∷ l) = all_more x l (p x) (q x) refl refl (within x) (all-run l)
 
-all_digits_lem : (l : List ℕ) → all_digits l ≡ all (passes Digit) l
-unfolding all_digits all passes
+all_digits_lem : (l : List ℕ) → all_digits l ≡ all is_digit l
+unfolding all_digits all
 all_digits_lem [] = refl
 all_digits_lem (x ∷ l) = ap (λ (b : Bool). is_digit x && b) (all_digits_lem l)
 
@@ -60,6 +60,24 @@ run_length p (x ∷ l) = more (p x) (run_length p l)
 pub slice-take : (s : List ℕ) (at n : ℕ) → at ≤ length s → slice at (at + n) s ≡ take n (drop at s)
 slice-take s at n h = ap (drop at) (take-add at n s) ∙ drop_at (take at s) (take n (drop at s)) at (length-take-le at s h)
 
+-- digits at places, as a list
+module _ (s : List ℕ) (from to : ℕ) (d : Digits s from to) where
+  abbrev digits : List ℕ
+  digits = take (to - from) (drop from s)
+
+  digits-slice : slice from to s ≡ digits
+  digits-slice =
+      let e : from + (to - from) ≡ to = omega (arith, d.ordered) in
+      rw e at (slice-take s from (to - from) (omega (arith, d.ordered, d.inside)))
+
+  pub digits_start : Counted digits 0 0
+  digits_start =
+      counted_none digits (omega (arith, d.few, ap length digits-slice, length-slice from to s d.inside))
+      (sym (ap all_digits digits-slice) ∙ d.digits)
+
+  pub digits-all : (i n : ℕ) → Counted digits i n → length digits ≤ i → n ≡ value_of (slice from to s)
+  digits-all i n k h = counted-all digits i n k h ∙ sym (ap value_of digits-slice)
+
 pub first-of : (a b c d : Bool) → a && b && c && d ≡ true → a ≡ true
 first-of true b c d e = refl
 first-of false b c d e = e
@@ -68,35 +86,35 @@ pub third_of : (a b c d : Bool) → a && b && c && d ≡ true → c ≡ true
 third_of a b c d e = and-true-right (a && b) c (and-true-left (a && b && c) d e)
 
 -- a place where no token starts
-pub number-none : (s : List ℕ) (at end : ℕ) → end ≡ stop InToken s at → end ≤ at → Malformed ≡ number_at s at
+pub number-none : (s : List ℕ) (at end : ℕ) → end ≡ stop in_token s at → end ≤ at → number_at s at ≡ None
 unfolding number_at token_at stop is_number all_digits
 number-none s at end e h =
-    let z : at + run (passes InToken) (drop at s) ≡ at = omega arith in
+    let z : at + run in_token (drop at s) ≡ at = omega arith in
     rw (z, slice_empty at s)
 
-module _ (s : List ℕ) (at end : ℕ) (e : end ≡ stop InToken s at) (h : at < end) where
+module _ (s : List ℕ) (at end : ℕ) (e : end ≡ stop in_token s at) (h : at < end) where
   pub token-inside : end ≤ length s
   unfolding stop
-  token-inside = omega (arith, run_length (passes InToken) (drop at s), length-drop at s)
+  token-inside = omega (arith, run_length in_token (drop at s), length-drop at s)
 
   token : token_at s at ≡ slice at end s
   unfolding token_at
   token = ap (λ (k : ℕ). slice at k s) (sym e)
 
-  token-digits : (digits : ℕ) → digits ≡ stop Digit s at → all_digits (slice at end s) ≡ eqb digits end
+  token-digits : (digits : ℕ) → digits ≡ stop is_digit s at → all_digits (slice at end s) ≡ eqb digits end
   unfolding stop
   token-digits digits d =
       let inside : at ≤ length s = omega (arith, token-inside) in
-      let n = run (passes InToken) (drop at s) in
+      let n = run in_token (drop at s) in
       ap (λ (k : ℕ). all_digits (slice at k s)) e
       ∙ ap all_digits (slice-take s at n inside)
       ∙ all_digits_lem (take n (drop at s))
-      ∙ all-run (passes Digit) (passes InToken) digit-in-token (drop at s)
-      ∙ eqb-add at (run (passes Digit) (drop at s)) n
+      ∙ all-run is_digit in_token digit-in-token (drop at s)
+      ∙ eqb-add at (run is_digit (drop at s)) n
       ∙ rw (d, e) refl
 
   -- the tests of the code are those of a number
-  pub number-tests : (digits : ℕ) → digits ≡ stop Digit s at
+  pub number-tests : (digits : ℕ) → digits ≡ stop is_digit s at
       → eqb digits end && leb 1 (end - at) && leb (end - at) 9 && (not (eqb (get_or s at 0) 48) || eqb (end - at) 1) ≡ is_number (slice at end s)
   unfolding is_number
   number-tests digits d =
@@ -104,11 +122,11 @@ module _ (s : List ℕ) (at end : ℕ) (e : end ≡ stop InToken s at) (h : at <
       ap (λ (l : List ℕ). get_or l 0 0) (slice-cons at end s 0 h token-inside) in
       rw (token-digits digits d, length-slice at end s token-inside, first)
 
-  pub number-bad : is_number (slice at end s) ≡ false → Malformed ≡ number_at s at
+  pub number-bad : is_number (slice at end s) ≡ false → number_at s at ≡ None
   unfolding number_at
   number-bad f = rw (token, f)
 
-  pub number-good : is_number (slice at end s) ≡ true → Value (value_of (slice at end s)) (record { at = end }) ≡ number_at s at
+  pub number-good : is_number (slice at end s) ≡ true → number_at s at ≡ Some (value_of (slice at end s), record { at = end })
   unfolding number_at
   number-good f = rw (token, f, e)
 

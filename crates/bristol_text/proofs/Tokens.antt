@@ -3,7 +3,8 @@
 use mathlib.Core.Path.{◌≡◌, refl, sym, ap, ◌∙◌}
 use mathlib.Core.Bool.{Bool, true, false, cond}
 use mathlib.Core.List.{List, [], ◌∷◌, ◌++◌}
-use Prim.Native.Nat.{ℕ, zero, suc, ◌-◌, ◌≤◌, ◌<◌}
+use Prim.Native.Nat.{ℕ, zero, suc, ◌+◌, ◌-◌, ◌≤◌, ◌<◌}
+use native.Mathlib.Numerals.{add-one}
 use native.Mathlib.Omega.{arith}
 use lib.Dec.{eqb}
 use lib.ListN.{length, get_or, take, drop}
@@ -63,11 +64,10 @@ module _ (l : List ℕ) where
   pub alone-start : Alone l (length l)
   alone-start = record { high = omega arith; alone = rw (drop-length l) (alone-none space) }
 
-  pub alone-whole : (i : ℕ) → i ≤ 0 → Alone l i → LastToken l i
+  pub alone-whole : (i : ℕ) → i ≤ 0 → Alone l i → LastToken l 0
   unfolding tokens
-  alone-whole i h k =
-      let e : i ≡ 0 = omega arith in
-      record { inside = k.high; last = sym (ap the_last k.alone ∙ last_one (drop i l)) ∙ ap (λ (n : ℕ). the_last (pieces space (drop n l))) e }
+  alone-whole zero h k = record { inside = k.high; last = sym (ap the_last k.alone ∙ last_one l) }
+  alone-whole (suc m) h k = absurd (omega arith)
 
   -- the byte before place m + 1 is a space, or it is not
   module _ (m : ℕ) (k : Alone l (suc m)) where
@@ -93,11 +93,11 @@ module _ (l : List ℕ) where
           alone = rw (drop-cons l m 0 k.high) (alone-more space (get_or l m 0) (drop (suc m) l) (ne_eqb _ _ n) k.alone);
         }
 
-  pub alone-space : (i : ℕ) → 0 < i → Alone l i → get_or l (i - 1) 0 ≡ space → LastToken l i
+  pub alone-space : (i : ℕ) → 0 < i → Alone l i → get_or l (i - 1) 0 ≡ space → LastToken l (i - 1 + 1)
   alone-space zero h k e = absurd (omega arith)
   alone-space (suc m) h k e =
       let q : suc m - 1 ≡ m = omega arith in
-      space-before m k (rw q at e)
+      rw (q, add-one) (space-before m k (rw q at e))
 
   pub alone-back : (i : ℕ) → 0 < i → Alone l i → (get_or l (i - 1) 0 ≡ space → ⊥) → Alone l (i - 1)
   alone-back zero h k n = absurd (omega arith)

@@ -1,6 +1,6 @@
 -- A call in the code, by its cases.
 -- Assumes nothing.
-use mathlib.Core.Path.{◌≡◌, refl, sym, ap, ◌∙◌}
+use mathlib.Core.Path.{◌≡◌, sym, ap, ◌∙◌, subst}
 use mathlib.Core.Bool.{Bool, true, false, ◌&&◌}
 use mathlib.Core.List.{List, []}
 use mathlib.Core.Option.{Option, none, some}
@@ -8,6 +8,10 @@ use Prim.Native.Nat.{ℕ, ◌≤◌, ◌<◌}
 use borrow.Author.Tests.{le-leb, lt-leb}
 use lib.Dec.{leb}
 use lib.ListN.{length, replicate}
+use Rattle.std.specs.Prelude.{Result, Ok, Err, IfOk}
+use Rattle.refusal.specs.declared.Refusal.{Refusal}
+use Rattle.refusal.specs.declared.Refusal.TheVariants.{BufferLength, Parameter, NoneWaiting}
+use Rattle.refusal.specs.Refusal.{number_of}
 use Rattle.schedule.specs.Schedule.{State, Service, waits, next, serve}
 use Rattle.schedule.specs.Steps.{next_caller}
 use Rattle.schedule.proofs.Flags.{nobody-next, somebody-next}
@@ -22,59 +26,51 @@ use Rattle.calling.proofs.Turns.{next-is}
 
 module _ (s : Shared) (quota : ℕ) (buffer work : List ℕ) where
   -- what the code promises of a call
-  abbrev Calling : Called → List ℕ → Type 0
+  abbrev Calling : Result Called Refusal → List ℕ → Type 0
   Calling r w =
-      (refusal_of r.refused r.number ≡ call_refusal quota work (state_of s))
-      × ((state_of r.state ≡ (called quota buffer work (state_of s)).1)
-      × ((r.count ≡ length (called quota buffer work (state_of s)).0)
-      × ((r.verdicts ≡ verdicts_of (called quota buffer work (state_of s)).0)
-      × (w ≡ work_after_call quota work (state_of s)))))
+      (refusal_of r ≡ call_refusal quota work (state_of s))
+      × (IfOk r (λ x. Replies x (called quota buffer work (state_of s)))
+      × (w ≡ work_after_call quota work (state_of s)))
 
-  -- with this refusal, these services and this state, and this work buffer
-  calling-is : (r : Called) (w v : List ℕ) (o : Option ℕ) (x : List (Service ℕ) × State Job) → call_refusal quota work (state_of s) ≡ o
-      → called quota buffer work (state_of s) ≡ x → work_after_call quota work (state_of s) ≡ v → refusal_of r.refused r.number ≡ o → Replies r x → w ≡ v → Calling r w
-  calling-is r w v o x eo ex ew q y z =
-      (q ∙ sym eo, (y.0 ∙ sym (ap (λ (i : List (Service ℕ) × State Job). i.1) ex), (y.1.0 ∙ sym (ap (λ (i : List (Service ℕ) × State Job). length i.0) ex), (y.1.1 ∙ sym (ap (λ (i : List (Service ℕ) × State Job). verdicts_of i.0) ex), z ∙ sym ew))))
-
-  refused-with : (r : Called) (k : ℕ) → call_refusal quota work (state_of s) ≡ some k → (refusal_of r.refused r.number ≡ some k) × Replies r ([], state_of s)
-      → Calling r work
-  unfolding called work_after_call
-  refused-with r k e q =
-      calling-is r work work (some k) ([], state_of s) e
-      (ap (λ (o : Option ℕ). unless_refused o (λ (m : ℕ). ([], state_of s)) (serve 16 (λ c. service_at buffer) quota (state_of s))) e)
-      (ap (λ (o : Option ℕ). unless_refused o (λ (m : ℕ). work) (replicate (length work) 0)) e) q.0 q.1 refl
+  refused-with : (k : Refusal) → call_refusal quota work (state_of s) ≡ some (number_of k) → Calling (Err k) work
+  unfolding work_after_call
+  refused-with k e =
+      (sym e, (tt, sym (ap (λ (o : Option ℕ). unless_refused o (λ (m : ℕ). work) (replicate (length work) 0)) e)))
 
   -- the quota's test
   abbrev Named : Bool
   Named = leb 1 quota && leb quota 512
 
-  pub quota-beyond : (r : Called) → Named ≡ false → (refusal_of r.refused r.number ≡ some 8) × Replies r ([], state_of s) → Calling r work
+  pub quota-beyond : Named ≡ false → Calling (Err Parameter) work
   unfolding call_refusal
-  quota-beyond r e q = refused-with r 8 (rw e) q
+  quota-beyond e = refused-with Parameter (rw e)
 
   module _ (named : Named ≡ true) where
-    pub nobody-waits : (r : Called) → 15 < next_caller s.begin s.waiting → (refusal_of r.refused r.number ≡ some 28) × Replies r ([], state_of s) → Calling r work
+    pub nobody-waits : 15 < next_caller s.begin s.waiting → Calling (Err NoneWaiting) work
     unfolding call_refusal
-    nobody-waits r h q =
-        refused-with r 28 (rw (named, next-is buffer s.begin s.waiting s.jobs ∙ nobody-next s.begin s.waiting h)) q
+    nobody-waits h =
+        refused-with NoneWaiting (rw (named, next-is buffer s.begin s.waiting s.jobs ∙ nobody-next s.begin s.waiting h))
 
     module _ (h : next_caller s.begin s.waiting ≤ 15) where
       someone : next 16 (state_of s).last (waits (state_of s)) ≡ some (next_caller s.begin s.waiting)
       someone = next-is buffer s.begin s.waiting s.jobs ∙ somebody-next s.begin s.waiting h
 
-      pub short-work : (r : Called) → length work < 6436864 → (refusal_of r.refused r.number ≡ some 6) × Replies r ([], state_of s) → Calling r work
+      pub short-work : length work < 6436864 → Calling (Err BufferLength) work
       unfolding call_refusal long_work
-      short-work r l q = refused-with r 6 (rw (named, someone, lt-leb 6436864 (length work) l)) q
+      short-work l = refused-with BufferLength (rw (named, someone, lt-leb 6436864 (length work) l))
 
       accepted : 6436864 ≤ length work → call_refusal quota work (state_of s) ≡ none
       unfolding call_refusal long_work
       accepted l = rw (named, someone, le-leb 6436864 (length work) l)
 
       pub call-made : (r : Called) (w : List ℕ) → 6436864 ≤ length work
-          → (refusal_of r.refused r.number ≡ none) × Replies r (serve 16 (λ c. service_at buffer) quota (state_of s)) → w ≡ replicate (length work) 0 → Calling r w
+          → Replies r (serve 16 (λ c. service_at buffer) quota (state_of s)) → w ≡ replicate (length work) 0 → Calling (Ok r) w
       unfolding called work_after_call
       call-made r w l q z =
-          let e = accepted l in
-          calling-is r w (replicate (length work) 0) none (serve 16 (λ c. service_at buffer) quota (state_of s)) e
-          (ap (λ (o : Option ℕ). unless_refused o (λ (m : ℕ). ([], state_of s)) (serve 16 (λ c. service_at buffer) quota (state_of s))) e)
-          (ap (λ (o : Option ℕ). unless_refused o (λ (m : ℕ). work) (replicate (length work) 0)) e) q.0 q.1 z
+          let e = accepted l in (
+            sym e,
+            (
+              subst (Replies r) (sym (ap (λ (o : Option ℕ). unless_refused o (λ (m : ℕ). ([], state_of s)) (serve 16 (λ c. service_at buffer) quota (state_of s))) e)) q,
+              z ∙ sym (ap (λ (o : Option ℕ). unless_refused o (λ (m : ℕ). work) (replicate (length work) 0)) e),
+            ),
+          )

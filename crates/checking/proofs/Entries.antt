@@ -14,21 +14,20 @@ use Rattle.proof.specs.File.{header_m, header_hstar, header_salt}
 use Rattle.proof.specs.Check.{check_legal}
 use Rattle.proof.specs.Steps.{asks_in}
 use Rattle.proof_tests.specs.declared.Shape.{Shape}
-use Rattle.proof_tests.specs.declared.Entry.{Entry}
-use Rattle.proof_tests.specs.declared.Entry.TheVariants.{Refused, Taken}
+use Rattle.std.specs.Prelude.{Result, Ok, Err}
 use Rattle.proof_tests.specs.Steps.{judged, legal_tests, Ready, entered, Took}
 use Rattle.proof_tests.proofs.Outcomes.{check-tests, tests-refuse, tests-accept}
 
-module _ (s y message proof : List ℕ) (r : Entry) (e : entered r ≡ legal_tests s y message proof (circuit_of s) (done [])) where
+module _ (s y message proof : List ℕ) (r : Result Shape Refusal) (e : entered r ≡ legal_tests s y message proof (circuit_of s) (done [])) where
   -- they refuse
-  pub lent-refused : (k : Refusal) → r ≡ Refused k → refuses (number_of k) [] ≡ check_legal s y message proof (circuit_of s)
+  pub lent-refused : (k : Refusal) → r ≡ Err k → refuses (number_of k) [] ≡ check_legal s y message proof (circuit_of s)
   lent-refused k q =
       tests-refuse s y message proof (circuit_of s) (number_of k) _ (sym (ap entered q) ∙ e) ∙ sym (check-tests s y message proof (circuit_of s))
 
   -- they pass
-  module _ (z : Sizes) (table marks : Shape → List ℕ) (t : Took r s z y message proof table marks) (f : Shape) (q : r ≡ Taken f) where
+  module _ (z : Sizes) (table marks : Shape → List ℕ) (t : Took r s z y message proof table marks) (f : Shape) (q : r ≡ Ok f) where
     pub lent-taken : (f.sizes ≡ z) × Ready s f y message proof (table f) (marks f)
-    lent-taken = subst (λ (x : Entry). Took x s z y message proof table marks) q t
+    lent-taken = subst (λ (x : Result Shape Refusal). Took x s z y message proof table marks) q t
 
     pub lent-room : (k : ℕ) → 64 * wire_count z + 4096 ≤ k → 64 * wire_count f.sizes + 4096 ≤ k
     lent-room k l = rw lent-taken.0 l

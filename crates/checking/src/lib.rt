@@ -12,23 +12,16 @@ ghost use Rattle.checking.specs.Answers.{outcome};
 ghost use Rattle.proof_tests.specs.Steps.{judged, Tested};
 
 use bits::clear;
-use circuit::{ReadAnswer, Sizes};
+use circuit::Sizes;
 use cover::height;
 use growing::regrow;
 use mpc::lending::work_bytes;
 use proof::HEADER_BYTES;
 use proof::nodes::row_count;
-use proof_tests::{Entry, Shape, test_lent};
+use proof_tests::{Shape, test_lent};
 use reading::read;
 use refusal::Refusal;
 use verifying::{proof_tree, recompute};
-
-// What check answers.
-#[derive(Clone, Copy)]
-pub enum Answer {
-    Accepted,
-    Refused(Refusal),
-}
 
 // Checks the instances of a proof that passes all tests before them: the masters' tree is grown again from its opened nodes, every
 // instance is worked, and their digests are compared with the header's h*.
@@ -40,7 +33,7 @@ fn verify(
     y: &[u8],
     proof: &[u8],
     memory: &mut [u8],
-) -> Answer
+) -> Result<(), Refusal>
     requires { Tested s.now f proof.now table.now marks.now × (64 * wire_count f.sizes + 4096 ≤ length memory.old) }
     ensures { outcome result ≡ judged (circuit_of s.now) y.now proof.now f.counts.instances f.counts.parties (asks_in f.counts.parties table.now) }
 {
@@ -60,12 +53,12 @@ fn verify(
     );
     let v = recompute(s, z, k, table, opened, &nodes[..e], y, proof, memory);
     if !v.agrees {
-        return Answer::Refused(Refusal::Output);
+        return Err(Refusal::Output);
     }
     if !bits::same(&v.hstar, &proof[6..38]) {
-        return Answer::Refused(Refusal::Digest);
+        return Err(Refusal::Digest);
     }
-    Answer::Accepted
+    Ok(())
 }
 
 // Checks a proof of a legal circuit, with places for what the challenge asks and for the marks of the masters' tree.
@@ -76,39 +69,35 @@ fn check_lent(
     message: &[u8],
     proof: &[u8],
     memory: &mut [u8],
-) -> Answer
+) -> Result<(), Refusal>
     requires { (read_circuit s.now ≡ legal (circuit_of s.now)) × (Known s.now z × (64 * wire_count z + 4096 ≤ length memory.old)) }
     ensures { outcome result ≡ check_legal s.now y.now message.now proof.now (circuit_of s.now) }
 {
     let mut table = [0u8; 512];
     let mut marks = [0u8; 1024];
-    let entry = test_lent(s, z, y, message, proof, &mut table, &mut marks);
-    match entry {
-        Entry::Refused(k) => Answer::Refused(k),
-        Entry::Taken(f) => {
-            let k = f.counts;
-            let c = k.instances as usize;
-            let r = row_count(k.instances);
-            verify(s, f, &table[..c], &marks[..r], y, proof, memory)
-        }
-    }
+    let f = test_lent(s, z, y, message, proof, &mut table, &mut marks)?;
+    let m = f.counts.instances;
+    let c = m as usize;
+    let r = row_count(m);
+    verify(s, f, &table[..c], &marks[..r], y, proof, memory)
 }
 
 // Checks a proof that the circuit gives y on some witness, under the message. The work buffer is left all zero, but for a refusal up to
 // its test.
-pub fn check(s: &[u8], y: &[u8], message: &[u8], proof: &[u8], work: &mut [u8]) -> Answer
+pub fn check(
+    s: &[u8],
+    y: &[u8],
+    message: &[u8],
+    proof: &[u8],
+    work: &mut [u8],
+) -> Result<(), Refusal>
     ensures { leaving (outcome result) work.new ≡ check_op s.now y.now message.now proof.now work.old }
 {
-    let answer = read(s);
-    match answer {
-        ReadAnswer::Refused(k, _) => Answer::Refused(k),
-        ReadAnswer::Legal(z) => {
-            if work.len() < work_bytes(z) {
-                return Answer::Refused(Refusal::BufferLength);
-            }
-            let ended = check_lent(s, z, y, message, proof, work);
-            clear(work);
-            ended
-        }
+    let z = read(s)?;
+    if work.len() < work_bytes(z) {
+        return Err(Refusal::BufferLength);
     }
+    let ended = check_lent(s, z, y, message, proof, work);
+    clear(work);
+    ended
 }

@@ -75,14 +75,12 @@ fn make_room(chosen: &mut [u16], t: usize, x: usize) -> usize
     requires { (t < length chosen.old) × (x + t < 65536) }
     ensures { Room t x chosen.old result chosen.new }
 {
-    let mut k = t;
-    while 0 < k {
-        let c = chosen[k - 1];
-        if (c as usize) < x + k {
-            return k;
+    for k in (0..t).rev() {
+        let c = chosen[k];
+        if (c as usize) <= x + k {
+            return k + 1;
         }
-        chosen[k] = c;
-        k -= 1;
+        chosen[k + 1] = c;
     }
     0
 }
@@ -101,11 +99,9 @@ fn draw(m: usize, stream: &[u8], chosen: &mut [u16])
     requires { (m ≤ max_instances) × ((length chosen.old ≤ m) × (8 * length chosen.old ≤ length stream.now)) }
     ensures { chosen.new ≡ instances m (length chosen.old) stream.now }
 {
-    let mut t = 0;
-    while t < chosen.len() {
+    for t in 0..chosen.len() {
         let x = bits::read_u64(stream, 8 * t) % ((m - t) as u64);
         choose(chosen, t, x as usize);
-        t += 1;
     }
 }
 
@@ -123,10 +119,8 @@ fn write_chosen(chosen: &[u16], n: u8, bytes: &[u8], out: &mut [u8])
     requires { (0 < n) × ((length bytes.now ≡ length chosen.now) × (length out.old ≡ 3 * length chosen.now)) }
     ensures { out.new ≡ beside chosen.now (parties_of n bytes.now) }
 {
-    let mut k = 0;
-    while k < chosen.len() {
-        write_choice(out, 3 * k, chosen[k], bytes[k] % n);
-        k += 1;
+    for (k, i) in chosen.iter().enumerate() {
+        write_choice(out, 3 * k, *i, bytes[k] % n);
     }
 }
 

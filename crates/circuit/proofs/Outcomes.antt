@@ -25,9 +25,8 @@ use Rattle.circuit.specs.File.{width, max_gates, inputs_of, outputs_of, gates_of
 use Rattle.circuit.specs.Operations.{read_op, evaluate_legal, evaluate_op, holds}
 use Rattle.circuit.specs.Answers.{read_paper, outcome}
 use Rattle.circuit.specs.declared.Sizes.{Sizes}
-use Rattle.circuit.specs.declared.ReadAnswer.{ReadAnswer}
-use Rattle.circuit.specs.declared.ReadAnswer.TheVariants as read_answer
-use Rattle.circuit.specs.declared.EvaluateAnswer.TheVariants as evaluateAnswer
+use Rattle.circuit.specs.declared.Fault.{Fault}
+use Rattle.std.specs.Prelude.{⊤, Result, Ok, Err}
 use Rattle.circuit.proofs.Answered.{Passed, read-legal, read-success, success-passed, refusal-refused}
 use Rattle.circuit.proofs.Readings.{limits-few}
 use Rattle.circuit.proofs.Slots.{width-known}
@@ -87,31 +86,31 @@ module _ (s : List ℕ) (i o g : ℕ) (f : Legal s i o g) where
   lent-form w y = rw (f.laid.inputs, f.laid.outputs, length-tabulate (outputs_of s) (output_wire s))
 
   pub refuse-witness : (w y : List ℕ) (r : ℕ) → r ≡ oct i → (length w ≡ r → ⊥)
-      → outcome (evaluateAnswer.Refused BufferLength) y ≡ evaluate_legal w y (circuit_of s)
+      → outcome (Err BufferLength) y ≡ evaluate_legal w y (circuit_of s)
   refuse-witness w y r e h = sym (lent-form w y ∙ rw (ne_eqb (length w) (oct i) (λ q. h (q ∙ sym e))))
 
   pub refuse-output : (w y : List ℕ) (r t : ℕ) → r ≡ oct i → length w ≡ r → t ≡ oct o → (length y ≡ t → ⊥)
-      → outcome (evaluateAnswer.Refused BufferLength) y ≡ evaluate_legal w y (circuit_of s)
+      → outcome (Err BufferLength) y ≡ evaluate_legal w y (circuit_of s)
   refuse-output w y r t e a d h = sym (lent-form w y ∙ rw (eq-eqb (length w) (oct i) (a ∙ e), ne_eqb (length y) (oct o) (λ q. h (q ∙ sym d))))
 
   pub refuse-unused : (w y : List ℕ) (r t : ℕ) (b : Bool) → r ≡ oct i → length w ≡ r → t ≡ oct o → length y ≡ t → b ≡ unused_zero i w → not b ≡ true
-      → outcome (evaluateAnswer.Refused UnusedBits) y ≡ evaluate_legal w y (circuit_of s)
+      → outcome (Err UnusedBits) y ≡ evaluate_legal w y (circuit_of s)
   refuse-unused w y r t b e a d h q n =
       sym (lent-form w y ∙ rw (eq-eqb (length w) (oct i) (a ∙ e), eq-eqb (length y) (oct o) (h ∙ d), sym q ∙ not-true b n))
 
   pub done : (w y x : List ℕ) (r t : ℕ) (b : Bool) → r ≡ oct i → length w ≡ r → t ≡ oct o → length y ≡ t → b ≡ unused_zero i w → not b ≡ false
-      → x ≡ pack (evaluate (circuit_of s) (bit_at w)) → outcome evaluateAnswer.Done x ≡ evaluate_legal w y (circuit_of s)
+      → x ≡ pack (evaluate (circuit_of s) (bit_at w)) → outcome (Ok tt) x ≡ evaluate_legal w y (circuit_of s)
   done w y x r t b e a d h q n z =
-      ap (outcome evaluateAnswer.Done) z
+      ap (outcome (Ok tt)) z
       ∙ sym (lent-form w y ∙ rw (eq-eqb (length w) (oct i) (a ∙ e), eq-eqb (length y) (oct o) (h ∙ d), sym q ∙ not-false b n))
 
 -- a refused file
-pub evaluate-refused : (s w y : List ℕ) (k : Refusal) {x : ℕ} (r : ReadAnswer) → r ≡ read_answer.Refused k x → read_paper r ≡ read_op s
-    → outcome (evaluateAnswer.Refused k) y ≡ evaluate_op s w y
+pub evaluate-refused : (s w y : List ℕ) (f : Fault) (r : Result Sizes Fault) → r ≡ Err f → read_paper r ≡ read_op s
+    → outcome (Err f.refusal) y ≡ evaluate_op s w y
 unfolding evaluate_op
-evaluate-refused s w y k {x} r p e =
-    let q : refusal_at (number_of k) x ≡ read_op s = sym (ap read_paper p) ∙ e in
-    rw (refusal-refused s (number_of k) x q)
+evaluate-refused s w y f r p e =
+    let q : refusal_at (number_of f.refusal) f.slot ≡ read_op s = sym (ap read_paper p) ∙ e in
+    rw (refusal-refused s (number_of f.refusal) f.slot q)
 
 -- what the right length says
 sized-whole : (s : List ℕ) → right_length s ≡ true → length s ≡ width * (4 + outputs_of s + 4 * gates_of s)
@@ -123,7 +122,7 @@ unfolding fields.within_limits steps.limits
 limited-limits s = refl
 
 -- a file that reads as legal
-module _ (s : List ℕ) (z : Sizes) (r : ReadAnswer) (p : r ≡ read_answer.Legal z) (e : read_paper r ≡ read_op s) where
+module _ (s : List ℕ) (z : Sizes) (r : Result Sizes Fault) (p : r ≡ Ok z) (e : read_paper r ≡ read_op s) where
   answered : success (z.inputs ∷ z.outputs ∷ z.gates ∷ z.ands ∷ []) ≡ read_op s
   answered = sym (ap read_paper p) ∙ e
 

@@ -18,8 +18,8 @@ use Rattle.circuit.specs.Fields.{Fields, field, inputs_of, outputs_of, gates_of,
 use Rattle.circuit.specs.FieldSteps.{walks, inputs_first, gates_from, limits, Framed}
 use Rattle.circuit.specs.Steps.{walk_paper}
 use Rattle.circuit.specs.Operations.{read_answer}
-use Rattle.circuit.specs.declared.Walk.{Walk as Walked}
-use Rattle.circuit.specs.declared.Walk.TheVariants.{Ends, Fault}
+use Rattle.circuit.specs.declared.Fault.{Fault}
+use Rattle.std.specs.Prelude.{⊤, Result, Ok, Err}
 use Rattle.circuit.proofs.Walking.{well-ends, walked-chain}
 use Rattle.circuit.proofs.Slots.{length-chain}
 
@@ -82,7 +82,7 @@ module _ (x : Fields) where
   sound-success p = rw (read-sound p) (rw (length-tabulate (outputs_of x) (output_wire x), count-gates))
 
   -- a walk that came to its end
-  pub walked-well : (r : Walked) → r ≡ Ends → walk_paper r ≡ chain_walk x → good_chain x ≡ true
+  pub walked-well : (r : Result ⊤ Fault) {x0 : ⊤} → r ≡ Ok x0 → walk_paper r ≡ chain_walk x → good_chain x ≡ true
   unfolding good_chain ends_well
   walked-well r p e = ap ends_well (sym e ∙ ap walk_paper p)
 
@@ -116,9 +116,9 @@ module _ (w : ℕ) (s : List ℕ) (i o g h : ℕ) (f : Framed w s i o g h) where
   pub refuse-records : good_records x g ≡ false → refusal 3 ≡ read_answer (read_fields x)
   refuse-records a = sym (read-records x (sym records-same ∙ a))
 
-  pub refuse-chain : (k : Refusal) (y : ℕ) (r : Walked) → good_records x g ≡ true → r ≡ Fault k y → walk_paper r ≡ chain_walk x
-      → refusal_at (number_of k) y ≡ read_answer (read_fields x)
-  refuse-chain k y r a p e = sym (read-chain x (sym records-same ∙ a) (number_of k) y (sym e ∙ ap walk_paper p))
+  pub refuse-chain : (f : Fault) (r : Result ⊤ Fault) → good_records x g ≡ true → r ≡ Err f → walk_paper r ≡ chain_walk x
+      → refusal_at (number_of f.refusal) f.slot ≡ read_answer (read_fields x)
+  refuse-chain f r a p e = sym (read-chain x (sym records-same ∙ a) (number_of f.refusal) f.slot (sym e ∙ ap walk_paper p))
 
   pub refuse-reads : good_records x g ≡ true → good_chain x ≡ true → inputs_first x g h ≡ false → refusal 5 ≡ read_answer (read_fields x)
   refuse-reads a b d =

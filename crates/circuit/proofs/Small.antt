@@ -16,7 +16,8 @@ use Rattle.circuit.specs.Steps.{link_of}
 use Rattle.circuit.specs.Operations.{read_op}
 use Rattle.circuit.specs.Answers.{read_paper}
 use Rattle.circuit.specs.declared.Sizes.{Sizes}
-use Rattle.circuit.specs.declared.ReadAnswer.TheVariants as read_answer
+use Rattle.circuit.specs.declared.Fault.{Fault}
+use Rattle.std.specs.Prelude.{Ok, Err}
 use Rattle.refusal.specs.declared.Refusal.{Refusal}
 use Rattle.circuit.proofs.Walking.{fault-low}
 use Rattle.circuit.proofs.Faults.{read-fault}
@@ -37,7 +38,7 @@ value_at k (refusal_at n x) = 0
 value_at k (success vs) = get_or vs k 0
 
 -- what reading answers fits 32 bits
-pub read_small : (s : List ℕ) (z : Sizes) → read_paper (read_answer.Legal z) ≡ read_op s
+pub read_small : (s : List ℕ) (z : Sizes) → read_paper (Ok z) ≡ read_op s
     → (z.inputs < 2 ^ 32) × ((z.outputs < 2 ^ 32) × ((z.gates < 2 ^ 32) × (z.ands < 2 ^ 32)))
 read_small s z e =
     let p = success-passed s _ e in
@@ -63,5 +64,5 @@ slot-few s k x e =
     (lt-or-le k 19)
 
 -- so it fits 32 bits
-pub slot_small : (s : List ℕ) (k : Refusal) (x : ℕ) → read_paper (read_answer.Refused k x) ≡ read_op s → x < 2 ^ 32
-slot_small s k x e = omega (arith, slot-few s _ x (refusal-refused s _ x e))
+pub slot_small : (s : List ℕ) (f : Fault) → read_paper (Err f) ≡ read_op s → f.slot < 2 ^ 32
+slot_small s f e = omega (arith, slot-few s _ f.slot (refusal-refused s _ f.slot e))

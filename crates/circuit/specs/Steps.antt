@@ -1,6 +1,6 @@
 -- What only the contracts of steps use, for files in the form in use: no definition of the paper stands here.
 -- Assumes nothing.
-use Rattle.std.specs.Prelude.{◌≡◌, Bool, true, false, not, ◌&&◌, ◌||◌, List, map, ℕ, zero, suc, ◌+◌, ◌-◌, ◌*◌, ◌<◌, length, get_or, ltb}
+use Rattle.std.specs.Prelude.{◌≡◌, Bool, true, false, not, ◌&&◌, ◌||◌, List, map, ℕ, zero, suc, ◌+◌, ◌-◌, ◌*◌, ◌<◌, length, get_or, ltb, ⊤, Result, Ok, Err}
 use Rattle.bits.specs.Bits.{tabulate, bit_at, from_bits, oct, unused_zero}
 use Rattle.bits.specs.Steps.{put_bit}
 use Rattle.bits.specs.Xor.{◌⊕◌}
@@ -12,8 +12,7 @@ use Rattle.circuit.specs.declared.Gate.TheVariants.{Xor, And, Inv}
 use Rattle.circuit.specs.declared.Record.{Record}
 use Rattle.refusal.specs.Refusal.{number_of}
 use Rattle.circuit.specs.Chain as chain
-use Rattle.circuit.specs.declared.Walk.{Walk}
-use Rattle.circuit.specs.declared.Walk.TheVariants.{Ends, Fault}
+use Rattle.circuit.specs.declared.Fault.{Fault}
 use Rattle.circuit.specs.Circuit as paper
 
 -- the most wires of a circuit: its inputs and its gates
@@ -148,9 +147,9 @@ pub record Ready (s : List ℕ) (i o g h : ℕ) (v : List ℕ) : Type 0 where
   pub room : length v ≡ wire_bytes
 
 -- what the walk along the chain comes to, in the paper's terms
-abbrev pub walk_paper : Walk → chain.Walk
-walk_paper Ends = chain.ends
-walk_paper (Fault k x) = chain.fault (number_of k) x
+abbrev pub walk_paper : Result ⊤ Fault → chain.Walk
+walk_paper (Ok _) = chain.ends
+walk_paper (Err f) = chain.fault (number_of f.refusal) f.slot
 
 -- 1 for an AND gate
 abbrev pub and_one : Gate → ℕ

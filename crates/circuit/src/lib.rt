@@ -1,5 +1,7 @@
-// The circuit file: its fields and gate records, and the answers of reading and evaluating it.
+// The circuit file: its fields and gate records, and why a file is refused.
 #![tactic(auto)]
+
+ghost use Rattle.std.specs.Prelude.{◌≡◌};
 
 pub mod records;
 
@@ -35,6 +37,16 @@ pub struct Record {
     pub gate: Gate,
 }
 
+// What the front of a file says: the bytes of its fields, I, O and G, and the head of its chain.
+#[derive(Clone, Copy)]
+pub struct Front {
+    pub width: usize,
+    pub inputs: usize,
+    pub outputs: usize,
+    pub gates: usize,
+    pub head: usize,
+}
+
 // The numbers I, O, G and A of a circuit.
 #[derive(Clone, Copy)]
 pub struct Sizes {
@@ -44,23 +56,28 @@ pub struct Sizes {
     pub ands: usize,
 }
 
-// What the walk along the chain comes to: a good end, or a fault and the slot that holds the offending link (0 for the head).
+// Why a file is no legal circuit: the refusal, and the slot that it tells. A fault of the chain tells the slot that holds the offending link,
+// 0 for the head; any other tells 0.
 #[derive(Clone, Copy)]
-pub enum Walk {
-    Ends,
-    Fault(Refusal, usize),
+pub struct Fault {
+    pub refusal: Refusal,
+    pub slot: usize,
 }
 
-// What reading a circuit answers: a refusal goes with the slot that it tells, 0 where it tells none.
-#[derive(Clone, Copy)]
-pub enum ReadAnswer {
-    Legal(Sizes),
-    Refused(Refusal, usize),
+// A refusal that tells no slot.
+impl From<Refusal> for Fault {
+    ghost from_gives = { λ k f. f ≡ record { refusal = k; slot = 0 } };
+
+    fn from(refusal: Refusal) -> Fault {
+        Fault { refusal, slot: 0 }
+    }
 }
 
-// What evaluating a circuit answers.
-#[derive(Clone, Copy)]
-pub enum EvaluateAnswer {
-    Done,
-    Refused(Refusal),
+// The other operations tell a refusal by its number alone.
+impl From<Fault> for Refusal {
+    ghost from_gives = { λ f e. e ≡ f.refusal };
+
+    fn from(f: Fault) -> Refusal {
+        f.refusal
+    }
 }

@@ -3,41 +3,32 @@
 
 ghost use Rattle.std.specs.Prelude.{◌≤◌, length, IfOk};
 
-use circuit::{ReadAnswer, Sizes};
+use circuit::{Fault, Sizes};
 use reading::read;
+use refusal::Refusal;
 use std::io::{self, Read};
-
-// Prints a space and a number.
-fn print_number(rt: &impl Print, n: u64) -> io::Result<()> {
-    print!(rt; " {n}")
-}
 
 // Prints the sizes of a legal circuit.
 fn print_sizes(rt: &impl Print, z: Sizes) -> io::Result<()> {
-    print!(rt; "ok")?;
-    print_number(rt, z.inputs as u64)?;
-    print_number(rt, z.outputs as u64)?;
-    print_number(rt, z.gates as u64)?;
-    print_number(rt, z.ands as u64)?;
-    println!(rt)
+    println!(rt; "ok {} {} {} {}", z.inputs, z.outputs, z.gates, z.ands)
 }
 
 // Prints the number of a refusal, and after 19, 20 and 21 the slot that it tells.
-fn print_refusal(rt: &impl Print, k: u32, slot: usize) -> io::Result<()> {
-    print!(rt; "no")?;
-    print_number(rt, k as u64)?;
-    if let 19..=21 = k {
-        print_number(rt, slot as u64)?;
+fn print_refusal(rt: &impl Print, f: Fault) -> io::Result<()> {
+    let k = u32::from(f.refusal);
+    match f.refusal {
+        Refusal::BeyondGates | Refusal::EndsEarly | Refusal::GoesOn => {
+            println!(rt; "no {k} {}", f.slot)
+        }
+        _ => println!(rt; "no {k}"),
     }
-    println!(rt)
 }
 
 // Reads the circuit s and prints the answer.
 fn print_answer(rt: &impl Print, s: &[u8]) -> io::Result<()> {
-    let answer = read(s);
-    match answer {
-        ReadAnswer::Legal(z) => print_sizes(rt, z),
-        ReadAnswer::Refused(k, slot) => print_refusal(rt, refusal::number(k), slot),
+    match read(s) {
+        Ok(z) => print_sizes(rt, z),
+        Err(f) => print_refusal(rt, f),
     }
 }
 
@@ -46,6 +37,7 @@ fn read_full(input: &mut impl Read, buffer: &mut [u8]) -> io::Result<usize>
     ensures { IfOk result (λ n. n ≤ length buffer.new) }
 {
     let mut at = 0;
+    // A `for` is no plainer: a read brings any number of bytes.
     while at < buffer.len() {
         let n = input.read(&mut buffer[at..])?;
         if n == 0 {
@@ -60,10 +52,10 @@ fn read_full(input: &mut impl Read, buffer: &mut [u8]) -> io::Result<usize>
 const LONGEST: usize = 65536;
 
 fn main(rt: HostRuntime) -> io::Result<()> {
-    let mut buffer = [0u8; LONGEST + 1];
+    let mut buffer = [0; LONGEST + 1];
     let n = read_full(&mut rt.stdin(), &mut buffer)?;
     if n == LONGEST + 1 {
-        return print_refusal(&rt, 1, 0);
+        return print_refusal(&rt, Refusal::Length.into());
     }
     print_answer(&rt, &buffer[..n])
 }

@@ -25,7 +25,7 @@ use Rattle.circuit.specs.File.{inputs_of, head_of, output_wire, gates_in_order, 
 use Rattle.circuit.specs.declared.Sizes.{Sizes}
 use Rattle.circuit.proofs.Chain.{zeros-at}
 use Rattle.masks.specs.Masks.{mask_corrections}
-use Rattle.plain.specs.Run.{Column, corrections, corrected, as_sent, Transcript, run}
+use Rattle.plain.specs.Run.{Column, corrected, as_sent, Transcript, run}
 use Rattle.plain.specs.Tapes.{ands_of, unused_rows, input_masks, output_masks, product_shares}
 use Rattle.plain.proofs.Lengths.{length-corrections}
 use Rattle.plain.specs.Showing.{correction_bits, masked_input, masked_inputs, run_with, run_on, honest_run, row_bits, rows_of}

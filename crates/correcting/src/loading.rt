@@ -29,10 +29,8 @@ fn load_tapes(l: Layout, n: usize, len: usize, memory: &mut [u8])
     requires { Room l memory.old × ((n ≤ 64) × ((rows_at l + n * len ≤ length memory.old) × (8 * len ≤ l.inputs + 2 * l.ands + 7))) }
     ensures { memory.new ≡ tapes_loaded l n (drop (rows_at l) memory.old) len memory.old }
 {
-    let ands = l.ands;
     load_rows(l, memory, len, n);
-    let end = broadcast_word(l, ands);
-    clear_words(l, end, l.outputs + 7, memory);
+    clear_words(l, broadcast_word(l, l.ands), l.outputs + 7, memory);
 }
 
 // Gives the first count wires their tape words as shares, the parities as masks, and the masked values of a string of bits.
@@ -40,14 +38,12 @@ fn load_masks(l: Layout, count: usize, values: &[u8], memory: &mut [u8])
     requires { Room l memory.old × ((count ≤ l.wires) × ((count ≤ l.inputs) × (count ≤ 8 * length values.now))) }
     ensures { memory.new ≡ masks_loaded l count values.now memory.old }
 {
-    let mut w = 0;
-    while w < count {
+    for w in 0..count {
         let x = tape(memory, l, w);
         let v = bits::bit(values, w);
         let k = words::parity(x);
         put_share(memory, l, w, x);
         put_masked(memory, l, w, v + 2 * k);
-        w += 1;
     }
 }
 

@@ -12,7 +12,7 @@ ghost use Rattle.packed.specs.Steps.{tapes_held, corrections_held, Held};
 ghost use Rattle.correcting.specs.Steps.{correct_step, gate_step, walked, ran_memory};
 
 use crate::loading::load;
-use circuit::records::record;
+use circuit::records::{and_one, record};
 use circuit::{Gate, Sizes};
 use correcting_gate::correct;
 use gates::{inv_gate, xor_gate};
@@ -20,7 +20,7 @@ use planes::Layout;
 use planes::places::{
     broadcast_word, corrections_at, mask_word, masked, put_masked, put_share, put_tape, share, tape,
 };
-use walk::{and_one, broadcast_outputs, layout};
+use walk::{broadcast_outputs, layout};
 use words::place;
 
 // AND gate t of wires a and b into c, with its correction; `last` has party n − 1's place.
@@ -37,14 +37,11 @@ fn and_gate(memory: &mut [u8], l: Layout, a: usize, b: usize, c: usize, t: usize
     let masks = tape(memory, l, o);
     let products = tape(memory, l, z);
     let r = correct(x, y, sa, sb, products, masks, last);
-    let word = r.word;
-    let wire = r.wire;
-    let bit = r.correction;
     let at = 8 * corrections_at(l) + t;
-    bits::put_bit(memory, at, bit);
-    put_tape(memory, l, z, word);
+    bits::put_bit(memory, at, r.correction);
+    put_tape(memory, l, z, r.word);
     put_share(memory, l, c, masks);
-    put_masked(memory, l, c, wire);
+    put_masked(memory, l, c, r.wire);
 }
 
 // A gate into wire c, with t AND gates before it.
@@ -65,18 +62,13 @@ fn walk(s: &[u8], z: Sizes, head: usize, last: u64, memory: &mut [u8])
     ensures { memory.new ≡ walked (layout_of z) last s.now z.gates head 0 memory.old }
 {
     let l = layout(z);
-    let inputs = z.inputs;
-    let outputs = z.outputs;
-    let mut left = z.gates;
     let mut slot = head;
     let mut t = 0;
-    while 0 < left {
-        let r = record(s, outputs, slot);
-        let g = r.gate;
-        gate(memory, l, g, inputs + (slot - 1), t, last);
-        t += and_one(g);
+    for _ in 0..z.gates {
+        let r = record(s, z.outputs, slot);
+        gate(memory, l, r.gate, z.inputs + (slot - 1), t, last);
+        t += and_one(r.gate);
         slot = r.next;
-        left -= 1;
     }
 }
 

@@ -30,8 +30,8 @@ pub fn correct(x: u8, y: u8, sa: u64, sb: u64, z: u64, o: u64, last: u64) -> Cor
     let word = (every(x) & sb) ^ (every(y) & sa) ^ products ^ o;
     let mask = parity(o);
     Corrected {
-        word: word,
+        word,
         wire: ((u & v) % 2) ^ (3 * mask),
-        correction: correction,
+        correction,
     }
 }

@@ -2,12 +2,12 @@
 -- Assumes nothing.
 use native.Mathlib.Omega.{arith}
 use native.Mathlib.Nat.{pow-succ'}
-use native.Mathlib.Numerals.{add-one}
-use mathlib.Core.Path.{◌≡◌, ap}
+use mathlib.Core.Path.{◌≡◌, sym, ap, ◌∙◌}
 use mathlib.Core.Logic.{⊎_elim}
-use Prim.Native.Nat.{ℕ, zero, suc, ◌+◌, ◌*◌, ◌^◌, ◌≤◌, ◌<◌}
+use Prim.Native.Nat.{ℕ, zero, suc, ◌+◌, ◌*◌, ◌/◌, ◌^◌, ◌≤◌, ◌<◌, max}
 use borrow.Author.Tests.{le-leb, lt-leb}
 use lib.Pow.{pow_mono}
+use Rattle.std.specs.Int.{IsPowerOfTwo}
 use Rattle.bits.proofs.Numbers.{lt-or-le}
 use Rattle.cover.specs.Masters.{least_from, height, LeastHeight}
 
@@ -44,20 +44,19 @@ least-height = record {
   least = λ M h w. least-low M 0 M h (omega arith) w;
 }
 
--- a height whose leaves are too few is below the least one; one that is not above it and has leaves enough is the least
-module _ (M h leaves : ℕ) (e : leaves ≡ 2 ^ h) where
-  pub height-more : leaves < M → h < height M
-  height-more w =
-      ⊎_elim (λ (l : h < height M). l)
-      (λ (g : height M ≤ h). absurd (omega (arith, least-height.fits M, pow_mono {i = height M} {j = h} g)))
-      (lt-or-le h (height M))
-
-  pub height-there : M ≤ leaves → h ≤ height M → h ≡ height M
-  height-there w l = omega (arith, least-height.least M h (omega arith))
+-- the logarithm of the least power of two from M on is the least height
+pub height-log : (M p h : ℕ) → IsPowerOfTwo p → M ≤ p → p / 2 < max 1 M → 2 ^ h ≤ p → p < 2 * 2 ^ h → h ≡ height M
+height-log M p h (k, e) a b c d =
+    let twice : (i j : ℕ) → i < j → 2 * 2 ^ i ≤ 2 ^ j = λ i j l. omega (arith, pow_mono {i = suc i} {j = j} (omega arith), pow-succ' 2 i) in
+    let q : h ≡ k =
+    ⊎_elim (λ (l : h < k). absurd (omega (arith, twice h k l)))
+    (λ (g : k ≤ h). ⊎_elim (λ (l : k < h). absurd (omega (arith, twice k h l))) (λ (l : h ≤ k). omega arith) (lt-or-le k h))
+    (lt-or-le h k) in
+    let r : p ≡ 2 ^ h = e ∙ ap (λ (x : ℕ). 2 ^ x) (sym q) in
+    ⊎_elim
+    (λ (l : height M < h). absurd (omega (arith, twice (height M) h l, least-height.fits M, below-pow (height M))))
+    (λ (g : h ≤ height M). omega (arith, least-height.least M h (omega arith)))
+    (lt-or-le (height M) h)
 
 pub height-low : (M : ℕ) → M ≤ 512 → height M ≤ 9
 height-low M w = least-height.least M 9 w
-
--- one level more has twice the leaves
-pub twice : (h leaves : ℕ) → leaves ≡ 2 ^ h → leaves * 2 ≡ 2 ^ (h + 1)
-twice h leaves e = rw (add-one h) (omega (arith, pow-succ' 2 h))

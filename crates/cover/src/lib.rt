@@ -24,13 +24,7 @@ pub fn height(m: u32) -> u32
     requires { m ≤ 512 }
     ensures { result ≡ «height-of» m }
 {
-    let mut h: u32 = 0;
-    let mut leaves: u32 = 1;
-    while leaves < m {
-        leaves *= 2;
-        h += 1;
-    }
-    h
+    m.next_power_of_two().ilog2()
 }
 
 // The leaves of a tree of height h.

@@ -55,6 +55,7 @@ pub fn take_first(j: Context, n: u32, p: u32, theirs: &[u8], seeds: &[u8]) -> Sp
     let last = n - 1;
     let mut s = start_commitments(j.number);
     let mut i = 0;
+    // The step is 4 or 1, so this is no `for`.
     while i < last {
         if four_without(i, last, p) {
             s = take_four(s, j, i, seeds);

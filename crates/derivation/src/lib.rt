@@ -37,14 +37,10 @@ fn four_keys(memory: &[u8], at: usize, step: usize) -> [u8; 64]
     ensures { result ≡ four_rows (λ k. take 16 (drop (at + k * step) memory.now)) }
 {
     let mut keys = [0u8; 64];
-    let mut k = 0;
-    while k < 4 {
+    for k in 0..4 {
         let from = at + k * step;
-        let end = from + 16;
-        let a = k * 16;
-        let e = a + 16;
-        copy(&memory[from..end], &mut keys[a..e]);
-        k += 1;
+        let to = k * 16;
+        copy(&memory[from..from + 16], &mut keys[to..to + 16]);
     }
     keys
 }

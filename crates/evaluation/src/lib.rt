@@ -10,7 +10,7 @@ ghost use Rattle.circuit.specs.Answers.{outcome};
 ghost use Rattle.circuit.specs.Steps.{gate_bit, loaded, walked, out_bits, out_byte, within, Ready, Ended, Legal, Lent};
 
 use circuit::records::{head, output_wire, record};
-use circuit::{EvaluateAnswer, Gate, ReadAnswer, WIRE_BYTES};
+use circuit::{Gate, WIRE_BYTES};
 use reading::read;
 use refusal::Refusal;
 
@@ -19,11 +19,9 @@ fn load(witness: &[u8], inputs: usize, values: &mut [u8])
     requires { (inputs ≤ 8 * length values.old) × (inputs ≤ 8 * length witness.now) }
     ensures { values.new ≡ loaded witness.now inputs values.old }
 {
-    let mut k = 0;
-    while k < inputs {
+    for k in 0..inputs {
         let b = bits::bit(witness, k);
         bits::put_bit(values, k, b);
-        k += 1;
     }
 }
 
@@ -44,15 +42,12 @@ fn walk(s: &[u8], inputs: usize, outputs: usize, gates: usize, head: usize, valu
     requires { Ready s.now inputs outputs gates head values.old }
     ensures { values.new ≡ walked s.now gates head values.old }
 {
-    let mut left = gates;
     let mut slot = head;
-    while 0 < left {
+    for _ in 0..gates {
         let r = record(s, outputs, slot);
-        let gate = r.gate;
-        let x = gate_bit(values, gate);
+        let x = gate_bit(values, r.gate);
         bits::put_bit(values, inputs + (slot - 1), x);
         slot = r.next;
-        left -= 1;
     }
 }
 
@@ -75,12 +70,10 @@ fn output_byte(s: &[u8], inputs: usize, outputs: usize, gates: usize, values: &[
 {
     let mut sum: usize = 0;
     let mut weight: usize = 1;
-    let mut t = 0;
-    while t < 8 {
+    for t in 0..8 {
         let b = output_bit(s, inputs, outputs, gates, values, 8 * j + t) as usize;
         sum += b * weight;
-        weight = weight * 2;
-        t += 1;
+        weight *= 2;
     }
     (sum % 256) as u8
 }
@@ -90,10 +83,8 @@ fn store(s: &[u8], inputs: usize, outputs: usize, gates: usize, values: &[u8], y
     requires { (length y.old ≡ oct outputs) × Ended s.now inputs outputs gates values.now }
     ensures { y.new ≡ pack (out_bits s.now values.now outputs) }
 {
-    let mut j = 0;
-    while j < y.len() {
-        y[j] = output_byte(s, inputs, outputs, gates, values, j);
-        j += 1;
+    for (j, b) in y.iter_mut().enumerate() {
+        *b = output_byte(s, inputs, outputs, gates, values, j);
     }
 }
 
@@ -124,30 +115,27 @@ fn evaluate_lent(
     gates: usize,
     witness: &[u8],
     y: &mut [u8],
-) -> EvaluateAnswer
+) -> Result<(), Refusal>
     requires { Legal s.now inputs outputs gates }
     ensures { outcome result y.new ≡ evaluate_legal witness.now y.old (circuit_of s.now) }
 {
     if witness.len() != bits::oct(inputs) {
-        return EvaluateAnswer::Refused(Refusal::BufferLength);
+        return Err(Refusal::BufferLength);
     }
     if y.len() != bits::oct(outputs) {
-        return EvaluateAnswer::Refused(Refusal::BufferLength);
+        return Err(Refusal::BufferLength);
     }
     if !bits::unused_zero(witness, inputs) {
-        return EvaluateAnswer::Refused(Refusal::UnusedBits);
+        return Err(Refusal::UnusedBits);
     }
     evaluate_legal(s, inputs, outputs, gates, witness, y);
-    EvaluateAnswer::Done
+    Ok(())
 }
 
 // Evaluates a circuit on a witness and fills y, or refuses and leaves y as it was.
-pub fn evaluate(s: &[u8], witness: &[u8], y: &mut [u8]) -> EvaluateAnswer
+pub fn evaluate(s: &[u8], witness: &[u8], y: &mut [u8]) -> Result<(), Refusal>
     ensures { outcome result y.new ≡ evaluate_op s.now witness.now y.old }
 {
-    let answer = read(s);
-    match answer {
-        ReadAnswer::Refused(k, _) => EvaluateAnswer::Refused(k),
-        ReadAnswer::Legal(z) => evaluate_lent(s, z.inputs, z.outputs, z.gates, witness, y),
-    }
+    let z = read(s)?;
+    evaluate_lent(s, z.inputs, z.outputs, z.gates, witness, y)
 }

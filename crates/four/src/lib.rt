@@ -85,44 +85,19 @@ pub fn join(a: [u64; 25], b: [u64; 25], c: [u64; 25], d: [u64; 25]) -> [u64; 100
     s
 }
 
-// Plane 0 of the state after the step mappings before ι, in the order of FIPS 202.
-fn plane_0(a: [u64; 25]) -> [u64; 5]
-    ensures { result ≡ plane 0 (stepped a) }
+// Plane Y of the state after the step mappings before ι, in the order of FIPS 202.
+fn plane<const Y: usize>(a: [u64; 25]) -> [u64; 5]
+    requires { Y < 5 }
+    ensures { result ≡ plane Y (stepped a) }
 {
     let b = chi(pi(rho(theta(a))));
-    [b[0], b[1], b[2], b[3], b[4]]
-}
-
-// Plane 1.
-fn plane_1(a: [u64; 25]) -> [u64; 5]
-    ensures { result ≡ plane 1 (stepped a) }
-{
-    let b = chi(pi(rho(theta(a))));
-    [b[5], b[6], b[7], b[8], b[9]]
-}
-
-// Plane 2.
-fn plane_2(a: [u64; 25]) -> [u64; 5]
-    ensures { result ≡ plane 2 (stepped a) }
-{
-    let b = chi(pi(rho(theta(a))));
-    [b[10], b[11], b[12], b[13], b[14]]
-}
-
-// Plane 3.
-fn plane_3(a: [u64; 25]) -> [u64; 5]
-    ensures { result ≡ plane 3 (stepped a) }
-{
-    let b = chi(pi(rho(theta(a))));
-    [b[15], b[16], b[17], b[18], b[19]]
-}
-
-// Plane 4.
-fn plane_4(a: [u64; 25]) -> [u64; 5]
-    ensures { result ≡ plane 4 (stepped a) }
-{
-    let b = chi(pi(rho(theta(a))));
-    [b[20], b[21], b[22], b[23], b[24]]
+    [
+        b[5 * Y],
+        b[5 * Y + 1],
+        b[5 * Y + 2],
+        b[5 * Y + 3],
+        b[5 * Y + 4],
+    ]
 }
 
 // The round with the constant c, plane by plane, so that few lanes are held at a time. The order of the planes is the fastest of those that
@@ -130,16 +105,16 @@ fn plane_4(a: [u64; 25]) -> [u64; 5]
 fn round_in_planes(a: [u64; 25], c: u64) -> [u64; 25]
     ensures { result ≡ rounded_by c a }
 {
-    let p = plane_0(a);
-    let t = plane_4(a);
-    let q = plane_1(a);
-    let r = plane_2(a);
-    let s = plane_3(a);
+    let p = plane::<0>(a);
+    let t = plane::<4>(a);
+    let q = plane::<1>(a);
+    let r = plane::<2>(a);
+    let s = plane::<3>(a);
     let mut b = [
         p[0], p[1], p[2], p[3], p[4], q[0], q[1], q[2], q[3], q[4], r[0], r[1], r[2], r[3], r[4],
         s[0], s[1], s[2], s[3], s[4], t[0], t[1], t[2], t[3], t[4],
     ];
-    b[0] = b[0] ^ c;
+    b[0] ^= c;
     b
 }
 
@@ -149,12 +124,10 @@ fn round4(s: &mut [u64; 100], ir: usize)
     ensures { s.new ≡ each (λ a. lanes (Rnd (lane_array a) ir)) s.old }
 {
     let c = round_constant(ir);
-    let mut k: usize = 0;
-    while k < 4 {
+    for k in 0..4 {
         let a = state(s, k);
         let b = round_in_planes(a, c);
         put(s, k, b);
-        k += 1;
     }
 }
 
@@ -163,9 +136,7 @@ pub fn permute4(s: &mut [u64; 100])
     requires { (length s.old ≡ 100) × Lanes64 s.old }
     ensures { s.new ≡ each (λ a. lanes (rounds 24 (lane_array a))) s.old }
 {
-    let mut ir: usize = 0;
-    while ir < 24 {
+    for ir in 0..24 {
         round4(s, ir);
-        ir += 1;
     }
 }

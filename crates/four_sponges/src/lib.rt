@@ -1,20 +1,13 @@
 // Four sponges at once: their blocks are full, and the bytes that they give out go into four rows of equal length.
 #![tactic(auto)]
 
-ghost use Rattle.std.specs.Prelude.{◌≡◌, ◌+◌, ◌*◌, ◌/◌, ◌%◌, ◌≤◌, ◌<◌, min, length};
+ghost use Rattle.std.specs.Prelude.{◌≡◌, ◌+◌, ◌*◌, ◌/◌, ◌%◌, ◌≤◌, ◌<◌, length};
 ghost use Rattle.bits.specs.Bits.{tabulate};
 ghost use Rattle.keccak.specs.Steps.{byte_at, squeezes};
 ghost use Rattle.four.specs.Steps.{state_of};
 ghost use Rattle.four_sponges.specs.Steps.{full, opened, stored, four_rows};
 
 use four::permute4;
-
-// The lesser of two numbers.
-fn least(a: usize, b: usize) -> usize
-    ensures { result ≡ min a b }
-{
-    if a < b { a } else { b }
-}
 
 // Byte b of state k.
 fn byte_of(s: &[u64; 100], k: usize, b: usize) -> u8
@@ -29,11 +22,8 @@ fn give_lanes(s: &[u64; 100], k: usize, out: &mut [u8])
     requires { (k < 4) × ((length out.old % 8 ≡ 0) × (length out.old ≤ 200)) }
     ensures { out.new ≡ tabulate (length out.old) (byte_at (state_of k s.now)) }
 {
-    let n = out.len() / 8;
-    let mut i = 0;
-    while i < n {
+    for i in 0..out.len() / 8 {
         bits::write_u64(out, 8 * i, s[4 * i + k]);
-        i += 1;
     }
 }
 
@@ -42,10 +32,8 @@ fn give_bytes(s: &[u64; 100], k: usize, from: usize, out: &mut [u8])
     requires { (k < 4) × (from + length out.old ≤ 200) }
     ensures { out.new ≡ tabulate (length out.old) (λ j. byte_at (state_of k s.now) (from + j)) }
 {
-    let mut i = 0;
-    while i < out.len() {
+    for i in 0..out.len() {
         out[i] = byte_of(s, k, from + i);
-        i += 1;
     }
 }
 
@@ -65,12 +53,9 @@ fn store(rate: usize, s: &[u64; 100], m: usize, at: usize, len: usize, rows: &mu
     requires { (rate < 200) × ((m ≤ rate) × ((at + m ≤ len) × (length rows.old ≡ 4 * len))) }
     ensures { rows.new ≡ stored (λ k. squeezes rate m (opened (state_of k s.now))) at len 4 rows.old }
 {
-    let mut k = 0;
-    while k < 4 {
+    for k in 0..4 {
         let a = k * len + at;
-        let end = a + m;
-        give(s, k, &mut rows[a..end]);
-        k += 1;
+        give(s, k, &mut rows[a..a + m]);
     }
 }
 
@@ -82,8 +67,9 @@ pub fn squeeze4(rate: usize, lanes: [u64; 100], rows: &mut [u8])
     let len = rows.len() / 4;
     let mut s = lanes;
     let mut at = 0;
+    // The last step is shorter, so this is no `for`.
     while at < len {
-        let m = least(rate, len - at);
+        let m = rate.min(len - at);
         permute4(&mut s);
         store(rate, &s, m, at, len, rows);
         at += m;

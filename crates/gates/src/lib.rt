@@ -49,11 +49,9 @@ fn and_gate(memory: &mut [u8], l: Layout, a: usize, b: usize, c: usize, t: usize
     let masks = tape(memory, l, o);
     let products = tape(memory, l, z);
     let r = words::and_gate(ma, mb, sa, sb, products, masks, hidden, products);
-    let word = r.word;
-    let m = r.masked;
-    put_tape(memory, l, z, word);
+    put_tape(memory, l, z, r.word);
     put_share(memory, l, c, masks);
-    put_masked(memory, l, c, m);
+    put_masked(memory, l, c, r.masked);
 }
 
 // A gate into wire c, with t AND gates before it.

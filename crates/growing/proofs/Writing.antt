@@ -62,10 +62,10 @@ module _ (p : ℕ → Bool) (value : ℕ → List ℕ) where
       sym (take_all at out q) ∙ w.held ∙ ap (λ (m : ℕ). flatten (map value (those m p))) e
 
   -- one turn of the loop, whose branch leaves out' and at'
-  module _ (n N k at at' : ℕ) (out out' : List ℕ) (w : Written k at out) (l : k < n) (e : length out ≡ N) where
+  module _ (N k at at' : ℕ) (out out' : List ℕ) (w : Written k at out) (e : length out ≡ N) where
     pub turn_more : (v : List ℕ) → p k ≡ true → at + 16 ≤ length out → length v ≡ length (mid_of at (at + 16 - at) out) → v ≡ value k
-        → out' ≡ put_mid at (at + 16 - at) out v → at' ≡ at + 16 → (k + 1 ≤ n) × (length out' ≡ N) × Written (k + 1) at' out'
-    turn_more v t fits m q a b = (omega arith, ap length a ∙ same_len_mid at (at + 16 - at) out v m ∙ e, rw (a, b) (written-more k at out v w t fits m q))
+        → out' ≡ put_mid at (at + 16 - at) out v → at' ≡ at + 16 → (length out' ≡ N) × Written (k + 1) at' out'
+    turn_more v t fits m q a b = (ap length a ∙ same_len_mid at (at + 16 - at) out v m ∙ e, rw (a, b) (written-more k at out v w t fits m q))
 
-    pub turn-skip : p k ≡ false → out' ≡ out → at' ≡ at → (k + 1 ≤ n) × (length out' ≡ N) × Written (k + 1) at' out'
-    turn-skip t a b = (omega arith, ap length a ∙ e, rw (a, b) (written-skip k at out w t))
+    pub turn-skip : p k ≡ false → out' ≡ out → at' ≡ at → (length out' ≡ N) × Written (k + 1) at' out'
+    turn-skip t a b = (ap length a ∙ e, rw (a, b) (written-skip k at out w t))

@@ -47,9 +47,7 @@ pub fn mark(h: u32, table: &[u8], none: u8, m: usize, marks: &mut [u8])
     ensures { marks.new ≡ marks_of h m (hidden_by table.now none) }
 {
     let leaves = marks.len() / 2;
-    let mut k = marks.len();
-    while k > 0 {
-        k -= 1;
+    for k in (0..marks.len()).rev() {
         marks[k] = node_mark(table, none, m, leaves, marks, k);
     }
 }
@@ -68,11 +66,8 @@ pub fn opened_before(marks: &[u8], n: usize) -> usize
     ensures { result ≡ length (those n (opened_by marks.now)) }
 {
     let mut r: usize = 0;
-    let mut k: usize = 0;
-    while k < n {
-        let o = is_opened(marks, k);
-        r += o as usize;
-        k += 1;
+    for k in 0..n {
+        r += is_opened(marks, k) as usize;
     }
     r
 }
@@ -120,6 +115,7 @@ pub fn grow(j: Context, h: u32, root: &[u8], nodes: &mut [u8])
     put_root(root, nodes);
     let end = leaves(h);
     let mut k: usize = 1;
+    // The step is 4 or 1, so this is no `for`.
     while k < end {
         if k >= 4 && end - k >= 4 {
             four_spread(j, k, nodes);
@@ -137,15 +133,11 @@ pub fn gather(marks: &[u8], nodes: &[u8], out: &mut [u8])
     ensures { out.new ≡ flatten (map (row_of nodes.now 16) (cover_by marks.now)) }
 {
     let mut at: usize = 0;
-    let mut k: usize = 0;
-    while k < marks.len() {
-        let o = is_opened(marks, k);
-        if o {
-            let end = at + 16;
-            copy(row(nodes, 16, k), &mut out[at..end]);
-            at = end;
+    for k in 0..marks.len() {
+        if is_opened(marks, k) {
+            copy(row(nodes, 16, k), &mut out[at..at + 16]);
+            at += 16;
         }
-        k += 1;
     }
 }
 
@@ -154,8 +146,7 @@ fn take_value(marks: &[u8], x: usize, values: &[u8], n: usize, out: &mut [u8]) -
     requires { (x < length marks.now) × ((length values.now ≡ 16 * length (cover_by marks.now)) × ((n ≡ length (those x (opened_by marks.now))) × (length out.old ≡ 16))) }
     ensures { (result ≡ length (those (suc x) (opened_by marks.now))) × (out.new ≡ given_by marks.now values.now x) }
 {
-    let o = is_opened(marks, x);
-    if o {
+    if is_opened(marks, x) {
         copy(row(values, 16, n), out);
         return n + 1;
     }
@@ -202,6 +193,7 @@ fn four_shown(marks: &[u8], k: usize) -> bool
     requires { k + 3 < length marks.now }
     ensures { result ≡ shown_from 4 marks.now k }
 {
+    // Written with `&&` the proof did not close: what was left is what the joins of the tests return.
     if marks[k] != 1 {
         return false;
     }
@@ -224,6 +216,7 @@ pub fn regrow(j: Context, h: u32, marks: &[u8], values: &[u8], nodes: &mut [u8])
     let end = leaves(h);
     let mut n = opened_before(marks, 2);
     let mut k: usize = 1;
+    // The step is 4 or 1, so this is no `for`.
     while k < end {
         if k >= 4 && end - k >= 4 && four_shown(marks, k) {
             four_spread(j, k, nodes);

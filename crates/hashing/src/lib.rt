@@ -6,10 +6,10 @@
 ghost use Rattle.std.specs.Prelude.{◌≡◌, [], ◌∷◌, ◌++◌, ◌<◌, length};
 ghost use Rattle.keccak.specs.Steps.{empty, absorbs, closed};
 ghost use Rattle.keccak.specs.Sponge.{shake128 as «shake128-of», sha3_256 as «sha3-of»};
+ghost use Rattle.bits.specs.Bytes.{le_bytes};
 ghost use Rattle.hashing.specs.Inputs.{commitments_input, online_input, all_commitments_input, all_online_input};
 ghost use Rattle.hashing.specs.Digest.{transcript_of, taken, given};
 
-use bits::copy;
 use keccak::sponge::{Sponge, absorb_in};
 use keccak::{SHA3_256_RATE, SHA3_FIRST, SHAKE_FIRST, SHAKE128_RATE};
 
@@ -26,7 +26,7 @@ pub fn salt_in(bytes: &[u8]) -> [u8; 32]
     ensures { result ≡ bytes.now }
 {
     let mut salt = [0u8; 32];
-    copy(bytes, &mut salt);
+    salt.copy_from_slice(bytes);
     salt
 }
 
@@ -65,24 +65,28 @@ pub fn commit(salt: &[u8], head: &[u8], seed: &[u8], corrections: &[u8], r: &[u8
     finish(Sponge { lanes: l, fill: e })
 }
 
+// Starts a digest of instance j under a tag.
+fn start(tag: u8, j: u32) -> Sponge
+    ensures { result ≡ taken (tag ∷ le_bytes 2 j) }
+{
+    let head = [(j % 256) as u8, (j / 256 % 256) as u8];
+    Sponge::new()
+        .absorb_byte(SHA3_256_RATE, tag)
+        .absorb(SHA3_256_RATE, &head)
+}
+
 // Starts h_j, which takes in all commitments of instance j.
 pub fn start_commitments(j: u32) -> Sponge
     ensures { result ≡ taken (commitments_input j []) }
 {
-    let head = [(j % 256) as u8, (j / 256 % 256) as u8];
-    Sponge::new()
-        .absorb_byte(SHA3_256_RATE, 7)
-        .absorb(SHA3_256_RATE, &head)
+    start(7, j)
 }
 
 // Starts h'_j, which takes in the masked inputs and all broadcast rows of instance j.
 pub fn start_online(j: u32) -> Sponge
     ensures { result ≡ taken (online_input j [] []) }
 {
-    let head = [(j % 256) as u8, (j / 256 % 256) as u8];
-    Sponge::new()
-        .absorb_byte(SHA3_256_RATE, 8)
-        .absorb(SHA3_256_RATE, &head)
+    start(8, j)
 }
 
 // Starts h, which takes in all h_j.

@@ -17,3 +17,4 @@ pub mod Kept
 pub mod Writes
 pub mod Covered
 pub mod TwoProofs
+pub mod Counted

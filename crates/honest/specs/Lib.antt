@@ -2,3 +2,4 @@ pub mod Response
 pub mod Verification
 pub mod Theorems
 pub mod TwoProofs
+pub mod Counted

@@ -33,6 +33,11 @@ use Rattle.derivation.proofs.Together.{part-first}
 use Rattle.instance.proofs.Tapes.{tapes-hidden}
 use Rattle.instance.proofs.Rooms.{part-kept, corrections-inside, corrections-size}
 
+-- three tests, from the left
+and_in_turn : (x y z : Bool) → ((x && y) && z) ≡ (x && (y && z))
+and_in_turn true y z = refl
+and_in_turn false y z = refl
+
 -- the last party sends no corrections
 pub sent-none : (p n x : ℕ) → p + 1 ≡ n → 0 ≡ cond (eqb (suc p) n) 0 x
 sent-none p n x e = rw (eq-eqb (suc p) n (sym (add-one p) ∙ e)) refl
@@ -110,12 +115,12 @@ module _ (s : List ℕ) (i o g a : ℕ) (k : Known s (sized i o g a)) (n h p : �
         ∙ ap₂ (λ (u v : ℕ). drop (v + 32 + u) part) (ins ∙ ap oct (sym (circuit-inputs s i o g a k))) (sym first_two)
 
     -- the test of the unused bits
-    pub unused-made : (b1 b2 b3 b4 b : Bool) → b1 ≡ unused_zero a (take (16 * h + x - 16 * h) (drop (16 * h) part))
+    pub unused-made : (b1 b2 b3 b : Bool) → b1 ≡ unused_zero a (take (16 * h + x - 16 * h) (drop (16 * h) part))
         → b2 ≡ unused_zero i (take (16 * h + x + 32 + y - (16 * h + x + 32)) (drop (16 * h + x + 32) part))
         → b3 ≡ unused_zero (a + o) (take (length part - (16 * h + x + 32 + y)) (drop (16 * h + x + 32 + y) part))
-        → b4 ≡ b2 && b3 → b ≡ b1 && b4 → b ≡ stretch_unused (circuit_of s) n part (hiding p)
+        → b ≡ (b1 && b2) && b3 → b ≡ stretch_unused (circuit_of s) n part (hiding p)
     unfolding stretch_unused
-    unused-made b1 b2 b3 b4 b e1 e2 e3 e4 e5 =
+    unused-made b1 b2 b3 b e1 e2 e3 e4 =
         let ca = circuit-ands s i o g a k in
         let ci = circuit-inputs s i o g a k in
         let co = circuit-outputs s i o g a k in
@@ -123,7 +128,7 @@ module _ (s : List ℕ) (i o g a : ℕ) (k : Known s (sized i o g a)) (n h p : �
         let f2 : b2 ≡ unused_zero (circuit_of s).inputs (masked_part (circuit_of s) n p part) = e2 ∙ ap₂ unused_zero (sym ci) masked-are in
         let f3 : b3 ≡ unused_zero (ands_of (circuit_of s) + length (circuit_of s).outputs) (row_part (circuit_of s) n p part)
         = e3 ∙ ap₂ unused_zero (ap₂ ◌+◌ (sym ca) (sym co)) row_is in
-        e5 ∙ ap₂ ◌&&◌ f1 (e4 ∙ ap₂ ◌&&◌ f2 f3)
+        e4 ∙ and_in_turn b1 b2 b3 ∙ ap₂ ◌&&◌ f1 (ap₂ ◌&&◌ f2 f3)
 
 -- the length of a part
 pub part_length : (a u m t : ℕ) (s : List ℕ) → a + u ≤ length s → u ≡ m → t ≡ m → t ≡ length (take (a + u - a) (drop a s))

@@ -15,7 +15,6 @@ use crate::{Instance, Replayed};
 use bits::{clear, copy};
 use circuit::Sizes;
 use masks::chain::make_corrections;
-use mpc::tests::both;
 use packed::running::replay_held;
 use planes::places::{corrections_at, rows_at, seeds_at, seeds_end};
 use walk::layout;
@@ -56,7 +55,7 @@ pub fn unused(s: &[u8], z: Sizes, n: u32, h: u32, p: u32, part: &[u8]) -> bool
     let c = bits::unused_zero(&part[first..second], z.ands);
     let m = bits::unused_zero(&part[third..fourth], z.inputs);
     let r = bits::unused_zero(&part[fourth..], z.ands + z.outputs);
-    both(c, both(m, r))
+    c & m & r
 }
 
 // Brings the seeds and the tapes of the opened parties into the memory, and the corrections that are sent: zeros where they are the

@@ -88,13 +88,11 @@ pub(crate) fn online(j: u32, masked: &[u8], z: Sizes, n: usize, memory: &mut [u8
     let len = row_bytes(z);
     let a = rows_at(l);
     let mut s = start_online(j).absorb(SHA3_256_RATE, masked);
-    let mut g = 0;
-    while 8 * g < n {
+    for g in 0..n.div_ceil(8) {
         let count = rows_in(n, g);
         let end = a + count * len;
         store_block(l, memory, count, g, len);
         s = s.absorb(SHA3_256_RATE, &memory[a..end]);
-        g += 1;
     }
     finish(s)
 }

@@ -66,6 +66,7 @@ fn seed_rows(inst: Instance, p: u32, leaves: usize, to: usize, memory: &mut [u8]
 {
     let n = inst.parties;
     let mut i = 0;
+    // one step or four, as the callee answers: no range
     while i < n {
         i += next_seeds(inst, p, i, leaves, to, memory);
     }
@@ -128,6 +129,7 @@ fn tape_rows(s: &[u8], z: Sizes, inst: Instance, p: u32, seeds: usize, to: usize
 {
     let n = inst.parties;
     let mut i = 0;
+    // one step or four, as the callee answers: no range
     while i < n {
         i += next_tapes(s, z, inst, p, i, seeds, to, memory);
     }

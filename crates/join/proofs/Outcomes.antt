@@ -10,7 +10,7 @@ use Rattle.bits.proofs.Tabulate.{length-tabulate}
 use Rattle.bits.proofs.Tests.{and-true-left, and-true-right}
 use Rattle.refusal.specs.Outcome.{refusal_at, unless}
 use Rattle.refusal.specs.Refusal.{number_of}
-use Rattle.refusal.specs.declared.Refusal.{Refusal}
+use Rattle.std.specs.Prelude.{Result, Ok, Err}
 use Rattle.refusal.specs.declared.Refusal.TheVariants.{Limits, InputCounts}
 use Rattle.circuit.specs.Answers.{read_paper}
 use Rattle.circuit.specs.Building.{builds}
@@ -18,57 +18,55 @@ use Rattle.circuit.specs.Fields as fields
 use Rattle.circuit.specs.File.{max_outputs, max_gates, outputs_of, output_wire}
 use Rattle.circuit.specs.Operations.{read_op}
 use Rattle.circuit.specs.Steps as steps
-use Rattle.circuit.specs.declared.ReadAnswer.{ReadAnswer}
-use Rattle.circuit.specs.declared.ReadAnswer.TheVariants as read_answer
+use Rattle.circuit.specs.declared.Fault.{Fault}
 use Rattle.circuit.specs.declared.Sizes.{Sizes}
 use Rattle.circuit.proofs.Answered.{Passed, read-legal, refusal-refused, gates-count, fell, held}
 use Rattle.circuit.proofs.Outcomes.{legal-passed, legal-sizes}
 use Rattle.join.specs.Answers.{outcome}
 use Rattle.join.specs.Join.{joined, sums_within, join_legal, join_op}
 use Rattle.join.specs.Steps.{ReadAs, Pair}
-use Rattle.join.specs.declared.Answer.TheVariants.{Refused}
 use Rattle.join.proofs.Small.{fits}
 
 -- a file that reads as legal
-pub read_as : (s : List ℕ) (z : Sizes) (r : ReadAnswer) → r ≡ read_answer.Legal z → read_paper r ≡ read_op s → ReadAs s z
+pub read_as : (s : List ℕ) (z : Sizes) (r : Result Sizes Fault) → r ≡ Ok z → read_paper r ≡ read_op s → ReadAs s z
 read_as s z r p e = sym (ap read_paper p) ∙ e
 
 -- its numbers are within the limits
 pub few-as : (s : List ℕ) (z : Sizes) → ReadAs s z → (z.outputs ≤ max_outputs) × (z.gates ≤ max_gates)
 few-as s z e =
-    let l = (legal-sizes s z (read_answer.Legal z) refl e).laid in
+    let l = (legal-sizes s z (Ok z) refl e).laid in
     (l.few_outputs, l.few_gates)
 
 -- the first is refused
-pub first-refused : (s t out : List ℕ) (k : Refusal) (x : ℕ) (r : ReadAnswer) → r ≡ read_answer.Refused k x → read_paper r ≡ read_op s
-    → outcome (Refused k) out ≡ join_op s t out
+pub first-refused : (s t out : List ℕ) (f : Fault) (r : Result Sizes Fault) → r ≡ Err f → read_paper r ≡ read_op s
+    → outcome (Err f.refusal) out ≡ join_op s t out
 unfolding join_op
-first-refused s t out k x r p e =
-    let q : refusal_at (number_of k) x ≡ read_op s = sym (ap read_paper p) ∙ e in
-    rw (refusal-refused s (number_of k) x q)
+first-refused s t out f r p e =
+    let q : refusal_at (number_of f.refusal) f.slot ≡ read_op s = sym (ap read_paper p) ∙ e in
+    rw (refusal-refused s (number_of f.refusal) f.slot q)
 
 module _ (s t out : List ℕ) (y : Sizes) (a : ReadAs s y) where
   first-passed : Passed s
-  first-passed = legal-passed s y (read_answer.Legal y) refl a
+  first-passed = legal-passed s y (Ok y) refl a
 
   first-legal : steps.Legal s y.inputs y.outputs y.gates
-  first-legal = legal-sizes s y (read_answer.Legal y) refl a
+  first-legal = legal-sizes s y (Ok y) refl a
 
   -- the first is legal, the second is refused
-  pub second-refused : (k : Refusal) (x : ℕ) (r : ReadAnswer) → r ≡ read_answer.Refused k x → read_paper r ≡ read_op t
-      → outcome (Refused k) out ≡ join_op s t out
+  pub second-refused : (f : Fault) (r : Result Sizes Fault) → r ≡ Err f → read_paper r ≡ read_op t
+      → outcome (Err f.refusal) out ≡ join_op s t out
   unfolding join_op
-  second-refused k x r p e =
-      let q : refusal_at (number_of k) x ≡ read_op t = sym (ap read_paper p) ∙ e in
-      rw (read-legal s first-passed, refusal-refused t (number_of k) x q)
+  second-refused f r p e =
+      let q : refusal_at (number_of f.refusal) f.slot ≡ read_op t = sym (ap read_paper p) ∙ e in
+      rw (read-legal s first-passed, refusal-refused t (number_of f.refusal) f.slot q)
 
   -- both are legal
   module _ (z : Sizes) (b : ReadAs t z) where
     second-passed : Passed t
-    second-passed = legal-passed t z (read_answer.Legal z) refl b
+    second-passed = legal-passed t z (Ok z) refl b
 
     second-legal : steps.Legal t z.inputs z.outputs z.gates
-    second-legal = legal-sizes t z (read_answer.Legal z) refl b
+    second-legal = legal-sizes t z (Ok z) refl b
 
     -- the operation in the numbers that the code carries
     op-form : join_op s t out
@@ -83,10 +81,10 @@ module _ (s t out : List ℕ) (y : Sizes) (a : ReadAs s y) where
 
     -- the tests as the code makes them
     module _ (w e : Bool) (f : w ≡ leb (y.outputs + z.outputs) max_outputs && leb (y.gates + z.gates) max_gates) (g : e ≡ eqb y.inputs z.inputs) where
-      pub refuse-inputs : not e ≡ true → outcome (Refused InputCounts) out ≡ join_op s t out
+      pub refuse-inputs : not e ≡ true → outcome (Err InputCounts) out ≡ join_op s t out
       refuse-inputs n = sym (op-form ∙ rw (fell _ e g n))
 
-      pub refuse-sums : not e ≡ false → not w ≡ true → outcome (Refused Limits) out ≡ join_op s t out
+      pub refuse-sums : not e ≡ false → not w ≡ true → outcome (Err Limits) out ≡ join_op s t out
       refuse-sums n m = sym (op-form ∙ rw (held _ e g n, fell _ w f m))
 
       pub goes_on : not e ≡ false → not w ≡ false → builds (joined s t) out ≡ join_op s t out

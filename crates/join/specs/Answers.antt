@@ -1,17 +1,13 @@
 -- The answer of join in the paper's terms.
 -- Assumes nothing.
-use Rattle.std.specs.Prelude.{List, [], ◌∷◌, ℕ}
-use Rattle.refusal.specs.Refusal.{number_of}
-use Rattle.refusal.specs.Outcome as outcomes
-use Rattle.refusal.specs.Outcome.{refusal, success, Outcome}
-use Rattle.join.specs.declared.Answer.{Answer}
-use Rattle.join.specs.declared.Answer.TheVariants.{Written, Refused}
+use Rattle.std.specs.Prelude.{List, [], ◌∷◌, ℕ, Result}
+use Rattle.refusal.specs.declared.Refusal.{Refusal}
+use Rattle.refusal.specs.Outcome.{Answer, told, Outcome}
 
 -- "success gives the file's length"
-abbrev pub paper : Answer → outcomes.Answer
-paper (Written k) = success (k ∷ [])
-paper (Refused k) = refusal (number_of k)
+abbrev pub paper : Result ℕ Refusal → Answer
+paper r = told (λ k. k ∷ []) r
 
 -- the answer, and what the lent output then holds
-abbrev pub outcome : Answer → List ℕ → Outcome
+abbrev pub outcome : Result ℕ Refusal → List ℕ → Outcome
 outcome r out = record { answer = paper r; left = out ∷ [] }

@@ -11,16 +11,9 @@ ghost use Rattle.join.specs.Steps.{ReadAs, Slot, Pair, slots_at, fields_in, onwa
 
 use building::write_four;
 use circuit::records::field;
-use circuit::{MAX_GATES, MAX_OUTPUTS, ReadAnswer, Sizes, WIDTH};
+use circuit::{MAX_GATES, MAX_OUTPUTS, Sizes, WIDTH};
 use reading::read;
 use refusal::Refusal;
-
-// What joining two circuits answers: the length written, or a refusal.
-#[derive(Clone, Copy)]
-pub enum Answer {
-    Written(usize),
-    Refused(Refusal),
-}
 
 // A wire of the second circuit: an input stays, another goes up.
 fn moved_wire(inputs: usize, up: usize, wire: u32) -> u32
@@ -74,11 +67,9 @@ fn write_outputs(first: &[u8], second: &[u8], y: Sizes, z: Sizes, out: &mut [u8]
     ensures { out.new ≡ placed (joined_fields first.now second.now) 4 (y.outputs + z.outputs) out.old }
 {
     let n = y.outputs + z.outputs;
-    let mut j = 0;
-    while j < n {
+    for j in 0..n {
         let wire = joined_output(first, second, y, z, j);
         bits::write_u32(out, WIDTH * (4 + j), wire);
-        j += 1;
     }
 }
 
@@ -138,10 +129,8 @@ fn write_slots(first: &[u8], second: &[u8], y: Sizes, z: Sizes, to: u32, out: &m
     ensures { out.new ≡ placed (joined_fields first.now second.now) (slots_at y z) (4 * (y.gates + z.gates)) out.old }
 {
     let n = y.gates + z.gates;
-    let mut k = 0;
-    while k < n {
+    for k in 0..n {
         write_slot(first, second, y, z, to, k, out);
-        k += 1;
     }
 }
 
@@ -160,64 +149,61 @@ fn write_joined(first: &[u8], second: &[u8], y: Sizes, z: Sizes, out: &mut [u8])
 }
 
 // Writes the joined file, if the output is long enough.
-fn build(first: &[u8], second: &[u8], y: Sizes, z: Sizes, out: &mut [u8]) -> Answer
+fn build(first: &[u8], second: &[u8], y: Sizes, z: Sizes, out: &mut [u8]) -> Result<usize, Refusal>
     requires { Pair first.now second.now y z }
     ensures { outcome result out.new ≡ builds (joined first.now second.now) out.old }
 {
     let size = WIDTH * (4 + (y.outputs + z.outputs) + 4 * (y.gates + z.gates));
     if out.len() < size {
-        return Answer::Refused(Refusal::BufferLength);
+        return Err(Refusal::BufferLength);
     }
     write_joined(first, second, y, z, out);
-    Answer::Written(size)
+    Ok(size)
 }
 
 // Whether sums of outputs and of gates are within the limits.
 fn sums_within(outputs: usize, gates: usize) -> bool
     ensures { result ≡ leb outputs max_outputs && leb gates max_gates }
 {
-    if outputs <= MAX_OUTPUTS {
-        return gates <= MAX_GATES;
-    }
-    false
+    outputs <= MAX_OUTPUTS && gates <= MAX_GATES
 }
 
 // Joins two legal circuits: 25 where the inputs differ in number, then 2 where a sum is beyond the limits.
-fn join_legal(first: &[u8], second: &[u8], y: Sizes, z: Sizes, out: &mut [u8]) -> Answer
+fn join_legal(
+    first: &[u8],
+    second: &[u8],
+    y: Sizes,
+    z: Sizes,
+    out: &mut [u8],
+) -> Result<usize, Refusal>
     requires { ReadAs first.now y × ReadAs second.now z }
     ensures { outcome result out.new ≡ join_op first.now second.now out.old }
 {
     let within = sums_within(y.outputs + z.outputs, y.gates + z.gates);
     let same = y.inputs == z.inputs;
     if !same {
-        return Answer::Refused(Refusal::InputCounts);
+        return Err(Refusal::InputCounts);
     }
     if !within {
-        return Answer::Refused(Refusal::Limits);
+        return Err(Refusal::Limits);
     }
     build(first, second, y, z, out)
 }
 
 // Reads the second circuit, and joins the two.
-fn join_second(first: &[u8], second: &[u8], y: Sizes, out: &mut [u8]) -> Answer
+fn join_second(first: &[u8], second: &[u8], y: Sizes, out: &mut [u8]) -> Result<usize, Refusal>
     requires { ReadAs first.now y }
     ensures { outcome result out.new ≡ join_op first.now second.now out.old }
 {
-    let answer = read(second);
-    match answer {
-        ReadAnswer::Refused(k, _) => Answer::Refused(k),
-        ReadAnswer::Legal(z) => join_legal(first, second, y, z, out),
-    }
+    let z = read(second)?;
+    join_legal(first, second, y, z, out)
 }
 
 // Joins two circuits into the lent output: the joined file's length; or the first circuit's refusal, then the second's, 25 where the inputs
 // differ in number, 2 where a sum is beyond the limits, 6 for a short output. A refusal leaves the output as it was.
-pub fn join(first: &[u8], second: &[u8], out: &mut [u8]) -> Answer
+pub fn join(first: &[u8], second: &[u8], out: &mut [u8]) -> Result<usize, Refusal>
     ensures { outcome result out.new ≡ join_op first.now second.now out.old }
 {
-    let answer = read(first);
-    match answer {
-        ReadAnswer::Refused(k, _) => Answer::Refused(k),
-        ReadAnswer::Legal(y) => join_second(first, second, y, out),
-    }
+    let y = read(first)?;
+    join_second(first, second, y, out)
 }

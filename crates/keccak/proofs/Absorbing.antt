@@ -15,7 +15,7 @@ use borrow.Author.Tests.{eq-eqb, ne_eqb}
 use Rattle.bits.proofs.Little.{pow-bytes}
 use Rattle.bits.proofs.Numbers.{eq-or-ne, lt-or-le}
 use Rattle.keccak.specs.declared.sponge.Sponge.{Sponge}
-use Rattle.permutation.specs.Permutation.{lanes, lane_bytes, keccak_f}
+use Rattle.permutation.specs.Permutation.{lane_bytes, keccak_f}
 use Rattle.keccak.specs.Sponge.{xor_into, absorb_blocks, padding}
 use Rattle.keccak.specs.Steps.{permuted, xor_bytes, byte_at, xor_byte, absorbs, padded}
 use Rattle.permutation.proofs.Agree.{length-lanes, lanes-lt}

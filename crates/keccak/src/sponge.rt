@@ -1,6 +1,6 @@
 // The sponge: bytes are taken in, padded, and given out, with the permutation between blocks.
 // A rate is in bytes. Each step hands the sponge back.
-ghost use Rattle.std.specs.Prelude.{◌≡◌, ◌+◌, ◌≤◌, ◌<◌, ◌%◌, min, length};
+ghost use Rattle.std.specs.Prelude.{◌≡◌, ◌+◌, ◌≤◌, ◌<◌, ◌%◌, length};
 ghost use Rattle.keccak.specs.Steps.{sponge_of, empty, turned, absorb_byte, absorbs, closed, padded, given_byte, squeeze_byte, Given};
 
 use crate::state::{byte_at, xor_byte, xor_lanes};
@@ -20,28 +20,19 @@ pub struct Squeezed {
     pub byte: u8,
 }
 
-// The lesser of two numbers.
-fn least(a: usize, b: usize) -> usize
-    ensures { result ≡ min a b }
-{
-    if a < b { a } else { b }
-}
-
 // Takes in bytes one by one, in place. The bytes then taken of the present block.
 fn absorb_bytes(l: &mut [u64; 25], rate: usize, fill: usize, data: &[u8]) -> usize
     requires { (rate < 200) × (fill < rate) }
     ensures { sponge_of l.new result ≡ absorbs rate (sponge_of l.old fill) «data».now }
 {
     let mut at = fill;
-    let mut i = 0;
-    while i < data.len() {
-        xor_byte(l, at, data[i]);
+    for b in data {
+        xor_byte(l, at, *b);
         at += 1;
         if at == rate {
             permute(l);
             at = 0;
         }
-        i += 1;
     }
     at
 }
@@ -53,8 +44,9 @@ fn absorb_lanes(l: &mut [u64; 25], rate: usize, fill: usize, data: &[u8]) -> usi
 {
     let mut at = fill;
     let mut i = 0;
+    // The step is not constant, so this is no `for`.
     while i < data.len() {
-        let m = least(rate - at, data.len() - i);
+        let m = (rate - at).min(data.len() - i);
         let e = i + m;
         xor_lanes(l, at, &data[i..e]);
         at += m;
@@ -99,8 +91,7 @@ impl Sponge {
     fn turn(mut self, rate: usize) -> Sponge
         ensures { result ≡ turned rate self }
     {
-        let at = self.fill;
-        if at == rate {
+        if self.fill == rate {
             permute(&mut self.lanes);
             self.fill = 0;
         }
@@ -112,9 +103,8 @@ impl Sponge {
         requires { (rate < 200) × (self.fill < rate) }
         ensures { result ≡ absorb_byte rate self b }
     {
-        let at = self.fill;
-        xor_byte(&mut self.lanes, at, b);
-        self.fill = at + 1;
+        xor_byte(&mut self.lanes, self.fill, b);
+        self.fill += 1;
         self.turn(rate)
     }
 
@@ -133,8 +123,7 @@ impl Sponge {
         requires { (0 < rate) × ((rate < 200) × (self.fill < rate)) }
         ensures { result ≡ closed rate first self }
     {
-        let at = self.fill;
-        xor_byte(&mut self.lanes, at, first);
+        xor_byte(&mut self.lanes, self.fill, first);
         xor_byte(&mut self.lanes, rate - 1, 0x80);
         self.fill = rate;
         self
@@ -153,15 +142,13 @@ impl Sponge {
         requires { self.fill < 200 }
         ensures { result ≡ given_byte self }
     {
-        let l = self.lanes;
-        let at = self.fill;
-        let b = byte_at(&l, at);
+        let byte = byte_at(&self.lanes, self.fill);
         Squeezed {
             sponge: Sponge {
-                lanes: l,
-                fill: at + 1,
+                fill: self.fill + 1,
+                ..self
             },
-            byte: b,
+            byte,
         }
     }
 
@@ -170,11 +157,7 @@ impl Sponge {
         requires { (0 < rate) × ((rate < 200) × (self.fill ≤ rate)) }
         ensures { result ≡ squeeze_byte rate self }
     {
-        let at = self.fill;
-        if at == rate {
-            return self.turn(rate).give();
-        }
-        self.give()
+        self.turn(rate).give()
     }
 
     // Gives out bytes one by one.
@@ -184,15 +167,13 @@ impl Sponge {
     {
         let mut l = self.lanes;
         let mut at = self.fill;
-        let mut i = 0;
-        while i < out.len() {
+        for b in out.iter_mut() {
             if at == rate {
                 permute(&mut l);
                 at = 0;
             }
-            out[i] = byte_at(&l, at);
+            *b = byte_at(&l, at);
             at += 1;
-            i += 1;
         }
         Sponge { lanes: l, fill: at }
     }
@@ -204,16 +185,13 @@ impl Sponge {
     {
         let mut l = self.lanes;
         let mut from = self.fill;
-        let mut i = 0;
-        while i < out.len() {
+        for j in 0..out.len() / 8 {
             if from == rate {
                 permute(&mut l);
                 from = 0;
             }
-            let k = from / 8;
-            bits::write_u64(out, i, l[k]);
+            bits::write_u64(out, 8 * j, l[from / 8]);
             from += 8;
-            i += 8;
         }
         Sponge {
             lanes: l,

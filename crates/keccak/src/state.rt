@@ -8,7 +8,7 @@ pub(crate) fn xor_byte(l: &mut [u64; 25], k: usize, b: u8)
     ensures { l.new ≡ xor_byte l.old k b }
 {
     let i = k / 8;
-    l[i] = l[i] ^ ((b as u64) << ((8 * (k % 8)) as u64));
+    l[i] ^= (b as u64) << ((8 * (k % 8)) as u64);
 }
 
 // XORs whole lanes into the state, from byte k on, a lane's start.
@@ -16,11 +16,8 @@ pub(crate) fn xor_lanes(l: &mut [u64; 25], k: usize, part: &[u8])
     requires { (k % 8 ≡ 0) × ((length part.now % 8 ≡ 0) × (k + length part.now ≤ 200)) }
     ensures { l.new ≡ xor_bytes l.old k part.now }
 {
-    let mut i = 0;
-    while i < part.len() {
-        let j = (k + i) / 8;
-        l[j] = l[j] ^ bits::read_u64(part, i);
-        i += 8;
+    for j in 0..part.len() / 8 {
+        l[k / 8 + j] ^= bits::read_u64(part, 8 * j);
     }
 }
 

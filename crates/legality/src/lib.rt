@@ -8,22 +8,13 @@ ghost use Rattle.circuit.specs.FieldSteps.{Inside, Laid, Chained, limits, gates_
 ghost use Rattle.circuit.specs.Steps.{wire_bytes, readable, seen};
 
 use circuit::records::{and_one, field, record_with};
-use circuit::{Gate, MAX_INPUTS, MAX_OUTPUTS, MAX_WIRES, WIRE_BYTES};
-
-// Both of two tests.
-fn both(a: bool, b: bool) -> bool
-    ensures { result ≡ a && b }
-{
-    if a { b } else { false }
-}
+use circuit::{Front, Gate, MAX_INPUTS, MAX_OUTPUTS, MAX_WIRES, WIRE_BYTES};
 
 // Refusal 2: I, O and G within limits, at most `most` for G.
 pub fn within_limits(most: usize, inputs: usize, outputs: usize, gates: usize) -> bool
     ensures { result ≡ limits most inputs outputs gates }
 {
-    let i = both(1 <= inputs, inputs <= MAX_INPUTS);
-    let o = both(both(i, 1 <= outputs), outputs <= MAX_OUTPUTS);
-    both(o, gates <= most)
+    (1..=MAX_INPUTS).contains(&inputs) && (1..=MAX_OUTPUTS).contains(&outputs) && gates <= most
 }
 
 // Refusal 3, one slot: a known kind, and INV with b zero.
@@ -34,45 +25,24 @@ fn good_record(s: &[u8], bytes: usize, outputs: usize, slot: usize) -> bool
     let at = 4 + outputs + 4 * (slot - 1);
     let kind = field(s, bytes, at);
     let b = field(s, bytes, at + 2);
-    let inv = both(kind == 3, b == 0);
-    either(either(kind == 1, kind == 2), inv)
-}
-
-// One of two tests.
-fn either(a: bool, b: bool) -> bool
-    ensures { result ≡ a || b }
-{
-    if a { true } else { b }
+    kind == 1 || kind == 2 || (kind == 3 && b == 0)
 }
 
 // Refusal 3: every slot.
-pub fn good_records(s: &[u8], bytes: usize, inputs: usize, outputs: usize, gates: usize) -> bool
-    requires { Laid bytes s.now inputs outputs gates }
-    ensures { result ≡ good_records (field bytes s.now) gates }
+pub fn good_records(s: &[u8], f: Front) -> bool
+    requires { Laid f.width s.now f.inputs f.outputs f.gates }
+    ensures { result ≡ good_records (field f.width s.now) f.gates }
 {
-    let mut good = true;
-    let mut k = 0;
-    while k < gates {
-        good = both(good, good_record(s, bytes, outputs, k + 1));
-        k += 1;
-    }
-    good
+    (0..f.gates).all(|k| good_record(s, f.width, f.outputs, k + 1))
 }
 
 // Refusal 5, the outputs: each wire below I + G.
-pub fn good_outputs(s: &[u8], bytes: usize, inputs: usize, outputs: usize, gates: usize) -> bool
-    requires { Laid bytes s.now inputs outputs gates }
-    ensures { result ≡ good_outputs (field bytes s.now) outputs }
+pub fn good_outputs(s: &[u8], f: Front) -> bool
+    requires { Laid f.width s.now f.inputs f.outputs f.gates }
+    ensures { result ≡ good_outputs (field f.width s.now) f.outputs }
 {
-    let wires = inputs + gates;
-    let mut good = true;
-    let mut j = 0;
-    while j < outputs {
-        let wire = field(s, bytes, 4 + j) as usize;
-        good = both(good, wire < wires);
-        j += 1;
-    }
-    good
+    let wires = f.inputs + f.gates;
+    (0..f.outputs).all(|j| (field(s, f.width, 4 + j) as usize) < wires)
 }
 
 // Whether a wire is an input, or its bit is set.
@@ -95,61 +65,44 @@ fn reads_written(flags: &[u8], inputs: usize, gate: Gate) -> bool
     ensures { result ≡ readable (seen inputs flags.now) gate }
 {
     match gate {
-        Gate::Xor(a, b) => both(is_written(flags, inputs, a), is_written(flags, inputs, b)),
-        Gate::And(a, b) => both(is_written(flags, inputs, a), is_written(flags, inputs, b)),
+        Gate::Xor(a, b) => is_written(flags, inputs, a) && is_written(flags, inputs, b),
+        Gate::And(a, b) => is_written(flags, inputs, a) && is_written(flags, inputs, b),
         Gate::Inv(a) => is_written(flags, inputs, a),
     }
 }
 
 // Refusal 5, the gates: each reads only inputs or wires written earlier on the chain.
-pub fn good_reads(
-    s: &[u8],
-    bytes: usize,
-    inputs: usize,
-    outputs: usize,
-    gates: usize,
-    head: usize,
-) -> bool
-    requires { Chained bytes s.now inputs outputs gates head }
-    ensures { result ≡ inputs_first (field bytes s.now) gates head }
+pub fn good_reads(s: &[u8], f: Front) -> bool
+    requires { Chained f.width s.now f.inputs f.outputs f.gates f.head }
+    ensures { result ≡ inputs_first (field f.width s.now) f.gates f.head }
 {
+    let inputs = f.inputs;
     let mut flags = [0u8; WIRE_BYTES];
-    let mut left = gates;
-    let mut slot = head;
-    while 0 < left {
-        let r = record_with(s, bytes, outputs, slot);
+    let mut slot = f.head;
+    for _ in 0..f.gates {
+        let r = record_with(s, f.width, f.outputs, slot);
         let gate = r.gate;
         if !reads_written(&flags, inputs, gate) {
             return false;
         }
         bits::put_bit(&mut flags, inputs + (slot - 1), 1);
         slot = r.next;
-        left -= 1;
     }
     true
 }
 
 // A, the number of AND gates.
-pub fn and_count(
-    s: &[u8],
-    bytes: usize,
-    inputs: usize,
-    outputs: usize,
-    gates: usize,
-    head: usize,
-) -> usize
-    requires { Chained bytes s.now inputs outputs gates head }
-    ensures { result ≡ ands (gates_from (field bytes s.now) gates head) }
+pub fn and_count(s: &[u8], f: Front) -> usize
+    requires { Chained f.width s.now f.inputs f.outputs f.gates f.head }
+    ensures { result ≡ ands (gates_from (field f.width s.now) f.gates f.head) }
 {
     let mut count = 0;
-    let mut left = gates;
-    let mut slot = head;
-    while 0 < left {
-        let r = record_with(s, bytes, outputs, slot);
+    let mut slot = f.head;
+    for _ in 0..f.gates {
+        let r = record_with(s, f.width, f.outputs, slot);
         let gate = r.gate;
         count += and_one(gate);
         slot = r.next;
-        left -= 1;
     }
     count
 }

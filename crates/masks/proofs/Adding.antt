@@ -53,16 +53,6 @@ word-added m k j x y small h l e d =
     (λ i q. byte-xor x y i
     ∙ ap₂ bit_xor (ap (λ (z : ℕ). byte z i) e ∙ byte-read 8 m k i small h q) (ap (λ (z : ℕ). byte z i) d ∙ byte-read 8 m j i small l q))
 
--- no byte is cleared yet
-pub clear_none : (to : ℕ) (w : List ℕ) → w ≡ cleared to 0 w
-unfolding cleared
-clear_none to w = fill_none _ _ w
-
--- one more
-pub clear-turn : (to j : ℕ) (w m : List ℕ) → m ≡ cleared to j w → set m (to + j) 0 ≡ cleared to (j + 1) w
-unfolding cleared
-clear-turn to j w m e = fill-turn _ _ w m j (to + j) 0 e refl refl
-
 -- what stands at the place of byte j
 abbrev sum : List ℕ → ℕ → List ℕ → ℕ → ℕ
 sum row to w j = bit_xor (at w (to + j)) (at row j)

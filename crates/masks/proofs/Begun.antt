@@ -5,13 +5,13 @@ use mathlib.Core.Bool.{Bool, true, false}
 use mathlib.Core.List.{List}
 use mathlib.Core.Logic.{⊎_elim, ◌≢◌}
 use Prim.Native.Nat.{ℕ, ◌+◌, ◌-◌, ◌*◌, ◌/◌, ◌%◌, ◌^◌, ◌≤◌, ◌<◌}
-use native.Mathlib.Nat.{lt_of_lt_of_le, pow-suc}
+use native.Mathlib.Nat.{pow-suc}
 use native.Mathlib.Numerals.{add-one}
 use native.Mathlib.Omega.{arith}
 use borrow.Author.Tests.{eq-eqb, ne_eqb}
 use lib.Bits.{bit_xor, bit_and}
 use lib.ListN.{length, get_or, set}
-use lib.Pow.{pow_mono, pow_pos}
+use lib.Pow.{pow_pos}
 use lib.Seq.{get_or-set_same, get_or-set_other}
 use Rattle.bits.specs.Bits.{bit_val, odd, test_bit, bit_at}
 use Rattle.bits.specs.Steps.{put_bit}
@@ -51,12 +51,6 @@ put_next m c t byte b e l =
     sym
     (ap₂ (λ (i z : ℕ). set m i (f (get_or m i 0) z)) j d ∙ ap (λ (x : ℕ). set m (c + t / 8) (f x (t % 8))) (sym e) ∙ ap (set m (c + t / 8)) none)
 
--- the byte stays a byte when the lowest bit of y is put into it
-pub grown-byte : (t byte y : ℕ) → byte < 2 ^ (t % 8) → byte + y % 2 * 2 ^ (t % 8) % 256 < 256
-grown-byte t byte y l =
-    let h : t % 8 + 1 ≤ 8 = omega arith in
-    rw (shift-bit 8 y (t % 8) (omega arith)) (lt_of_lt_of_le (grown (t % 8) byte (odd y) l) (pow_mono h))
-
 -- an AND gate of the code: x is the bit of the product shares, w that of the output mask, v the byte that the next correction comes into
 module _ (g : Gate) (out k p c t byte a b x w v : ℕ) (m : List ℕ) (asks : Asks g out k p c t byte m) (e : g ≡ And a b) (ex : x ≡ bit_val (bit_at m p)) where
   abbrev new : ℕ
@@ -92,14 +86,6 @@ pub record Begun (c count t byte : ℕ) (m : List ℕ) : Type 0 where
   pub held : t < 8 * count → byte ≡ get_or m (c + t / 8) 0
   pub low : byte < 2 ^ (t % 8)
   pub zeros : (j : ℕ) → t < 8 * j → j < count → get_or m (c + j) 0 ≡ 0
-
--- none are put
-pub begun-none : (c count : ℕ) (m : List ℕ) → ((j : ℕ) → j < count → get_or m (c + j) 0 ≡ 0) → Begun c count 0 0 m
-begun-none c count m h = record {
-  held = λ l. sym (h 0 (omega arith));
-  low = pow_pos 0;
-  zeros = λ j a b. h j b;
-}
 
 module _ (c count t byte : ℕ) (m : List ℕ) (h : Begun c count t byte m) (out : ℕ) (l : out < c) where
   -- a byte before them

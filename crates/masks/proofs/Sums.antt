@@ -2,12 +2,14 @@
 -- Assumes nothing.
 use mathlib.Core.Path.{◌≡◌, refl, sym, ap, ap₂, ◌∙◌}
 use mathlib.Core.Bool.{false}
-use mathlib.Core.List.{List}
-use Prim.Native.Nat.{ℕ, zero, suc, ◌+◌, ◌*◌, ◌/◌, ◌%◌, ◌≤◌, ◌<◌}
+use mathlib.Core.List.{List, ◌++◌}
+use Prim.Native.Nat.{ℕ, zero, suc, ◌+◌, ◌-◌, ◌*◌, ◌/◌, ◌%◌, ◌≤◌, ◌<◌}
 use native.Mathlib.Nat.{zero-add}
 use native.Mathlib.Omega.{arith}
 use lib.Bits.{bit_xor}
-use lib.ListN.{length, take, drop}
+use lib.ListN.{length, take, drop, replicate}
+use Rattle.std.proofs.lemmas.Grind.{same_number_lists}
+use Rattle.std.proofs.lemmas.List.{places}
 use lib.Seq.{ext_get_or, get_or-take, length-take-le}
 use Rattle.bits.specs.Bits.{bit_val, odd, test_bit, bit_at}
 use Rattle.bits.specs.Bytes.{row_of}
@@ -47,6 +49,18 @@ module _ (to len : ℕ) (m : List ℕ) where
   clear-after : (j : ℕ) → to + len ≤ j → at (cleared to len m) j ≡ at m j
   unfolding cleared
   clear-after j h = fill-other (λ i. to + i) (λ i. 0) m len j (λ u l. omega arith)
+
+  -- the part before them, zeros, and the part after them
+  pub clear-part : to + len ≤ length m → take to m ++ replicate len 0 ++ drop (to + len) m ≡ cleared to len m
+  unfolding cleared
+  clear-part h =
+      same_number_lists _ _ (search (arith, places, clear-length))
+      (λ k l.
+      let before : k < to → at (cleared to len m) k ≡ at m k = λ q. fill-other (λ i. to + i) (λ i. 0) m len k (λ u r. omega arith) in
+      let zero_at : to ≤ k → k < to + len → at (cleared to len m) k ≡ 0 =
+      λ p q. let r : k ≡ to + (k - to) = omega arith in ap (at (cleared to len m)) r ∙ clear_at (k - to) (omega arith) h in
+      let after = clear-after k in
+      grind (arith, places, before, zero_at, after))
 
 module _ (tapes : List ℕ) (len to : ℕ) (m : List ℕ) where
   pub sum-length : (n : ℕ) → length (summed tapes len to n m) ≡ length m

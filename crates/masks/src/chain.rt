@@ -15,11 +15,8 @@ fn load_inputs(memory: &mut [u8], wires: usize, inputs: usize)
     ensures { memory.new ≡ loaded wires inputs memory.old }
 {
     clear_part(memory, 0, wires);
-    let mut k = 0;
-    while k < inputs {
-        let x = bits::bit(memory, 8 * wires + k);
-        memory[k] = x;
-        k += 1;
+    for k in 0..inputs {
+        memory[k] = bits::bit(memory, 8 * wires + k);
     }
 }
 
@@ -55,24 +52,21 @@ fn pass(
 {
     match gate {
         Gate::Xor(a, b) => {
-            let x = memory[a] ^ memory[b];
-            memory[out] = x;
+            memory[out] = memory[a] ^ memory[b];
             Passed { ands: t, byte }
         }
         Gate::And(a, b) => {
             let c = (memory[a] & memory[b]) ^ bits::bit(memory, p);
             let y = byte + ((c % 2) << ((t % 8) as u8));
             memory[at + t / 8] = y;
-            let x = bits::bit(memory, k);
-            memory[out] = x;
+            memory[out] = bits::bit(memory, k);
             Passed {
                 ands: t + 1,
                 byte: carried(t + 1, y),
             }
         }
         Gate::Inv(a) => {
-            let x = memory[a];
-            memory[out] = x;
+            memory[out] = memory[a];
             Passed { ands: t, byte }
         }
     }
@@ -88,19 +82,16 @@ fn walk(s: &[u8], z: Sizes, head: usize, at: usize, memory: &mut [u8])
     let wires = inputs + z.gates;
     let masks = 8 * wires + inputs;
     let products = masks + z.ands;
-    let mut left = z.gates;
     let mut slot = head;
     let mut t = 0;
     let mut byte: u8 = 0;
-    while 0 < left {
+    for _ in 0..z.gates {
         let r = record(s, outputs, slot);
-        let g = r.gate;
         let out = inputs + (slot - 1);
-        let p = pass(memory, g, out, masks + t, products + t, at, t, byte);
+        let p = pass(memory, r.gate, out, masks + t, products + t, at, t, byte);
         t = p.ands;
         byte = p.byte;
         slot = r.next;
-        left -= 1;
     }
 }
 

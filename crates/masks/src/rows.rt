@@ -9,11 +9,7 @@ pub(crate) fn clear_part(memory: &mut [u8], to: usize, len: usize)
     requires { to + len ≤ length memory.old }
     ensures { memory.new ≡ cleared to len memory.old }
 {
-    let mut j = 0;
-    while j < len {
-        memory[to + j] = 0;
-        j += 1;
-    }
+    memory[to..to + len].fill(0);
 }
 
 // XORs the 8 bytes of the memory from j on into those from k on, which stand before them.
@@ -30,11 +26,8 @@ fn add_words(memory: &mut [u8], a: usize, len: usize, to: usize)
     requires { (to + len ≤ a) × (a + len ≤ length memory.old) }
     ensures { memory.new ≡ added (drop a memory.old) to (8 * (len / 8)) memory.old }
 {
-    let words = len / 8;
-    let mut k = 0;
-    while k < words {
+    for k in 0..len / 8 {
         add_word(memory, a + 8 * k, to + 8 * k);
-        k += 1;
     }
 }
 
@@ -44,10 +37,8 @@ fn add_row(memory: &mut [u8], a: usize, len: usize, to: usize)
     ensures { memory.new ≡ added (drop a memory.old) to len memory.old }
 {
     add_words(memory, a, len, to);
-    let mut j = 8 * (len / 8);
-    while j < len {
-        memory[to + j] = memory[to + j] ^ memory[a + j];
-        j += 1;
+    for j in 8 * (len / 8)..len {
+        memory[to + j] ^= memory[a + j];
     }
 }
 
@@ -57,9 +48,7 @@ pub fn add_rows(memory: &mut [u8], a: usize, len: usize, n: usize, to: usize)
     ensures { memory.new ≡ summed (drop a memory.old) len to n memory.old }
 {
     clear_part(memory, to, len);
-    let mut i = 0;
-    while i < n {
+    for i in 0..n {
         add_row(memory, a + i * len, len, to);
-        i += 1;
     }
 }

@@ -1,27 +1,23 @@
 -- What an operation that is lent a work buffer answers and leaves, whatever else it is lent and whatever it does with it.
 -- Assumes nothing.
 use mathlib.Core.Path.{◌≡◌, sym, ap, ap₂, ◌∙◌}
-use mathlib.Core.Bool.{Bool, true, false, cond, ◌||◌}
+use mathlib.Core.Bool.{Bool}
 use mathlib.Core.List.{List, [], ◌∷◌, ◌++◌}
 use Prim.Native.Nat.{ℕ, ◌+◌, ◌*◌, ◌≤◌, ◌<◌}
 use native.Mathlib.Omega.{arith}
 use borrow.Author.Tests.{le-leb, lt-leb}
 use lib.Dec.{leb}
-use lib.ListN.{length, take, drop, replicate}
-use lib.Seq.{length-take-le}
-use Rattle.bits.proofs.Copies.{fill_end}
+use lib.ListN.{length, replicate}
 use Rattle.refusal.specs.Refusal.{number_of}
-use Rattle.refusal.specs.declared.Refusal.{Refusal}
+use Rattle.std.specs.Prelude.{Result, Ok, Err}
 use Rattle.refusal.specs.Outcome.{Outcome, refuses, unless}
 use Rattle.circuit.specs.Circuit.{Circuit}
 use Rattle.circuit.specs.File.{max_inputs, max_gates, circuit_of, Reading, read_circuit}
 use Rattle.circuit.specs.Operations.{read_op, leaving, on_legal_work}
 use Rattle.circuit.specs.Answers.{read_paper}
 use Rattle.circuit.specs.declared.Sizes.{Sizes}
-use Rattle.circuit.specs.declared.ReadAnswer.{ReadAnswer}
-use Rattle.circuit.specs.declared.ReadAnswer.TheVariants as read_answer
-use Rattle.mpc.specs.Steps.{Known, memory_bytes, is_done}
-use Rattle.mpc.specs.declared.Answer.{Answer}
+use Rattle.circuit.specs.declared.Fault.{Fault}
+use Rattle.mpc.specs.Steps.{Known, memory_bytes}
 use Rattle.mpc.proofs.Opened.{opened, opened-refused, opened-legal, circuit-inputs, circuit-gates}
 
 -- the limits of a circuit
@@ -32,32 +28,12 @@ known-few s z k = (k.legal.laid.few_inputs, k.legal.laid.few_gates)
 pub work-long : (need bytes size : ℕ) → need ≡ bytes → need ≤ size → bytes ≤ size
 work-long need bytes size e l = omega (arith, e, l)
 
--- the first k bytes of a work buffer are cleared
-pub part-cleared : (k : ℕ) (w z : List ℕ) (a : Answer) (f d r : Bool) → k ≤ length w → d ≡ is_done a → r ≡ f || d → r ≡ true
-    → z ≡ replicate (length (take k w)) 0 → z ++ drop k w ≡ cond (f || is_done a) (replicate k 0 ++ drop k w) w
-part-cleared k w z a f d r l e g h p =
-    let t : true ≡ f || is_done a = sym h ∙ g ∙ ap (λ (b : Bool). f || b) e in
-    ap (λ (x : List ℕ). x ++ drop k w) (p ∙ ap (λ (n : ℕ). replicate n 0) (length-take-le k w l))
-    ∙ ap (λ (b : Bool). cond b (replicate k 0 ++ drop k w) w) t
-
--- or it stays as it was
-pub work-kept : (k : ℕ) (w : List ℕ) (a : Answer) (f d r : Bool) → d ≡ is_done a → r ≡ f || d → r ≡ false
-    → w ≡ cond (f || is_done a) (replicate k 0 ++ drop k w) w
-work-kept k w a f d r e g h =
-    let t : false ≡ f || is_done a = sym h ∙ g ∙ ap (λ (b : Bool). f || b) e in
-    ap (λ (b : Bool). cond b (replicate k 0 ++ drop k w) w) t
-
--- all of a work buffer w is cleared, m what a step left in it
-pub all-cleared : (a : Answer) (k : ℕ) (w m x : List ℕ) → x ≡ cond (true || is_done a) (replicate k 0 ++ drop k m) m → k ≡ length w → length m ≡ length w
-    → x ≡ replicate (length w) 0
-all-cleared a k w m x e q l = e ∙ fill_end m k (omega (arith, q, l)) (omega (arith, q, l)) ∙ ap (λ (n : ℕ). replicate n 0) l
-
-module _ (s : List ℕ) (lent : List (List ℕ)) (work : List ℕ) (f : Circuit → Outcome) (r : ReadAnswer) (e : read_paper r ≡ read_op s) where
+module _ (s : List ℕ) (lent : List (List ℕ)) (work : List ℕ) (f : Circuit → Outcome) (r : Result Sizes Fault) (e : read_paper r ≡ read_op s) where
   -- the file is refused
-  pub work-refused : (k : Refusal) {slot : ℕ} → r ≡ read_answer.Refused k slot → refuses (number_of k) (lent ++ work ∷ []) ≡ on_legal_work (read_circuit s) lent work f
+  pub work-refused : (k : Fault) → r ≡ Err k → refuses (number_of k.refusal) (lent ++ work ∷ []) ≡ on_legal_work (read_circuit s) lent work f
   work-refused k p = sym (ap (λ (x : Reading). on_legal_work x lent work f) (opened-refused s k r p e))
 
-  module _ (z : Sizes) (p : r ≡ read_answer.Legal z) (need : ℕ) (q : need ≡ memory_bytes z) where
+  module _ (z : Sizes) (p : r ≡ Ok z) (need : ℕ) (q : need ≡ memory_bytes z) where
     -- the test of the work buffer, after the reading
     tested : unless (leb need (length work)) 6 (lent ++ work ∷ []) (leaving (f (circuit_of s)) (replicate (length work) 0)) ≡ on_legal_work (read_circuit s) lent work f
     tested =

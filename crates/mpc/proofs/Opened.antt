@@ -8,7 +8,7 @@ use lib.ListN.{length}
 use Rattle.bits.specs.Bits.{oct}
 use Rattle.bits.proofs.Tabulate.{length-tabulate}
 use Rattle.refusal.specs.Refusal.{number_of}
-use Rattle.refusal.specs.declared.Refusal.{Refusal}
+use Rattle.std.specs.Prelude.{Result, Ok, Err}
 use Rattle.refusal.specs.Outcome.{refusal_at, success}
 use Rattle.parties.specs.Parties.{height_of}
 use Rattle.parties.proofs.Counts.{sizes}
@@ -18,8 +18,7 @@ use Rattle.circuit.specs.File.{inputs_of, outputs_of, gates_of, output_wire, gat
 use Rattle.circuit.specs.Operations.{read_op}
 use Rattle.circuit.specs.Answers.{read_paper}
 use Rattle.circuit.specs.declared.Sizes.{Sizes}
-use Rattle.circuit.specs.declared.ReadAnswer.{ReadAnswer}
-use Rattle.circuit.specs.declared.ReadAnswer.TheVariants as read_answer
+use Rattle.circuit.specs.declared.Fault.{Fault}
 use Rattle.circuit.proofs.Answered.{gates-count, read-legal, read-success, refusal-refused}
 use Rattle.circuit.proofs.Outcomes.{legal-passed, legal-sizes}
 use Rattle.plain.specs.Tapes.{ands_of, row_bytes}
@@ -30,13 +29,14 @@ abbrev pub sized : ℕ → ℕ → ℕ → ℕ → Sizes
 sized i o g a = record { inputs = i; outputs = o; gates = g; ands = a }
 
 -- a refused file
-pub opened-refused : (s : List ℕ) (k : Refusal) {x : ℕ} (r : ReadAnswer) → r ≡ read_answer.Refused k x → read_paper r ≡ read_op s → read_circuit s ≡ refused (number_of k) x
-opened-refused s k {x} r p e =
-    let q : refusal_at (number_of k) x ≡ read_op s = sym (ap read_paper p) ∙ e in
-    refusal-refused s (number_of k) x q
+pub opened-refused : (s : List ℕ) (f : Fault) (r : Result Sizes Fault) → r ≡ Err f → read_paper r ≡ read_op s
+    → read_circuit s ≡ refused (number_of f.refusal) f.slot
+opened-refused s f r p e =
+    let q : refusal_at (number_of f.refusal) f.slot ≡ read_op s = sym (ap read_paper p) ∙ e in
+    refusal-refused s (number_of f.refusal) f.slot q
 
 -- a file that reads as legal
-module _ (s : List ℕ) (z : Sizes) (r : ReadAnswer) (p : r ≡ read_answer.Legal z) (e : read_paper r ≡ read_op s) where
+module _ (s : List ℕ) (z : Sizes) (r : Result Sizes Fault) (p : r ≡ Ok z) (e : read_paper r ≡ read_op s) where
   -- its numbers are the circuit's
   pub opened : Known s z
   opened =

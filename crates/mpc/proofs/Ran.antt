@@ -1,12 +1,12 @@
 -- What run answers and leaves: masked inputs, broadcast rows and output as the work memory gives them, and each refusal.
 -- Assumes nothing.
 use mathlib.Core.Path.{◌≡◌, sym, ap, ap₂, ◌∙◌}
-use mathlib.Core.Bool.{Bool, true, false, not, cond, ◌&&◌, ◌||◌}
-use mathlib.Core.List.{List, [], ◌∷◌, ◌++◌}
+use mathlib.Core.Bool.{Bool, true, false, not, ◌&&◌}
+use mathlib.Core.List.{List, [], ◌∷◌}
 use Prim.Native.Nat.{ℕ, ◌+◌, ◌*◌, ◌≤◌, ◌<◌}
 use borrow.Author.Tests.{eqb-true, not-false}
 use lib.Dec.{eqb}
-use lib.ListN.{length, drop, replicate}
+use lib.ListN.{length, replicate}
 use Rattle.bits.specs.Bits.{oct, pack, bit_at, unused_zero}
 use Rattle.bits.proofs.Tests.{and-true-left, and-true-right}
 use Rattle.refusal.specs.declared.Refusal.{Refusal}
@@ -17,8 +17,7 @@ use Rattle.circuit.specs.File.{circuit_of}
 use Rattle.circuit.specs.Operations.{read_op}
 use Rattle.circuit.specs.Answers.{read_paper}
 use Rattle.circuit.specs.declared.Sizes.{Sizes}
-use Rattle.circuit.specs.declared.ReadAnswer.{ReadAnswer}
-use Rattle.circuit.specs.declared.ReadAnswer.TheVariants as read_answer
+use Rattle.circuit.specs.declared.Fault.{Fault}
 use Rattle.circuit.proofs.Answered.{fell, held}
 use Rattle.plain.specs.Tapes.{ands_of, unused_rows}
 use Rattle.plain.specs.Showing.{masked_inputs, run_on, rows_of}
@@ -27,11 +26,10 @@ use Rattle.packed.specs.Steps.{broadcast_bytes, tapes_held, corrections_held, ra
 use Rattle.packed.proofs.Runs.{rows-ran}
 use Rattle.mpc.specs.Operations.{ran, run_legal, run_op}
 use Rattle.mpc.specs.Answers.{outcome}
-use Rattle.mpc.specs.Steps.{Known, memory_bytes, Working, TapesFit, RunLent, with_both, is_done}
-use Rattle.mpc.specs.declared.Answer.{Answer}
-use Rattle.mpc.specs.declared.Answer.TheVariants.{Done, Refused}
+use Rattle.mpc.specs.Steps.{Known, memory_bytes, Working, TapesFit, RunLent, with_both}
+use Rattle.std.specs.Prelude.{⊤, Result, Ok, Err}
 use Rattle.mpc.proofs.Opened.{sized, circuit-inputs, circuit-outputs, circuit-ands}
-use Rattle.mpc.proofs.Lent.{all-cleared, work-refused, work-short, work-left}
+use Rattle.mpc.proofs.Lent.{work-refused, work-short, work-left}
 use Rattle.mpc.proofs.Places.{working-kept, memory-held, placed, both-length, both-tapes, both-corrections}
 
 -- what the run in a work memory leaves: m1 the memory with the tapes and the corrections brought in, m2 the memory after the run
@@ -88,14 +86,14 @@ module _ (s : List ℕ) (i o g a : ℕ) (k : Known s (sized i o g a)) (n h : ℕ
       ∙ ap (lengths (circuit_of s).inputs (length (circuit_of s).outputs)) (sym (circuit-ands s i o g a k))
 
   -- no party count
-  pub run-parties : h ≡ 0 → outcome (Refused Parameter) lent ≡ run_legal n w tapes corr masked rows y (circuit_of s)
+  pub run-parties : h ≡ 0 → outcome (Err Parameter) lent ≡ run_legal n w tapes corr masked rows y (circuit_of s)
   unfolding run_legal
   run-parties e = rw (count_no n (sym count ∙ e))
 
   -- a party count
   module _ (more : h ≡ 0 → ⊥) (r : Bool) (e : r ≡ lengths i o a) where
     -- a lent length not as stated
-    pub run_length : not r ≡ true → outcome (Refused BufferLength) lent ≡ run_legal n w tapes corr masked rows y (circuit_of s)
+    pub run_length : not r ≡ true → outcome (Err BufferLength) lent ≡ run_legal n w tapes corr masked rows y (circuit_of s)
     unfolding run_legal
     run_length t = rw (count_yes n (λ z. more (count ∙ z)), fell _ r (e ∙ lengths-right) t)
 
@@ -116,44 +114,43 @@ module _ (s : List ℕ) (i o g a : ℕ) (k : Known s (sized i o g a)) (n h : ℕ
         )
 
     -- lengths as stated
-    module _ (t : not r ≡ false) (b1 b2 b3 b4 b5 : Bool) (f1 : b1 ≡ unused_zero i w) (f2 : b2 ≡ unused_rows (circuit_of s) n tapes n) (f3 : b3 ≡ b1 && b2)
-        (f4 : b4 ≡ unused_zero a corr) (f5 : b5 ≡ b3 && b4) where
+    module _ (t : not r ≡ false) (b1 b2 b3 : Bool) (f1 : b1 ≡ unused_zero i w) (f2 : b2 ≡ unused_rows (circuit_of s) n tapes n)
+        (f3 : b3 ≡ unused_zero a corr) where
       -- the test of the unused bits
-      unused-right : b5 ≡ unused_zero (circuit_of s).inputs w && unused_rows (circuit_of s) n tapes n && unused_zero (ands_of (circuit_of s)) corr
+      unused-right : b1 && b2 && b3 ≡ unused_zero (circuit_of s).inputs w && unused_rows (circuit_of s) n tapes n && unused_zero (ands_of (circuit_of s)) corr
       unused-right =
-          f5 ∙ ap₂ ◌&&◌ (f3 ∙ ap₂ ◌&&◌ f1 f2) f4
+          ap₂ ◌&&◌ (ap₂ ◌&&◌ f1 f2) f3
           ∙ ap₂ (λ (x z : ℕ). unused_zero x w && unused_rows (circuit_of s) n tapes n && unused_zero z corr) (sym (circuit-inputs s i o g a k)) (sym (circuit-ands s i o g a k))
 
       -- a nonzero unused bit
-      pub run-unused : not b5 ≡ true → outcome (Refused UnusedBits) lent ≡ run_legal n w tapes corr masked rows y (circuit_of s)
+      pub run-unused : not (b1 && b2 && b3) ≡ true → outcome (Err UnusedBits) lent ≡ run_legal n w tapes corr masked rows y (circuit_of s)
       unfolding run_legal
-      run-unused u = rw (count_yes n (λ z. more (count ∙ z)), held _ r (e ∙ lengths-right) t, fell _ b5 unused-right u)
+      run-unused u = rw (count_yes n (λ z. more (count ∙ z)), held _ r (e ∙ lengths-right) t, fell _ (b1 && b2 && b3) unused-right u)
 
       -- success
-      pub run-done : not b5 ≡ false → (p q x : List ℕ) → p ∷ q ∷ x ∷ [] ≡ ran (circuit_of s) n w tapes corr
-          → outcome Done (p ∷ q ∷ x ∷ []) ≡ run_legal n w tapes corr masked rows y (circuit_of s)
+      pub run-done : not (b1 && b2 && b3) ≡ false → (p q x : List ℕ) → p ∷ q ∷ x ∷ [] ≡ ran (circuit_of s) n w tapes corr
+          → outcome (Ok tt) (p ∷ q ∷ x ∷ []) ≡ run_legal n w tapes corr masked rows y (circuit_of s)
       unfolding run_legal
       run-done u p q x z =
-          ap (outcome Done) z ∙ rw (count_yes n (λ z. more (count ∙ z)), held _ r (e ∙ lengths-right) t, held _ b5 unused-right u)
+          ap (outcome (Ok tt)) z ∙ rw (count_yes n (λ z. more (count ∙ z)), held _ r (e ∙ lengths-right) t, held _ (b1 && b2 && b3) unused-right u)
 
 -- the file is read first
-module _ (s : List ℕ) (n : ℕ) (w tapes corr masked rows y work : List ℕ) (r : ReadAnswer) (e : read_paper r ≡ read_op s) where
-  pub run-refused : (k : Refusal) {slot : ℕ} → r ≡ read_answer.Refused k slot
-      → outcome (Refused k) (masked ∷ rows ∷ y ∷ work ∷ []) ≡ run_op s n w tapes corr masked rows y work
+module _ (s : List ℕ) (n : ℕ) (w tapes corr masked rows y work : List ℕ) (r : Result Sizes Fault) (e : read_paper r ≡ read_op s) where
+  pub run-refused : (k : Fault) → r ≡ Err k
+      → outcome (Err k.refusal) (masked ∷ rows ∷ y ∷ work ∷ []) ≡ run_op s n w tapes corr masked rows y work
   unfolding run_op
   run-refused k p = work-refused s (masked ∷ rows ∷ y ∷ []) work (run_legal n w tapes corr masked rows y) r e k p
 
   -- then the work buffer is tested
-  module _ (z : Sizes) (p : r ≡ read_answer.Legal z) (need : ℕ) (q : need ≡ memory_bytes z) where
-    pub run_short : length work < need → outcome (Refused BufferLength) (masked ∷ rows ∷ y ∷ work ∷ []) ≡ run_op s n w tapes corr masked rows y work
+  module _ (z : Sizes) (p : r ≡ Ok z) (need : ℕ) (q : need ≡ memory_bytes z) where
+    pub run_short : length work < need → outcome (Err BufferLength) (masked ∷ rows ∷ y ∷ work ∷ []) ≡ run_op s n w tapes corr masked rows y work
     unfolding run_op
     run_short l = work-short s (masked ∷ rows ∷ y ∷ []) work (run_legal n w tapes corr masked rows y) r e z p need q l
 
-    pub run-left : need ≤ length work → (a : Answer) (x1 x2 x3 : List ℕ)
-        → outcome a (x1 ∷ x2 ∷ x3 ∷ []) ≡ run_legal n w tapes corr masked rows y (circuit_of s) → (k : ℕ) (m x : List ℕ)
-        → x ≡ cond (true || is_done a) (replicate k 0 ++ drop k m) m → k ≡ length work → length m ≡ length work
+    pub run-left : need ≤ length work → (a : Result ⊤ Refusal) (x1 x2 x3 : List ℕ)
+        → outcome a (x1 ∷ x2 ∷ x3 ∷ []) ≡ run_legal n w tapes corr masked rows y (circuit_of s) → (x : List ℕ)
+        → x ≡ replicate (length work) 0
         → outcome a (x1 ∷ x2 ∷ x3 ∷ x ∷ []) ≡ run_op s n w tapes corr masked rows y work
     unfolding run_op
-    run-left l a x1 x2 x3 t k m x u v j =
-        work-left s (masked ∷ rows ∷ y ∷ []) work (run_legal n w tapes corr masked rows y) r e z p need q l (outcome a (x1 ∷ x2 ∷ x3 ∷ [])) t x
-        (all-cleared a k work m x u v j)
+    run-left l a x1 x2 x3 t x u =
+        work-left s (masked ∷ rows ∷ y ∷ []) work (run_legal n w tapes corr masked rows y) r e z p need q l (outcome a (x1 ∷ x2 ∷ x3 ∷ [])) t x u

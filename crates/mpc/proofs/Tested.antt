@@ -16,10 +16,10 @@ use Rattle.mpc.specs.Steps.{Known}
 use Rattle.mpc.proofs.Opened.{sized, circuit-inputs, circuit-ands, circuit-row}
 
 -- two lengths that are both as stated
-pub both-lengths : (x y u v : ℕ) (b d r : Bool) → b ≡ eqb x y → d ≡ eqb u v → r ≡ b && d → not r ≡ false → (x ≡ y) × (u ≡ v)
-both-lengths x y u v b d r e f q t =
-    let z : b && d ≡ true = sym q ∙ not-false r t in
-    (eqb-true x y (sym e ∙ and-true-left b d z), eqb-true u v (sym f ∙ and-true-right b d z))
+pub both-lengths : (x y u v : ℕ) (r : Bool) → r ≡ eqb x y && eqb u v → not r ≡ false → (x ≡ y) × (u ≡ v)
+both-lengths x y u v r q t =
+    let z : eqb x y && eqb u v ≡ true = sym q ∙ not-false r t in
+    (eqb-true x y (and-true-left (eqb x y) (eqb u v) z), eqb-true u v (and-true-right (eqb x y) (eqb u v) z))
 
 module _ (s : List ℕ) (i o g a n : ℕ) (tapes : List ℕ) (k : Known s (sized i o g a)) where
   -- no row is looked at
@@ -33,10 +33,10 @@ module _ (s : List ℕ) (i o g a n : ℕ) (tapes : List ℕ) (k : Known s (sized
   used-right j = ap₂ (λ (x y : ℕ). cond (eqb (suc j) n) (x + y) (x + 2 * y)) (circuit-inputs s i o g a k) (circuit-ands s i o g a k)
 
   -- one row more
-  pub unused-turn : (j u len : ℕ) (row : List ℕ) (b d r : Bool) → b ≡ unused_rows (circuit_of s) n tapes j → len ≡ oct (i + 2 * a) → row ≡ row_of tapes len j
-      → u ≡ cond (eqb (suc j) n) (i + a) (i + 2 * a) → d ≡ unused_zero u row → r ≡ b && d → r ≡ unused_rows (circuit_of s) n tapes (j + 1)
+  pub unused-turn : (j u len : ℕ) (row : List ℕ) (b d : Bool) → b ≡ unused_rows (circuit_of s) n tapes j → len ≡ oct (i + 2 * a) → row ≡ row_of tapes len j
+      → u ≡ cond (eqb (suc j) n) (i + a) (i + 2 * a) → d ≡ unused_zero u row → b && d ≡ unused_rows (circuit_of s) n tapes (j + 1)
   unfolding unused_rows
-  unused-turn j u len row b d r p q e h f t =
+  unused-turn j u len row b d p q e h f =
       let m : row_of tapes len j ≡ row_of tapes (oct ((circuit_of s).inputs + 2 * ands_of (circuit_of s))) j
       = ap (λ (x : ℕ). row_of tapes x j) (q ∙ sym (circuit-row s i o g a k)) in
-      t ∙ ap₂ ◌&&◌ p (f ∙ ap₂ unused_zero (h ∙ sym (used-right j)) (e ∙ m)) ∙ ap (unused_rows (circuit_of s) n tapes) (sym (add-one j))
+      ap₂ ◌&&◌ p (f ∙ ap₂ unused_zero (h ∙ sym (used-right j)) (e ∙ m)) ∙ ap (unused_rows (circuit_of s) n tapes) (sym (add-one j))

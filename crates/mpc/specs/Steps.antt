@@ -1,6 +1,6 @@
 -- What only the contracts of steps use: no definition of the paper stands here.
 -- Assumes nothing.
-use Rattle.std.specs.Prelude.{◌≡◌, Bool, true, false, List, ℕ, ◌+◌, ◌*◌, ◌≤◌, length}
+use Rattle.std.specs.Prelude.{◌≡◌, true, List, ℕ, ◌+◌, ◌*◌, ◌≤◌, length}
 use Rattle.std.proofs.lemmas.List.Edits.{sets}
 use Rattle.bits.specs.Bits.{oct, unused_zero}
 use Rattle.circuit.specs.Circuit.{ands}
@@ -11,13 +11,6 @@ use Rattle.plain.specs.Tapes.{unused_rows}
 use Rattle.masks.specs.Steps.{wire_count, rows_from, worked, corrections_of}
 use Rattle.planes.specs.Steps.{Room, corrections_at, rows_at, leaves_at}
 use Rattle.walk.specs.Steps.{layout_of}
-use Rattle.mpc.specs.declared.Answer.{Answer}
-use Rattle.mpc.specs.declared.Answer.TheVariants.{Done, Refused}
-
--- whether an answer is a success
-abbrev pub is_done : Answer → Bool
-is_done Done = true
-is_done (Refused k) = false
 
 -- a legal file with its I, O, G and A
 pub record Known (s : List ℕ) (z : Sizes) : Type 0 where

@@ -6,12 +6,3 @@ pub mod lending;
 pub mod preparing;
 pub mod running;
 pub mod tests;
-
-use refusal::Refusal;
-
-// What an operation answers.
-#[derive(Clone, Copy)]
-pub enum Answer {
-    Done,
-    Refused(Refusal),
-}

@@ -6,11 +6,11 @@ ghost use Rattle.mpc.specs.Operations.{ran, run_legal, run_op};
 ghost use Rattle.mpc.specs.Answers.{outcome};
 ghost use Rattle.mpc.specs.Steps.{Known, Working, memory_bytes, RunLent};
 
-use crate::Answer;
 use crate::holding::hold;
-use crate::lending::{clear_after, work_bytes};
-use crate::tests::{both, holds, holds_rows, unused_rows};
-use circuit::{ReadAnswer, Sizes};
+use crate::lending::work_bytes;
+use crate::tests::{holds, holds_rows, unused_rows};
+use bits::clear;
+use circuit::Sizes;
 use packed::running::{give_rows, run_held};
 use reading::read;
 use refusal::Refusal;
@@ -50,18 +50,12 @@ fn run_lengths(
     requires { (n ≤ 64) × ((z.inputs ≤ max_inputs) × ((z.outputs ≤ max_outputs) × (z.ands ≤ max_gates))) }
     ensures { result ≡ eqb (length witness.now) (oct z.inputs) && eqb (length tapes.now) (n * oct (z.inputs + 2 * z.ands)) && eqb (length corrections.now) (oct z.ands) && eqb (length masked.now) (oct z.inputs) && eqb (length rows.now) (n * oct (z.ands + z.outputs)) && eqb (length y.now) (oct z.outputs) }
 {
-    let lent = both(
-        both(
-            holds(witness, z.inputs),
-            holds_rows(tapes, n, z.inputs + 2 * z.ands),
-        ),
-        holds(corrections, z.ands),
-    );
-    let out = both(
-        both(lent, holds(masked, z.inputs)),
-        holds_rows(rows, n, z.ands + z.outputs),
-    );
-    both(out, holds(y, z.outputs))
+    holds(witness, z.inputs)
+        && holds_rows(tapes, n, z.inputs + 2 * z.ands)
+        && holds(corrections, z.ands)
+        && holds(masked, z.inputs)
+        && holds_rows(rows, n, z.ands + z.outputs)
+        && holds(y, z.outputs)
 }
 
 // Tests what is lent, and runs a legal circuit.
@@ -76,23 +70,23 @@ fn run_lent(
     rows: &mut [u8],
     y: &mut [u8],
     memory: &mut [u8],
-) -> Answer
+) -> Result<(), Refusal>
     requires { Known s.now z × (memory_bytes z ≤ length memory.old) }
     ensures { outcome result (masked.new ∷ rows.new ∷ y.new ∷ []) ≡ run_legal n witness.now tapes.now corrections.now masked.old rows.old y.old (circuit_of s.now) }
 {
-    if parties::height(n) == 0 {
-        return Answer::Refused(Refusal::Parameter);
+    if parties::height(n).is_none() {
+        return Err(Refusal::Parameter);
     }
     let k = n as usize;
     if !run_lengths(z, k, witness, tapes, corrections, masked, rows, y) {
-        return Answer::Refused(Refusal::BufferLength);
+        return Err(Refusal::BufferLength);
     }
-    let clean = both(
-        bits::unused_zero(witness, z.inputs),
-        unused_rows(s, z, k, tapes),
-    );
-    if !both(clean, bits::unused_zero(corrections, z.ands)) {
-        return Answer::Refused(Refusal::UnusedBits);
+    // All three run, whatever the secret bytes hold.
+    let clean = bits::unused_zero(witness, z.inputs)
+        & unused_rows(s, z, k, tapes)
+        & bits::unused_zero(corrections, z.ands);
+    if !clean {
+        return Err(Refusal::UnusedBits);
     }
     run_in(
         s,
@@ -106,7 +100,7 @@ fn run_lent(
         y,
         memory,
     );
-    Answer::Done
+    Ok(())
 }
 
 // Runs the circuit on a witness: fills the masked inputs, n broadcast rows and y, or refuses and leaves them as they were. The work buffer
@@ -121,21 +115,15 @@ pub fn run(
     rows: &mut [u8],
     y: &mut [u8],
     work: &mut [u8],
-) -> Answer
+) -> Result<(), Refusal>
     ensures { outcome result (masked.new ∷ rows.new ∷ y.new ∷ work.new ∷ []) ≡ run_op s.now n witness.now tapes.now corrections.now masked.old rows.old y.old work.old }
 {
-    let answer = read(s);
-    match answer {
-        ReadAnswer::Refused(k, _) => Answer::Refused(k),
-        ReadAnswer::Legal(z) => {
-            let all = work.len();
-            let need = work_bytes(z);
-            if all < need {
-                return Answer::Refused(Refusal::BufferLength);
-            }
-            let ended = run_lent(s, z, n, witness, tapes, corrections, masked, rows, y, work);
-            clear_after(ended, true, all, work);
-            ended
-        }
+    let z = read(s)?;
+    let need = work_bytes(z);
+    if work.len() < need {
+        return Err(Refusal::BufferLength);
     }
+    let ended = run_lent(s, z, n, witness, tapes, corrections, masked, rows, y, work);
+    clear(work);
+    ended
 }

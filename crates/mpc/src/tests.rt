@@ -1,25 +1,11 @@
 // The tests of what is lent: lengths and unused bits.
-ghost use Rattle.std.specs.Prelude.{◌≡◌, cond, ◌&&◌, ◌||◌, suc, ◌+◌, ◌*◌, ◌≤◌, eqb, length};
+ghost use Rattle.std.specs.Prelude.{◌≡◌, cond, suc, ◌+◌, ◌*◌, ◌≤◌, eqb, length};
 ghost use Rattle.bits.specs.Bits.{oct};
 ghost use Rattle.circuit.specs.File.{circuit_of};
 ghost use Rattle.plain.specs.Tapes.{unused_rows};
 ghost use Rattle.mpc.specs.Steps.{Known};
 
 use circuit::Sizes;
-
-// Both of two tests.
-pub fn both(a: bool, b: bool) -> bool
-    ensures { result ≡ a && b }
-{
-    if a { b } else { false }
-}
-
-// One of two tests.
-pub fn either(a: bool, b: bool) -> bool
-    ensures { result ≡ a || b }
-{
-    if a { true } else { b }
-}
 
 // Whether s has the bytes for k bits.
 pub fn holds(s: &[u8], k: usize) -> bool
@@ -57,11 +43,9 @@ pub fn unused_rows(s: &[u8], z: Sizes, n: usize, tapes: &[u8]) -> bool
     let ands = z.ands;
     let len = bits::oct(inputs + 2 * ands);
     let mut good = true;
-    let mut i = 0;
-    while i < n {
+    for i in 0..n {
         let row = bits::row(tapes, len, i);
-        good = both(good, bits::unused_zero(row, used_bits(inputs, ands, n, i)));
-        i += 1;
+        good &= bits::unused_zero(row, used_bits(inputs, ands, n, i));
     }
     good
 }

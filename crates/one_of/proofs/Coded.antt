@@ -3,7 +3,8 @@
 use mathlib.Core.Path.{◌≡◌, refl, sym, ap, ap₂, ◌∙◌}
 use mathlib.Core.Bool.{Bool, true, false, cond, ◌&&◌, ◌||◌}
 use mathlib.Core.List.{List}
-use Prim.Native.Nat.{ℕ, ◌+◌, ◌-◌, ◌*◌, ◌/◌, ◌%◌, ◌≤◌, ◌<◌}
+use mathlib.Core.Logic.{⊎_elim}
+use Prim.Native.Nat.{ℕ, zero, suc, ◌+◌, ◌-◌, ◌*◌, ◌/◌, ◌%◌, ◌≤◌, ◌<◌}
 use native.Mathlib.Omega.{arith}
 use native.Mathlib.Nat.{mul-le-mul_right, suc-mul, mod-lt, div-lt_iff_lt-mul}
 use native.Mathlib.Numerals.{add-one}
@@ -12,6 +13,7 @@ use lib.Dec.{ltb}
 use lib.ListN.{length}
 use Rattle.bits.specs.Bits.{oct, bit_val, bit_at, unused_zero}
 use Rattle.bits.specs.Bytes.{same_bytes, row_of}
+use Rattle.bits.proofs.Numbers.{lt-or-le}
 use Rattle.bits.proofs.Rows.{inside, row-length}
 use Rattle.circuit.specs.Fields.{Fields, outputs_of, gates_of, output_wire}
 use Rattle.circuit.specs.File as file
@@ -23,25 +25,64 @@ use Rattle.one_of.proofs.Slots.{new-inv, new-zero, slot-old, slot-new}
 use Rattle.one_of.specs.Steps.{as_four, Given}
 use Rattle.one_of.specs.declared.Record.{Record}
 
--- one entry more is compared with entry e
+-- one entry more is not entry e
 pub among_none : (O : ℕ) (list : List ℕ) (e : ℕ) → false ≡ among O list e 0
 unfolding among
 among_none O list e = refl
 
-pub among-turn : (O : ℕ) (list : List ℕ) (e i len : ℕ) (found hit r : Bool) (a b : List ℕ) → len ≡ oct O → a ≡ row_of list len i → b ≡ row_of list len e
-    → hit ≡ same_bytes a b → found ≡ among O list e i → r ≡ found || hit → r ≡ among O list e (i + 1)
+pub among-turn : (O : ℕ) (list : List ℕ) (e i len : ℕ) (hit : Bool) (a b : List ℕ) → len ≡ oct O → a ≡ row_of list len i → b ≡ row_of list len e
+    → hit ≡ same_bytes a b → hit ≡ false → false ≡ among O list e i → false ≡ among O list e (i + 1)
 unfolding among
-among-turn O list e i len found hit r a b l p q h f t = rw add-one (t ∙ ap₂ ◌||◌ f (h ∙ rw (p, q, l)))
+among-turn O list e i len hit a b l p q h n f = rw add-one (ap₂ ◌||◌ f (sym n ∙ h ∙ rw (p, q, l)))
 
--- the unused bits of one entry more
+-- an entry that is entry e is among any n that hold it
+among-later : (O : ℕ) (list : List ℕ) (e i n : ℕ) → i < n → same_bytes (entry O list i) (entry O list e) ≡ true → true ≡ among O list e n
+unfolding among
+among-later O list e i zero k s = absurd (omega arith)
+among-later O list e i (suc n) k s =
+    ⊎_elim
+    (λ (h : i < n). rw (← among-later O list e i n h s) refl)
+    (λ (h : n ≤ i). let q : i ≡ n = omega arith in
+    let t : same_bytes (entry O list n) (entry O list e) ≡ true = rw q at s in rw t (either (among O list e n)))
+    (lt-or-le i n)
+  where
+    either : (b : Bool) → true ≡ b || true
+    either true = refl
+    either false = refl
+
+pub among-hit : (O : ℕ) (list : List ℕ) (e i n len : ℕ) (hit : Bool) (a b : List ℕ) → len ≡ oct O → a ≡ row_of list len i → b ≡ row_of list len e
+    → hit ≡ same_bytes a b → hit ≡ true → i < n → true ≡ among O list e n
+among-hit O list e i n len hit a b l p q h y k =
+    among-later O list e i n k (sym (sym y ∙ h ∙ rw (p, q, l)))
+
+-- the unused bits of one entry more are zero
 pub unused-none : (O : ℕ) (list : List ℕ) → true ≡ unused_entries O list 0
 unfolding unused_entries
 unused-none O list = refl
 
-pub unused-turn : (O : ℕ) (list : List ℕ) (e len : ℕ) (good clear r : Bool) (a : List ℕ) → len ≡ oct O → a ≡ row_of list len e
-    → clear ≡ unused_zero O a → good ≡ unused_entries O list e → r ≡ good && clear → r ≡ unused_entries O list (e + 1)
+pub unused-turn : (O : ℕ) (list : List ℕ) (e len : ℕ) (clear : Bool) (a : List ℕ) → len ≡ oct O → a ≡ row_of list len e
+    → clear ≡ unused_zero O a → clear ≡ true → true ≡ unused_entries O list e → true ≡ unused_entries O list (e + 1)
 unfolding unused_entries
-unused-turn O list e len good clear r a l p h f t = rw add-one (t ∙ ap₂ ◌&&◌ f (h ∙ rw (p, l)))
+unused-turn O list e len clear a l p h y f = rw add-one (ap₂ ◌&&◌ f (sym y ∙ h ∙ rw (p, l)))
+
+-- a bit that is set in an entry is found among any n that hold it
+unused-later : (O : ℕ) (list : List ℕ) (e n : ℕ) → e < n → unused_zero O (entry O list e) ≡ false → false ≡ unused_entries O list n
+unfolding unused_entries
+unused-later O list e zero k s = absurd (omega arith)
+unused-later O list e (suc n) k s =
+    ⊎_elim
+    (λ (h : e < n). rw (← unused-later O list e n h s) refl)
+    (λ (h : n ≤ e). let q : e ≡ n = omega arith in
+    let t : unused_zero O (entry O list n) ≡ false = rw q at s in rw t (both (unused_entries O list n)))
+    (lt-or-le e n)
+  where
+    both : (b : Bool) → false ≡ b && false
+    both true = refl
+    both false = refl
+
+pub unused-hit : (O : ℕ) (list : List ℕ) (e n len : ℕ) (clear : Bool) (a : List ℕ) → len ≡ oct O → a ≡ row_of list len e
+    → clear ≡ unused_zero O a → clear ≡ false → e < n → false ≡ unused_entries O list n
+unused-hit O list e n len clear a l p h y k = unused-later O list e n k (sym (sym y ∙ h ∙ rw (p, l)))
 
 -- bit j of an entry is inside it
 pub bit-inside : (O : ℕ) (list : List ℕ) (e j len : ℕ) (a : List ℕ) → len ≡ oct O → a ≡ row_of list len e → e < entries O list → j < O → j < 8 * length a

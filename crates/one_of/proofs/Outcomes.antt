@@ -14,7 +14,7 @@ use Rattle.bits.specs.Bits.{oct}
 use Rattle.bits.proofs.Tabulate.{length-tabulate}
 use Rattle.refusal.specs.Outcome.{refusal_at, success, Outcome, unless}
 use Rattle.refusal.specs.Refusal.{number_of}
-use Rattle.refusal.specs.declared.Refusal.{Refusal}
+use Rattle.std.specs.Prelude.{Result, Ok, Err}
 use Rattle.refusal.specs.declared.Refusal.TheVariants.{Limits, BufferLength, UnusedBits, ListLength}
 use Rattle.circuit.specs.Answers.{read_paper}
 use Rattle.circuit.specs.Building.{builds}
@@ -22,8 +22,7 @@ use Rattle.circuit.specs.Fields as fields
 use Rattle.circuit.specs.File.{width, max_gates, fields_of, outputs_of, output_wire, circuit_of}
 use Rattle.circuit.specs.Operations.{read_op}
 use Rattle.circuit.specs.Steps.{Laid, Legal}
-use Rattle.circuit.specs.declared.ReadAnswer.{ReadAnswer}
-use Rattle.circuit.specs.declared.ReadAnswer.TheVariants as read_answer
+use Rattle.circuit.specs.declared.Fault.{Fault}
 use Rattle.circuit.specs.declared.Sizes.{Sizes}
 use Rattle.circuit.proofs.Answered.{read-legal, refusal-refused}
 use Rattle.circuit.proofs.Outcomes.{legal-passed, legal-sizes}
@@ -33,7 +32,6 @@ use Rattle.building.proofs.Built.{built, not-built, file-length}
 use Rattle.one_of.specs.Answers.{outcome}
 use Rattle.one_of.specs.OneOf.{entries, added, total, parts_of, one_of_file, room_for, right_size, max_entries, unused_entries, one_of_legal, one_of_op}
 use Rattle.one_of.specs.Steps.{Given}
-use Rattle.one_of.specs.declared.Answer.TheVariants.{Written, Refused}
 use Rattle.one_of.proofs.Coded.{all_same}
 use Rattle.one_of.proofs.Legal.{some-entries}
 use Rattle.one_of.proofs.Small.{few-added, limits_of}
@@ -63,7 +61,7 @@ module _ (s list : List ℕ) (z : Sizes) (n : ℕ) (laid : Laid s z.inputs z.out
   abbrev Rest : List ℕ → Outcome
   Rest out = unless (room_for z.gates z.outputs n) 2 (out ∷ []) (builds (one_of_file s list) out)
 
-  pub too_many : (out : List ℕ) → max_gates < z.gates + z.outputs + n * (z.outputs + 1) → outcome (Refused Limits) out ≡ Rest out
+  pub too_many : (out : List ℕ) → max_gates < z.gates + z.outputs + n * (z.outputs + 1) → outcome (Err Limits) out ≡ Rest out
   too_many out h = sym (rw (lt-leb (z.gates + z.outputs + n * (z.outputs + 1)) max_gates h))
 
   module _ (many : 1 ≤ n) (room : z.gates + z.outputs + n * (z.outputs + 1) ≤ max_gates) (t : ℕ) (e : t ≡ z.gates + z.outputs + 1 + n * z.outputs) where
@@ -84,10 +82,10 @@ module _ (s list : List ℕ) (z : Sizes) (n : ℕ) (laid : Laid s z.inputs z.out
     there : (out : List ℕ) → Rest out ≡ builds (one_of_file s list) out
     there out = rw (le-leb (z.gates + z.outputs + n * (z.outputs + 1)) max_gates room)
 
-    pub too_short : (out : List ℕ) → length out < width * (5 + 4 * t) → outcome (Refused BufferLength) out ≡ Rest out
+    pub too_short : (out : List ℕ) → length out < width * (5 + 4 * t) → outcome (Err BufferLength) out ≡ Rest out
     too_short out h = sym (there out ∙ not-built (one_of_file s list) out (omega (arith, same_length)))
 
-    pub done : (out new : List ℕ) → width * (5 + 4 * t) ≤ length out → new ≡ sets out 0 (one_of_file s list) → outcome (Written (width * (5 + 4 * t))) new ≡ Rest out
+    pub done : (out new : List ℕ) → width * (5 + 4 * t) ≤ length out → new ≡ sets out 0 (one_of_file s list) → outcome (Ok (width * (5 + 4 * t))) new ≡ Rest out
     done out new h p =
         let l : length (one_of_file s list) ≤ length out = omega (arith, same_length) in
         ap₂ (λ (k : ℕ) (x : List ℕ). record { answer = success (k ∷ []); left = x ∷ [] }) same_length (p ∙ at_front (one_of_file s list) out l)
@@ -106,17 +104,17 @@ module _ (s list out : List ℕ) (z : Sizes) (l : Legal s z.inputs z.outputs z.g
   legal-form = rw (l.laid.outputs, l.laid.gates, length-tabulate (outputs_of s) (output_wire s), count-gates (fields_of s))
 
   module _ (len : ℕ) (e : len ≡ oct z.outputs) where
-    pub empty : length list < 1 → outcome (Refused ListLength) out ≡ one_of_legal s list out (circuit_of s)
+    pub empty : length list < 1 → outcome (Err ListLength) out ≡ one_of_legal s list out (circuit_of s)
     empty h = sym (legal-form ∙ rw (lt-leb 1 (length list) h))
 
-    pub long : 1 ≤ length list → max_entries * len < length list → outcome (Refused ListLength) out ≡ one_of_legal s list out (circuit_of s)
+    pub long : 1 ≤ length list → max_entries * len < length list → outcome (Err ListLength) out ≡ one_of_legal s list out (circuit_of s)
     long a h = sym (legal-form ∙ rw (le-leb 1 (length list) a, lt-leb (length list) (max_entries * oct z.outputs) (omega arith)))
 
     module _ (a : 1 ≤ length list) (b : length list ≤ max_entries * len) where
       sized : right_size z.outputs list ≡ true
       sized = rw (le-leb 1 (length list) a, le-leb (length list) (max_entries * oct z.outputs) (omega arith))
 
-      pub uneven : (length list % len ≡ 0 → ⊥) → outcome (Refused BufferLength) out ≡ one_of_legal s list out (circuit_of s)
+      pub uneven : (length list % len ≡ 0 → ⊥) → outcome (Err BufferLength) out ≡ one_of_legal s list out (circuit_of s)
       uneven h = sym (legal-form ∙ rw (sized, ne_eqb (length list % oct z.outputs) 0 (λ q. h (ap (λ (k : ℕ). length list % k) e ∙ q))))
 
       module _ (c : length list % len ≡ 0) (r : Bool) (f : r ≡ unused_entries z.outputs list (length list / len)) where
@@ -126,21 +124,21 @@ module _ (s list out : List ℕ) (z : Sizes) (l : Legal s z.inputs z.outputs z.g
         test : r ≡ unused_entries z.outputs list (entries z.outputs list)
         test = f ∙ ap (λ (k : ℕ). unused_entries z.outputs list (length list / k)) e
 
-        pub unclean : not r ≡ true → outcome (Refused UnusedBits) out ≡ one_of_legal s list out (circuit_of s)
+        pub unclean : not r ≡ true → outcome (Err UnusedBits) out ≡ one_of_legal s list out (circuit_of s)
         unclean h = sym (legal-form ∙ rw (sized, whole, sym test ∙ not-true r h))
 
         pub clean : not r ≡ false → rest (length list / len) ≡ one_of_legal s list out (circuit_of s)
         clean h = ap (λ (k : ℕ). rest (length list / k)) e ∙ sym (legal-form ∙ rw (sized, whole, sym test ∙ not-false r h))
 
 -- the circuit is read first
-pub refused-first : (s list out : List ℕ) (k : Refusal) {y : ℕ} (r : ReadAnswer) → r ≡ read_answer.Refused k y → read_paper r ≡ read_op s
-    → outcome (Refused k) out ≡ one_of_op s list out
+pub refused-first : (s list out : List ℕ) (f : Fault) (r : Result Sizes Fault) → r ≡ Err f → read_paper r ≡ read_op s
+    → outcome (Err f.refusal) out ≡ one_of_op s list out
 unfolding one_of_op
-refused-first s list out k {y} r p e =
-    let q : refusal_at (number_of k) y ≡ read_op s = sym (ap read_paper p) ∙ e in
-    rw (refusal-refused s (number_of k) y q)
+refused-first s list out f r p e =
+    let q : refusal_at (number_of f.refusal) f.slot ≡ read_op s = sym (ap read_paper p) ∙ e in
+    rw (refusal-refused s (number_of f.refusal) f.slot q)
 
-module _ (s list out : List ℕ) (z : Sizes) (r : ReadAnswer) (p : r ≡ read_answer.Legal z) (e : read_paper r ≡ read_op s) where
+module _ (s list out : List ℕ) (z : Sizes) (r : Result Sizes Fault) (p : r ≡ Ok z) (e : read_paper r ≡ read_op s) where
   pub read_first : one_of_op s list out ≡ one_of_legal s list out (circuit_of s)
   unfolding one_of_op
   read_first = rw (read-legal s (legal-passed s z r p e))

@@ -17,10 +17,8 @@ pub fn clear_words(l: Layout, q: usize, count: usize, memory: &mut [u8])
     requires { Room l memory.old × (q + count ≤ tape_words l) }
     ensures { memory.new ≡ words_cleared l q count memory.old }
 {
-    let mut t = 0;
-    while t < count {
+    for t in 0..count {
         put_tape(memory, l, q + t, 0);
-        t += 1;
     }
 }
 
@@ -29,10 +27,8 @@ fn load_words(l: Layout, n: usize, len: usize, memory: &mut [u8])
     requires { Room l memory.old × ((1 ≤ n) × ((n ≤ 64) × ((rows_at l + n * len ≤ length memory.old) × (8 * len ≤ l.inputs + 2 * l.ands + 7)))) }
     ensures { memory.new ≡ words_loaded l n (drop (rows_at l) memory.old) len (drop (corrections_at l) memory.old) memory.old }
 {
-    let ands = l.ands;
     load_rows(l, memory, len, n);
-    let end = broadcast_word(l, ands);
-    clear_words(l, end, l.outputs + 7, memory);
+    clear_words(l, broadcast_word(l, l.ands), l.outputs + 7, memory);
     put_corrections(l, n - 1, memory);
 }
 
@@ -41,13 +37,10 @@ fn load_inputs(l: Layout, count: usize, values: &[u8], memory: &mut [u8])
     requires { Room l memory.old × ((count ≤ l.wires) × ((count ≤ l.inputs) × (count ≤ 8 * length values.now))) }
     ensures { memory.new ≡ inputs_loaded l count values.now memory.old }
 {
-    let mut w = 0;
-    while w < count {
+    for w in 0..count {
         let x = tape(memory, l, w);
-        let v = bits::bit(values, w);
         put_share(memory, l, w, x);
-        put_masked(memory, l, w, v);
-        w += 1;
+        put_masked(memory, l, w, bits::bit(values, w));
     }
 }
 
@@ -57,12 +50,10 @@ pub fn mask_inputs(l: Layout, count: usize, witness: &[u8], memory: &[u8], maske
     ensures { masked.new ≡ pack (tabulate count (masked_bit l witness.now memory.now)) }
 {
     bits::clear(masked);
-    let mut w = 0;
-    while w < count {
+    for w in 0..count {
         let x = words::parity(tape(memory, l, w));
         let v = bits::bit(witness, w);
         bits::put_bit(masked, w, v ^ x);
-        w += 1;
     }
 }
 

@@ -80,8 +80,7 @@ fn word_bit(x: u64, i: usize) -> u8
     requires { i < 64 }
     ensures { result ≡ bit_val (test_bit x i) }
 {
-    let y = x >> (i as u64);
-    (y % 2) as u8
+    ((x >> (i as u64)) % 2) as u8
 }
 
 // Packs party i's bits of the first count broadcasts, the rest zero.
@@ -90,12 +89,8 @@ pub fn pack_row(memory: &[u8], l: Layout, i: usize, count: usize, out: &mut [u8]
     ensures { out.new ≡ pack (tabulate (8 * length out.old) (λ t. ltb t count && sent_bit l memory.now i t)) }
 {
     bits::clear(out);
-    let mut t = 0;
-    while t < count {
-        let q = broadcast_word(l, t);
-        let x = tape(memory, l, q);
-        let v = word_bit(x, i);
-        bits::put_bit(out, t, v);
-        t += 1;
+    for t in 0..count {
+        let x = tape(memory, l, broadcast_word(l, t));
+        bits::put_bit(out, t, word_bit(x, i));
     }
 }

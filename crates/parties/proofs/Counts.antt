@@ -1,13 +1,15 @@
 -- The party counts are powers of two between 2 and 64.
 -- Assumes nothing.
 use native.Mathlib.Omega.{arith}
-use mathlib.Core.Path.{◌≡◌, refl}
+use mathlib.Core.Path.{◌≡◌, refl, sym, ap, ◌∙◌}
 use mathlib.Core.Logic.{⊎_elim}
-use mathlib.Core.Bool.{true, false}
+use mathlib.Core.Bool.{true, false, not, true≢false}
 use Prim.Native.Nat.{ℕ, ◌^◌, ◌≤◌}
 use borrow.Author.Tests.{eq-eqb, ne_eqb}
+use Rattle.std.specs.Prelude.{Bool, cond, eqb, Option, Some, None, is_some}
+use Rattle.std.proofs.lemmas.Option.{none-some, same_Some}
 use Rattle.bits.proofs.Numbers.{eq-or-ne}
-use Rattle.parties.specs.Parties.{height_of, is_party_count}
+use Rattle.parties.specs.Parties.{height_of, is_party_count, counted}
 
 -- what holds of each party count, and of a number that is none
 height-cases : (P : ℕ → ℕ → Type 0) → P 2 1 → P 4 2 → P 8 3 → P 16 4 → P 32 5 → P 64 6 → ((n : ℕ) → P n 0) → (n : ℕ) → P n (height_of n)
@@ -46,6 +48,51 @@ count_yes n more = rw (ne_eqb (height_of n) 0 more)
 pub count_no : (n : ℕ) → height_of n ≡ 0 → is_party_count n ≡ false
 unfolding is_party_count
 count_no n e = rw (eq-eqb (height_of n) 0 e)
+
+-- what the height of a number says: it is a party count, or none
+pub record Count (n h : ℕ) : Type 0 where
+  pub is : h ≡ height_of n
+  pub more : h ≡ 0 → ⊥
+  pub some : height_of n ≡ 0 → ⊥
+
+pub is_count : (n h : ℕ) (o : Option ℕ) → o ≡ counted n → o ≡ Some h → Count n h
+unfolding counted
+is_count n h o c i =
+    let e : Some h ≡ counted n = sym i ∙ c in
+    ⊎_elim
+    (λ (q : height_of n ≡ 0). absurd (none-some h (sym (e ∙ ap (λ (b : Bool). cond b None (Some (height_of n))) (eq-eqb (height_of n) 0 q)))))
+    (λ (more : height_of n ≡ 0 → ⊥).
+    let s : h ≡ height_of n = same_Some h (height_of n) (e ∙ ap (λ (b : Bool). cond b None (Some (height_of n))) (ne_eqb (height_of n) 0 more)) in
+    record { is = s; more = λ z. more (sym s ∙ z); some = more })
+    (eq-or-ne (height_of n) 0)
+
+pub no_count : (n : ℕ) (o : Option ℕ) → o ≡ counted n → o ≡ None → height_of n ≡ 0
+unfolding counted
+no_count n o c i =
+    let e : None ≡ counted n = sym i ∙ c in
+    ⊎_elim
+    (λ (q : height_of n ≡ 0). q)
+    (λ (more : height_of n ≡ 0 → ⊥). absurd (none-some (height_of n) (e ∙ ap (λ (b : Bool). cond b None (Some (height_of n))) (ne_eqb (height_of n) 0 more))))
+    (eq-or-ne (height_of n) 0)
+
+-- and what its test says
+told : (n : ℕ) (o : Option ℕ) (r : Bool) → o ≡ counted n → is_some o ≡ not r → is_party_count n ≡ not r
+unfolding counted is_party_count
+told n o r c e = sym (seen (eqb (height_of n) 0) (height_of n)) ∙ ap is_some (sym c) ∙ e
+  where
+    seen : (b : Bool) (h : ℕ) → is_some (cond b None (Some h)) ≡ not b
+    seen true h = refl
+    seen false h = refl
+
+pub some_height : (n : ℕ) (o : Option ℕ) (r : Bool) → o ≡ counted n → is_some o ≡ not r → r ≡ false → height_of n ≡ 0 → ⊥
+some_height n o r c e t z = true≢false (sym (told n o r c e ∙ ap not t) ∙ count_no n z)
+
+pub no_height : (n : ℕ) (o : Option ℕ) (r : Bool) → o ≡ counted n → is_some o ≡ not r → r ≡ true → height_of n ≡ 0
+no_height n o r c e t =
+    ⊎_elim
+    (λ (q : height_of n ≡ 0). q)
+    (λ (more : height_of n ≡ 0 → ⊥). absurd (true≢false (sym (count_yes n more) ∙ told n o r c e ∙ ap not t)))
+    (eq-or-ne (height_of n) 0)
 
 -- the sizes of the tree of a party count
 pub record Sizes (n : ℕ) : Type 0 where

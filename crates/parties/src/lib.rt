@@ -2,25 +2,20 @@
 #![tactic(auto)]
 
 ghost use Rattle.std.specs.Prelude.{◌≡◌};
-ghost use Rattle.parties.specs.Parties.{height_of};
+ghost use Rattle.parties.specs.Parties.{counted};
 
-// The height of the tree for n parties; 0 where n is no party count.
-pub fn height(n: u32) -> u32
-    ensures { result ≡ height_of n }
+// The height of the tree for n parties; None where n is no party count.
+#[tactic(auto, unfolding(crate::specs::Parties::height_of, crate::specs::Parties::counted))]
+pub fn height(n: u32) -> Option<u32>
+    ensures { result ≡ counted n }
 {
-    if n == 2 {
-        1
-    } else if n == 4 {
-        2
-    } else if n == 8 {
-        3
-    } else if n == 16 {
-        4
-    } else if n == 32 {
-        5
-    } else if n == 64 {
-        6
-    } else {
-        0
+    match n {
+        2 => Some(1),
+        4 => Some(2),
+        8 => Some(3),
+        16 => Some(4),
+        32 => Some(5),
+        64 => Some(6),
+        _ => None,
     }
 }

@@ -61,7 +61,7 @@ fn clear_from(s: &mut [u8], k: usize)
 {
     let at = k / 8;
     if at < s.len() {
-        s[at] = s[at] % (1u8 << ((k % 8) as u8));
+        s[at] %= 1u8 << ((k % 8) as u8);
         let next = at + 1;
         clear(&mut s[next..]);
     }
@@ -83,12 +83,9 @@ pub fn four_tapes(j: Context, i: u32, seeds: [u8; 64], used: [usize; 4], rows: &
 {
     four_rows(4, j, i, &seeds, rows);
     let len = rows.len() / 4;
-    let mut k = 0;
-    while k < 4 {
+    for k in 0..4 {
         let at = k * len;
-        let end = at + len;
-        clear_from(&mut rows[at..end], used[k]);
-        k += 1;
+        clear_from(&mut rows[at..at + len], used[k]);
     }
 }
 

@@ -220,7 +220,7 @@ pub fn iota(mut a: [u64; 25], ir: usize) -> [u64; 25]
     requires { ir < 24 }
     ensures { result ≡ lanes (ι (lane_array a) ir) }
 {
-    a[0] = a[0] ^ round_constant(ir);
+    a[0] ^= round_constant(ir);
     a
 }
 
@@ -237,11 +237,10 @@ pub fn keccak_f(a: [u64; 25]) -> [u64; 25]
     ensures { result ≡ lanes (rounds 24 (lane_array a)) }
 {
     let mut s = a;
-    let mut ir: usize = 0;
-    while ir < 24 {
+    for ir in 0..24 {
+        // Not s = round(s, ir): the borrow checker does not cover a call's result that is laid in an array.
         let next = round(s, ir);
         s = next;
-        ir += 1;
     }
     s
 }
@@ -250,7 +249,6 @@ pub fn keccak_f(a: [u64; 25]) -> [u64; 25]
 pub fn permute(a: &mut [u64; 25])
     ensures { a.new ≡ lanes (rounds 24 (lane_array a.old)) }
 {
-    let s = *a;
-    let t = keccak_f(s);
+    let t = keccak_f(*a);
     *a = t;
 }

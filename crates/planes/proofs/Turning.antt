@@ -2,7 +2,7 @@
 -- Assumes nothing.
 use mathlib.Core.Path.{◌≡◌, refl, sym, ap, ap₂, ◌∙◌}
 use mathlib.Core.Bool.{Bool, cond}
-use mathlib.Core.List.{List, [], ◌∷◌}
+use mathlib.Core.List.{List, [], ◌∷◌, ◌++◌}
 use mathlib.Core.Logic.{⊎_elim, ◌≢◌}
 use Prim.Native.Nat.{ℕ, zero, suc, ◌+◌, ◌-◌, ◌*◌, ◌/◌, ◌%◌, ◌^◌, ◌≤◌, ◌<◌}
 use native.Mathlib.Nat.{add-mul, add-suc, add-zero, lt_of_lt_of_le, mul_assoc, mul_comm, mul-le-mul_right}
@@ -10,8 +10,10 @@ use native.Mathlib.Numerals.{add-one}
 use native.Mathlib.Omega.{arith}
 use borrow.Author.Tests.{lt-ltb, le-ltb}
 use lib.Dec.{ltb}
-use lib.ListN.{length, get_or, set}
+use lib.ListN.{length, get_or, take, drop, replicate}
 use lib.Seq.{sets}
+use Rattle.std.proofs.lemmas.Grind.{same_number_lists}
+use Rattle.std.proofs.lemmas.List.{places}
 use lib.Pow.{pow_mono, pow_pos}
 use Rattle.bits.specs.Bits.{bit_val, odd, test_bit, from_bits, bit_at}
 use Rattle.bits.specs.Bytes.{le_at, le_bytes}
@@ -20,21 +22,26 @@ use Rattle.bits.proofs.Packing.{bit_at-byte}
 use Rattle.words.specs.Words.{every, place, chosen}
 use Rattle.words.specs.Steps.{at, fill, turned}
 use Rattle.blocks.specs.Steps.{column_words, transposed_rows, stored_column}
-use Rattle.words.proofs.Fill.{fill-at, fill-cong, fill-join, fill-length, fill_none, fill-other, fill-turn}
+use Rattle.words.proofs.Fill.{fill-at, fill-cong, fill-join, fill-length, fill_none, fill-other}
 use Rattle.words.proofs.Turns.{blocks, blocks-bit, blocks-lt, le_at-blocks}
 use Rattle.blocks.proofs.Columns.{column-bits, column-end, column-turned}
 use Rattle.planes.specs.Steps.{tape_words, tape_at, broadcast_word, cleared, cleared_tapes, loaded_words, rows_in, loaded_groups, loaded_tapes, stored_words, stored_groups, stored_rows, put_bits, put_party}
 use Rattle.planes.specs.declared.Layout.{Layout}
 
--- no byte is cleared yet
-pub clear_none : (to : ℕ) (w : List ℕ) → w ≡ cleared to 0 w
+-- a part cleared at once: what stands before it, zeros, and what stands after it
+pub clear-part : (to count : ℕ) (m : List ℕ) → to + count ≤ length m → take to m ++ replicate count 0 ++ drop (to + count) m ≡ cleared to count m
 unfolding cleared
-clear_none to w = fill_none _ _ w
-
--- one more
-pub clear-turn : (to j : ℕ) (w m : List ℕ) → m ≡ cleared to j w → set m (to + j) 0 ≡ cleared to (j + 1) w
-unfolding cleared
-clear-turn to j w m e = fill-turn _ _ w m j (to + j) 0 e refl refl
+clear-part to count m h =
+    same_number_lists _ _ (search (arith, places, fill-length))
+    (λ k l.
+    let byte : ℕ → ℕ = at (cleared to count m) in
+    let before : k < to → byte k ≡ at m k = λ q. fill-other (λ j. to + j) (λ j. 0) m count k (λ u r. omega arith) in
+    let zero_at : to ≤ k → k < to + count → byte k ≡ 0 =
+    λ p q.
+    let r : k ≡ to + (k - to) = omega arith in
+    ap byte r ∙ fill-at (λ j. to + j) (λ j. 0) m count (k - to) (omega arith) (omega arith) (λ u a b. omega arith) in
+    let after : to + count ≤ k → byte k ≡ at m k = λ q. fill-other (λ j. to + j) (λ j. 0) m count k (λ u r. omega arith) in
+    grind (arith, places, before, zero_at, after))
 
 -- no byte yet
 pub load-none : (n : ℕ) (s : List ℕ) (a len to : ℕ) (w : List ℕ) → w ≡ loaded_words n s a len 0 to w

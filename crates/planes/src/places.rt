@@ -49,8 +49,7 @@ pub fn planes_end(l: Layout) -> usize
     requires { (l.wires ≤ 1048576) × (tape_words l ≤ 4194304) }
     ensures { result ≡ planes_end l }
 {
-    let w = l.wires;
-    masked_at(l, w)
+    masked_at(l, l.wires)
 }
 
 // The place of the seeds of up to 64 parties: that of the tape words, before these are loaded.
@@ -74,8 +73,7 @@ fn spare(l: Layout) -> usize
     requires { (l.wires ≤ 1048576) × (tape_words l ≤ 4194304) }
     ensures { result ≡ spare l }
 {
-    let used = 8 * tape_words(l) + l.wires;
-    if used < 2048 { 2048 - used } else { 0 }
+    2048_usize.saturating_sub(8 * tape_words(l) + l.wires)
 }
 
 // The place of the corrections: after the planes.
@@ -131,8 +129,7 @@ pub fn put_tape(memory: &mut [u8], l: Layout, q: usize, x: u64)
     requires { Room l memory.old × (q < tape_words l) }
     ensures { memory.new ≡ put_tape l q x memory.old }
 {
-    let k = tape_at(l, q);
-    bits::write_u64(memory, k, x);
+    bits::write_u64(memory, tape_at(l, q), x);
 }
 
 // The masked value of wire w, in the lowest bit.
@@ -140,8 +137,7 @@ pub fn masked(memory: &[u8], l: Layout, w: usize) -> u8
     requires { Room l memory.now × (w < l.wires) }
     ensures { result ≡ masked l memory.now w }
 {
-    let k = masked_at(l, w);
-    memory[k]
+    memory[masked_at(l, w)]
 }
 
 // Puts the masked value of wire w.
@@ -149,6 +145,5 @@ pub fn put_masked(memory: &mut [u8], l: Layout, w: usize, x: u8)
     requires { Room l memory.old × (w < l.wires) }
     ensures { memory.new ≡ put_masked l w x memory.old }
 {
-    let k = masked_at(l, w);
-    memory[k] = x;
+    memory[masked_at(l, w)] = x;
 }

@@ -15,10 +15,8 @@ fn store_eight(memory: &[u8], from: usize, n: usize, rows: &mut [u8], a: usize, 
     ensures { rows.new ≡ stored_words n memory.now «from» 8 a len rows.old }
 {
     let r = transpose_rows(read_columns(memory, from));
-    let mut b = 0;
-    while b < 8 {
+    for b in 0..8 {
         store_column(r, b, rows, a + b, len, n);
-        b += 1;
     }
 }
 
@@ -28,15 +26,12 @@ fn store_words(memory: &[u8], from: usize, n: usize, rows: &mut [u8], a: usize, 
     requires { (n ≤ 8) × ((«from» + 64 * len ≤ length memory.now + 7) × (a + n * len ≤ length rows.old)) }
     ensures { rows.new ≡ stored_words n memory.now «from» len a len rows.old }
 {
-    let mut k = 0;
-    while k < len {
-        if len - k >= 8 {
-            store_eight(memory, from + 64 * k, n, rows, a + k, len);
-            k += 8;
-        } else {
-            turn(memory, from + 64 * k, 8, 8, rows, a + k, len, n);
-            k += 1;
-        }
+    for g in 0..len / 8 {
+        let k = 8 * g;
+        store_eight(memory, from + 64 * k, n, rows, a + k, len);
+    }
+    for k in 8 * (len / 8)..len {
+        turn(memory, from + 64 * k, 8, 8, rows, a + k, len, n);
     }
 }
 
@@ -45,11 +40,8 @@ fn store_groups(memory: &[u8], from: usize, n: usize, rows: &mut [u8], len: usiz
     requires { (n ≤ 64) × ((«from» + 64 * len ≤ length memory.now) × (n * len ≤ length rows.old)) }
     ensures { rows.new ≡ stored_groups n memory.now «from» len ((n + 7) / 8) rows.old }
 {
-    let mut g = 0;
-    while 8 * g < n {
-        let count = rows_in(n, g);
-        store_words(memory, from + g, count, rows, g * (8 * len), len);
-        g += 1;
+    for g in 0..n.div_ceil(8) {
+        store_words(memory, from + g, rows_in(n, g), rows, g * (8 * len), len);
     }
 }
 
@@ -68,10 +60,8 @@ fn store_eight_within(memory: &mut [u8], from: usize, n: usize, a: usize, len: u
     ensures { memory.new ≡ stored_words n memory.old «from» 8 a len memory.old }
 {
     let r = transpose_rows(read_columns(memory, from));
-    let mut b = 0;
-    while b < 8 {
+    for b in 0..8 {
         store_column(r, b, memory, a + b, len, n);
-        b += 1;
     }
 }
 
@@ -80,15 +70,12 @@ fn store_within(memory: &mut [u8], from: usize, n: usize, a: usize, len: usize)
     requires { (n ≤ 8) × ((«from» + 64 * len ≤ a + 7) × (a + n * len ≤ length memory.old)) }
     ensures { memory.new ≡ stored_words n memory.old «from» len a len memory.old }
 {
-    let mut k = 0;
-    while k < len {
-        if len - k >= 8 {
-            store_eight_within(memory, from + 64 * k, n, a + k, len);
-            k += 8;
-        } else {
-            turn_within(memory, from + 64 * k, 8, 8, a + k, len, n);
-            k += 1;
-        }
+    for g in 0..len / 8 {
+        let k = 8 * g;
+        store_eight_within(memory, from + 64 * k, n, a + k, len);
+    }
+    for k in 8 * (len / 8)..len {
+        turn_within(memory, from + 64 * k, 8, 8, a + k, len, n);
     }
 }
 

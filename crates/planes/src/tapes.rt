@@ -14,11 +14,7 @@ fn clear_part(memory: &mut [u8], to: usize, count: usize)
     requires { to + count ≤ length memory.old }
     ensures { memory.new ≡ cleared to count memory.old }
 {
-    let mut j = 0;
-    while j < count {
-        memory[to + j] = 0;
-        j += 1;
-    }
+    memory[to..to + count].fill(0);
 }
 
 // Brings byte k of each of n rows of len bytes of the memory, n at most 8, which are one part of it from byte a on, into 8 words: bit t of
@@ -41,10 +37,8 @@ fn load_block(memory: &mut [u8], a: usize, len: usize, n: usize, k: usize, to: u
     let rows = bits::row(&memory[a..], n * len, 0);
     let w = transpose_rows(read_rows(rows, k, len, n));
     let first = to + 64 * k;
-    let mut b = 0;
-    while b < 8 {
+    for b in 0..8 {
         store_column(w, b, memory, first + 64 * b, 8, 8);
-        b += 1;
     }
 }
 
@@ -54,15 +48,11 @@ fn load_words(memory: &mut [u8], a: usize, len: usize, n: usize, to: usize)
     requires { (n ≤ 8) × ((a + n * len ≤ length memory.old) × (to + 64 * len ≤ a + 7)) }
     ensures { memory.new ≡ loaded_words n memory.old a len len to memory.old }
 {
-    let mut k = 0;
-    while k < len {
-        if len - k >= 8 {
-            load_block(memory, a, len, n, k, to);
-            k += 8;
-        } else {
-            turn_rows(memory, a, len, n, k, to);
-            k += 1;
-        }
+    for g in 0..len / 8 {
+        load_block(memory, a, len, n, 8 * g, to);
+    }
+    for k in 8 * (len / 8)..len {
+        turn_rows(memory, a, len, n, k, to);
     }
 }
 
@@ -71,8 +61,7 @@ pub fn rows_in(n: usize, g: usize) -> usize
     requires { 8 * g < n }
     ensures { (result ≡ rows_in n g) × ((result ≤ 8) × (8 * g + result ≤ n)) }
 {
-    let left = n - 8 * g;
-    if left < 8 { left } else { 8 }
+    (n - 8 * g).min(8)
 }
 
 // Brings the rows of n parties, the first from byte a of the memory on, into the words from `to` on, a group at a time.
@@ -80,11 +69,8 @@ fn load_groups(memory: &mut [u8], a: usize, len: usize, n: usize, to: usize)
     requires { (n ≤ 64) × ((a + n * len ≤ length memory.old) × (to + 64 * len ≤ a)) }
     ensures { memory.new ≡ loaded_groups n (drop a memory.old) len ((n + 7) / 8) to memory.old }
 {
-    let mut g = 0;
-    while 8 * g < n {
-        let count = rows_in(n, g);
-        load_words(memory, a + g * (8 * len), len, count, to + g);
-        g += 1;
+    for g in 0..n.div_ceil(8) {
+        load_words(memory, a + g * (8 * len), len, rows_in(n, g), to + g);
     }
 }
 
@@ -113,13 +99,11 @@ fn put_byte(memory: &mut [u8], to: usize, hidden: u64, x: u8)
     requires { to + 64 ≤ length memory.old }
     ensures { memory.new ≡ put_bits to hidden (x ∷ []) 8 memory.old }
 {
-    let mut t = 0;
-    while t < 8 {
+    for t in 0..8 {
         let old = bits::read_u64(memory, to + 8 * t);
         let new = every(x >> (t as u8));
         let y = chosen(hidden, new, old);
         bits::write_u64(memory, to + 8 * t, y);
-        t += 1;
     }
 }
 
@@ -128,12 +112,8 @@ fn put_bytes(memory: &mut [u8], to: usize, hidden: u64, row: &[u8], count: usize
     requires { (to + 8 * count ≤ length memory.old) × (count ≤ 8 * length row.now) }
     ensures { memory.new ≡ put_bits to hidden row.now (8 * (count / 8)) memory.old }
 {
-    let whole = count / 8;
-    let mut k = 0;
-    while k < whole {
-        let x = row[k];
-        put_byte(memory, to + 64 * k, hidden, x);
-        k += 1;
+    for k in 0..count / 8 {
+        put_byte(memory, to + 64 * k, hidden, row[k]);
     }
 }
 
@@ -143,13 +123,11 @@ fn put_bits(memory: &mut [u8], to: usize, hidden: u64, row: &[u8], count: usize)
     ensures { memory.new ≡ put_bits to hidden row.now count memory.old }
 {
     put_bytes(memory, to, hidden, row, count);
-    let mut t = 8 * (count / 8);
-    while t < count {
+    for t in 8 * (count / 8)..count {
         let old = bits::read_u64(memory, to + 8 * t);
         let new = every(bits::bit(row, t));
         let x = chosen(hidden, new, old);
         bits::write_u64(memory, to + 8 * t, x);
-        t += 1;
     }
 }
 
@@ -168,12 +146,9 @@ fn put_held_bytes(memory: &mut [u8], to: usize, hidden: u64, a: usize, count: us
     requires { (a ≤ 1073741824) × ((to + 8 * count ≤ a) × (8 * a + count ≤ 8 * length memory.old)) }
     ensures { memory.new ≡ put_bits to hidden (drop a memory.old) (8 * (count / 8)) memory.old }
 {
-    let whole = count / 8;
-    let mut k = 0;
-    while k < whole {
+    for k in 0..count / 8 {
         let x = memory[a + k];
         put_byte(memory, to + 64 * k, hidden, x);
-        k += 1;
     }
 }
 
@@ -183,13 +158,11 @@ fn put_held_bits(memory: &mut [u8], to: usize, hidden: u64, a: usize, count: usi
     ensures { memory.new ≡ put_bits to hidden (drop a memory.old) count memory.old }
 {
     put_held_bytes(memory, to, hidden, a, count);
-    let mut t = 8 * (count / 8);
-    while t < count {
+    for t in 8 * (count / 8)..count {
         let old = bits::read_u64(memory, to + 8 * t);
         let new = every(bits::bit(memory, 8 * a + t));
         let x = chosen(hidden, new, old);
         bits::write_u64(memory, to + 8 * t, x);
-        t += 1;
     }
 }
 

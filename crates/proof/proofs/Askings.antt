@@ -14,7 +14,8 @@ use Rattle.bits.proofs.Numbers.{lt-or-le}
 use Rattle.bits.proofs.Tabulate.{length-tabulate, get_d_tabulate, get_or-tabulate-end}
 use Rattle.parties.specs.Parties.{height_of}
 use Rattle.refusal.specs.Outcome.{Outcome, done}
-use Rattle.seeds.specs.declared.Answer.{Answer}
+use Rattle.std.specs.Prelude.{⊤, Result}
+use Rattle.refusal.specs.declared.Refusal.{Refusal}
 use Rattle.keccak.specs.Sponge.{sha3_256}
 use Rattle.keccak.proofs.Lengths.{length-sha3-256}
 use Rattle.choice.specs.Challenge.{stream_of, instances, hidden_parties, beside, challenge_of, Ascending, more}
@@ -166,7 +167,7 @@ module _ (s : List ℕ) (M tau n : ℕ) (hstar salt y message lent : List ℕ) (
         eq-eqb (length lent) (3 * tau) room,
       )
 
-  pub challenge-drawn : (digest left : List ℕ) (r : Answer) → digest ≡ sha3_256 s → outcome r left ≡ challenge_op M tau n hstar salt digest y message lent
+  pub challenge-drawn : (digest left : List ℕ) (r : Result ⊤ Refusal) → digest ≡ sha3_256 s → outcome r left ≡ challenge_op M tau n hstar salt digest y message lent
       → left ≡ challenge_of M tau n hstar (statement_of salt M tau n s y message)
   challenge-drawn digest left r d e =
       ap (λ (o : Outcome). get_or o.left 0 [])

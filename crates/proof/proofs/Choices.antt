@@ -2,13 +2,13 @@
 -- Assumes nothing.
 use mathlib.Core.Path.{◌≡◌, refl, sym, ap, ap₂, ◌∙◌}
 use mathlib.Core.Bool.{Bool, cond}
-use mathlib.Core.List.{List, [], ◌∷◌, ◌++◌, append-nil}
+use mathlib.Core.List.{List, [], ◌∷◌}
 use Prim.Native.Nat.{ℕ, zero, suc, ◌+◌, ◌-◌, ◌*◌, ◌/◌, ◌≤◌, ◌<◌}
 use native.Mathlib.Numerals.{add-one}
 use native.Mathlib.Omega.{arith}
 use lib.Dec.{eqb, eqb-zero-suc, eqb-suc-zero, eqb-suc-suc}
-use lib.ListN.{length, get_or, set, drop, replicate, length-drop, get_or-eq_default}
-use lib.Seq.{drop-cons, drop-length, set_out}
+use lib.ListN.{length, get_or, set, drop, replicate, length-drop}
+use lib.Seq.{drop-cons, set_out}
 use Rattle.bits.specs.Bits.{tabulate}
 use Rattle.bits.specs.Bytes.{le_at}
 use Rattle.bits.proofs.Tabulate.{tabulate-cong}
@@ -47,21 +47,11 @@ choices-more n j s at h =
     ap (party_in n j) (three-more s at h)
     ∙ ap (λ (x : ℕ). cond (eqb x j) (get_or s (at + 2) 0) (party_in n j (drop (at + 3) s))) (sym (two_bytes s at))
 
--- all bytes are filled
-pub fill_end : (v : ℕ) (d : List ℕ) (i : ℕ) → i ≤ length d → length d ≤ i → replicate i v ++ drop i d ≡ replicate (length d) v
-fill_end v d i a b =
-    let e : i ≡ length d = omega arith in
-    rw (e, drop-length d) (append-nil _)
-
 -- an entry inside is the same whatever stands for none
 pub entry-inside : (s : List ℕ) (n j : ℕ) → j < length s → get_or s j 0 ≡ get_or s j n
 entry-inside [] n j h = absurd (omega arith)
 entry-inside (x ∷ s) n zero h = refl
 entry-inside (x ∷ s) n (suc j) h = entry-inside s n j (omega arith)
-
--- beyond the end stands none
-pub entry-beyond : (s : List ℕ) (n j : ℕ) → length s ≤ j → n ≡ get_or s j n
-entry-beyond s n j h = sym (get_or-eq_default s n h)
 
 -- equal entries
 same-table : (M n : ℕ) → replicate M n ≡ tabulate M (λ j. n)

@@ -1,6 +1,6 @@
 -- The proof file: its header, its length, and the place of each part (document 01, "Proof file"; document 02, orders 5 and 10).
 -- Assumes nothing.
-use Rattle.std.specs.Prelude.{Bool, not, ◌&&◌, List, [], ◌∷◌, ◌++◌, ℕ, zero, suc, ◌+◌, ◌-◌, ◌*◌, eqb, leb, length, get_or, take, drop}
+use Rattle.std.specs.Prelude.{Bool, ◌&&◌, List, [], ◌∷◌, ◌++◌, ℕ, zero, suc, ◌+◌, ◌-◌, ◌*◌, eqb, leb, length, get_or, take, drop}
 use Rattle.bits.specs.Bits.{oct}
 use Rattle.bits.specs.Bytes.{le_at, le_bytes}
 use Rattle.parties.specs.Parties.{height_of, is_party_count}

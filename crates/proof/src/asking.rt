@@ -35,25 +35,12 @@ fn draw_choices(
     let _ = challenge(m, tau, n, hstar, salt, &digest, y, message, choices);
 }
 
-// Fills the table with one byte.
-fn fill(v: u8, table: &mut [u8])
-    ensures { table.new ≡ replicate (length table.old) v }
-{
-    let mut k = 0;
-    while k < table.len() {
-        table[k] = v;
-        k += 1;
-    }
-}
-
 // Enters the bytes of a challenge into the table: for each instance its hidden party, or n where it is not chosen.
 fn enter(choices: &[u8], n: u8, table: &mut [u8])
     ensures { table.new ≡ table_of (length table.old) n choices.now }
 {
-    fill(n, table);
-    let mut k = choices.len() / 3;
-    while 0 < k {
-        k -= 1;
+    table.fill(n);
+    for k in (0..choices.len() / 3).rev() {
         let at = 3 * k;
         let j = bits::read_u16(choices, at) as usize;
         if j < table.len() {
@@ -88,11 +75,10 @@ pub fn draw_challenge(
 pub fn asked(table: &[u8], n: u32, j: u32) -> u32
     ensures { result ≡ get_or table.now j n }
 {
-    let at = j as usize;
-    if at < table.len() {
-        return table[at] as u32;
+    match table.get(j as usize) {
+        Some(p) => u32::from(*p),
+        None => n,
     }
-    n
 }
 
 // The bytes of the stretch of an instance of which p is asked.
@@ -118,11 +104,9 @@ pub fn proof_bytes(s: &[u8], z: Sizes, k: Counts, table: &[u8], opened: usize) -
     let n = k.parties;
     let h = k.height;
     let mut at = HEADER_BYTES + opened;
-    let mut j = 0;
-    while j < m {
+    for j in 0..m {
         let p = asked(table, n, j);
         at += stretch_bytes(s, z, n, h, p);
-        j += 1;
     }
     at
 }

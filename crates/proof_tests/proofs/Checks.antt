@@ -33,8 +33,8 @@ use Rattle.proof.proofs.Inside.{stretches-after, length-nodesAt}
 use Rattle.proof.proofs.Leaves.{leaves_at, hides-table, cover-in}
 use Rattle.proof.proofs.Askings.{asks-same, asking-challenge, length-table}
 use Rattle.proof_tests.specs.declared.Shape.{Shape}
-use Rattle.proof_tests.specs.declared.Entry.{Entry}
-use Rattle.proof_tests.specs.declared.Entry.TheVariants.{Refused, Taken}
+use Rattle.std.specs.Prelude.{Result, Ok, Err}
+use Rattle.refusal.specs.declared.Refusal.{Refusal}
 use Rattle.proof_tests.specs.Steps.{all_unused, all_outputs, recomputed, tested, judged, Sized, Rebuilt, Headed, Tested, Ready, Took, in_table, in_marks}
 use Rattle.proof_tests.proofs.Headers.{hstar-length, salt-length, headed-counts, headed-parties, headed-some, headed-few}
 
@@ -239,11 +239,11 @@ module _ (s : List ℕ) (f : Shape) (proof table marks : List ℕ) (t : Tested s
       (en ∙ ap (λ (u : Context). nodes_of (follow_of u marks (take (70 + f.opened - 70) (drop 70 proof))) (replicate 16 0) h) et)
 
 -- what stands in front of a longer table, and of longer marks
-pub took-front : (r : Entry) (s : List ℕ) (z : Sizes) (y message proof table marks more rest : List ℕ)
+pub took-front : (r : Result Shape Refusal) (s : List ℕ) (z : Sizes) (y message proof table marks more rest : List ℕ)
     → Took r s z y message proof (λ (f : Shape). table) (λ (f : Shape). marks)
     → Took r s z y message proof (in_table (table ++ more)) (in_marks (marks ++ rest))
-took-front (Refused k) s z y message proof table marks more rest t = tt
-took-front (Taken f) s z y message proof table marks more rest t =
+took-front (Err k) s z y message proof table marks more rest t = tt
+took-front (Ok f) s z y message proof table marks more rest t =
     let a : in_table (table ++ more) f ≡ table = take_at table more f.counts.instances t.1.tested.sized.entries in
     let b : in_marks (marks ++ rest) f ≡ marks =
     take_at marks rest (2 ^ suc (height f.counts.instances)) (tested-marks s f proof table marks t.1.tested) in

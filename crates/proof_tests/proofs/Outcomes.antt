@@ -3,8 +3,9 @@
 use mathlib.Core.Path.{◌≡◌, refl, sym, ap, ap₂, ◌∙◌}
 use mathlib.Core.Bool.{Bool, true, false, not, ◌&&◌}
 use mathlib.Core.List.{List, [], ◌∷◌}
+use mathlib.Core.Logic.{◌⊎◌, inl, inr}
 use Prim.Native.Nat.{ℕ, ◌+◌, ◌*◌, ◌≤◌, ◌<◌}
-use borrow.Author.Tests.{eqb-true, leb-true}
+use borrow.Author.Tests.{eqb-true, le-leb, lt-leb}
 use lib.Dec.{eqb, leb}
 use lib.ListN.{length, replicate}
 use Rattle.instance.specs.Instance.{Asked}
@@ -12,9 +13,7 @@ use Rattle.instance.specs.Steps.{Tree}
 use native.Mathlib.Omega.{arith}
 use Rattle.mpc.specs.Steps.{Known}
 use Rattle.bits.specs.Bits.{oct, unused_zero}
-use Rattle.bits.proofs.Tests.{and-true-left, and-true-right}
 use Rattle.refusal.specs.Refusal.{number_of}
-use Rattle.refusal.specs.declared.Refusal.{Refusal}
 use Rattle.refusal.specs.Outcome.{Answer, success, refusal, Outcome, refuses, done, unless}
 use Rattle.parties.specs.Parties.{height_of, is_party_count}
 use Rattle.circuit.specs.Circuit.{Circuit}
@@ -22,8 +21,8 @@ use Rattle.circuit.specs.File.{circuit_of, legal, read_circuit}
 use Rattle.circuit.specs.Operations.{read_op, holds, leaving}
 use Rattle.circuit.specs.Answers.{read_paper}
 use Rattle.circuit.specs.declared.Sizes.{Sizes}
-use Rattle.circuit.specs.declared.ReadAnswer.{ReadAnswer}
-use Rattle.circuit.specs.declared.ReadAnswer.TheVariants as read_answer
+use Rattle.circuit.specs.declared.Fault.{Fault}
+use Rattle.std.specs.Prelude.{Result, Ok, Err}
 use Rattle.circuit.proofs.Answered.{fell, held}
 use Rattle.mpc.proofs.Opened.{sized, circuit-outputs}
 use Rattle.mpc.proofs.Lent.{work-refused, work-short, work-left}
@@ -34,41 +33,43 @@ use Rattle.proof.proofs.Works.{output-bytes}
 use Rattle.proof_tests.specs.Steps.{all_unused, tested, judged, legal_tests, Headed}
 use Rattle.proof_tests.proofs.Headers.{header-parties}
 
--- a legal file; b2 is the test of the lengths of y and the message
-module _ (s : List ℕ) (i o g a : ℕ) (k : Known s (sized i o g a)) (y message proof : List ℕ) (b1 b2 : Bool) (e1 : b1 ≡ eqb (length y) (oct o))
-    (e2 : b2 ≡ b1 && leb (length message) 4096) where
+-- a legal file; b1 is the test of the length of y
+module _ (s : List ℕ) (i o g a : ℕ) (k : Known s (sized i o g a)) (y message proof : List ℕ) (b1 : Bool) (e1 : b1 ≡ eqb (length y) (oct o)) where
   -- in the circuit's number of outputs
-  lengths-right : b2 ≡ holds (length (circuit_of s).outputs) y && leb (length message) 4096
-  lengths-right =
-      e2 ∙ ap (λ (t : Bool). t && leb (length message) 4096) (e1 ∙ ap (λ (x : ℕ). eqb (length y) (oct x)) (sym (circuit-outputs s i o g a k)))
+  length-right : b1 ≡ holds (length (circuit_of s).outputs) y
+  length-right = e1 ∙ ap (λ (x : ℕ). eqb (length y) (oct x)) (sym (circuit-outputs s i o g a k))
 
-  -- it fails
-  pub legal-length : not b2 ≡ true → refuses 6 [] ≡ legal_tests s y message proof (circuit_of s) (done [])
+  -- it fails, or that of the message's length fails
+  pub legal-length : (b1 ≡ false) ⊎ ((b1 ≡ true) × (4096 < length message)) → refuses 6 [] ≡ legal_tests s y message proof (circuit_of s) (done [])
   unfolding legal_tests
-  legal-length t = rw (fell _ b2 lengths-right t)
+  legal-length (inl f) = rw (sym length-right ∙ f)
+  legal-length (inr p) = rw (sym length-right ∙ p.0, lt-leb (length message) 4096 p.1)
 
-  -- it passes; the test of the unused bits of y
-  module _ (t2 : not b2 ≡ false) (b3 : Bool) (e3 : b3 ≡ unused_zero o y) where
+  -- both pass; the test of the unused bits of y
+  module _ (t1 : b1 ≡ true) (few : length message ≤ 4096) (b3 : Bool) (e3 : b3 ≡ unused_zero o y) where
+    lengths : holds (length (circuit_of s).outputs) y && leb (length message) 4096 ≡ true
+    lengths = rw (sym length-right ∙ t1, le-leb (length message) 4096 few)
+
     unused-right : b3 ≡ unused_zero (length (circuit_of s).outputs) y
     unused-right = e3 ∙ ap (λ (x : ℕ). unused_zero x y) (sym (circuit-outputs s i o g a k))
 
     -- it fails
     pub legal-unused : not b3 ≡ true → refuses 7 [] ≡ legal_tests s y message proof (circuit_of s) (done [])
     unfolding legal_tests
-    legal-unused t = rw (held _ b2 lengths-right t2, fell _ b3 unused-right t)
+    legal-unused t = rw (lengths, fell _ b3 unused-right t)
 
     -- it passes; the test of the header
     module _ (t3 : not b3 ≡ false) (b4 : Bool) (e4 : b4 ≡ good_header proof) where
       -- it fails
       pub legal-header : not b4 ≡ true → refuses 11 [] ≡ legal_tests s y message proof (circuit_of s) (done [])
       unfolding legal_tests
-      legal-header t = rw (held _ b2 lengths-right t2, held _ b3 unused-right t3, fell _ b4 e4 t)
+      legal-header t = rw (lengths, held _ b3 unused-right t3, fell _ b4 e4 t)
 
       -- it passes; the header's numbers
       module _ (t4 : not b4 ≡ false) (M tau n : ℕ) (f1 : M ≡ header_m proof) (f2 : tau ≡ header_tau proof) (f3 : n ≡ header_n proof) where
         pub legal-headed : read_circuit s ≡ legal (circuit_of s) → Headed M tau n y message proof
         legal-headed read =
-            let bytes = output-bytes s i o g a k read y (eqb-true _ _ (sym e1 ∙ and-true-left b1 (leb (length message) 4096) (held _ b2 e2 t2))) in
+            let bytes = output-bytes s i o g a k read y (eqb-true _ _ (sym e1 ∙ t1)) in
             record {
               good = held _ b4 e4 t4;
               is_M = f1;
@@ -76,7 +77,7 @@ module _ (s : List ℕ) (i o g a : ℕ) (k : Known s (sized i o g a)) (y message
               is_n = f3;
               y_least = bytes.0;
               y_most = bytes.1;
-              short = leb-true (length message) 4096 (and-true-right b1 (leb (length message) 4096) (held _ b2 e2 t2));
+              short = few;
             }
 
         -- the tree of its parties
@@ -91,7 +92,7 @@ module _ (s : List ℕ) (i o g a : ℕ) (k : Known s (sized i o g a)) (y message
             e
             ∙ ap (λ (m : ℕ). tested (circuit_of s) proof m n (challenged m tau n (header_hstar proof) (statement_of (header_salt proof) m tau n s y message)) (done [])) f1
             ∙ ap₂ (λ (t p : ℕ). tested (circuit_of s) proof (header_m proof) p (challenged (header_m proof) t p (header_hstar proof) (statement_of (header_salt proof) (header_m proof) t p s y message)) (done [])) f2 f3
-            ∙ rw (held _ b2 lengths-right t2, held _ b3 unused-right t3, held _ b4 e4 t4)
+            ∙ rw (lengths, held _ b3 unused-right t3, held _ b4 e4 t4)
 
 -- a refusal is not a success
 not_done : (k : ℕ) → refuses k [] ≡ done [] → ⊥
@@ -156,14 +157,14 @@ module _ (s y message proof : List ℕ) (c : Circuit) where
   tests-accept rest e = tests-pass legal-tests rest (e ∙ tests-are (done [])) ∙ sym (tests-are rest)
 
 -- the file is read first
-module _ (s y message proof work : List ℕ) (r : ReadAnswer) (e : read_paper r ≡ read_op s) where
+module _ (s y message proof work : List ℕ) (r : Result Sizes Fault) (e : read_paper r ≡ read_op s) where
   -- a refused file
-  pub check-refused : (k : Refusal) {slot : ℕ} → r ≡ read_answer.Refused k slot → leaving (refuses (number_of k) []) work ≡ check_op s y message proof work
+  pub check-refused : (f : Fault) → r ≡ Err f → leaving (refuses (number_of f.refusal) []) work ≡ check_op s y message proof work
   unfolding check_op
-  check-refused k p = work-refused s [] work (check_legal s y message proof) r e k p
+  check-refused f p = work-refused s [] work (check_legal s y message proof) r e f p
 
   -- then the work buffer is tested
-  module _ (z : Sizes) (p : r ≡ read_answer.Legal z) (need : ℕ) (q : need ≡ 64 * (z.inputs + z.gates) + 4096) where
+  module _ (z : Sizes) (p : r ≡ Ok z) (need : ℕ) (q : need ≡ 64 * (z.inputs + z.gates) + 4096) where
     pub check-short : length work < need → leaving (refuses 6 []) work ≡ check_op s y message proof work
     unfolding check_op
     check-short l = work-short s [] work (check_legal s y message proof) r e z p need q l

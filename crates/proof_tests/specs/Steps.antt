@@ -1,15 +1,17 @@
 -- What only the contracts of steps use: no definition of the paper stands here.
 -- What the steps of check make of a proof, and ask.
 -- Assumes nothing.
-use Rattle.std.specs.Prelude.{◌≡◌, Bool, true, false, ◌&&◌, List, [], ℕ, suc, ◌*◌, ◌^◌, ◌≤◌, ◌<◌, eqb, leb, length, take}
+use Rattle.std.specs.Prelude.{◌≡◌, Bool, true, false, cond, ◌&&◌, List, [], ℕ, suc, ◌*◌, ◌^◌, ◌≤◌, ◌<◌, eqb, leb, length, take, Option, Some, None, Result, Ok, Err}
 use Rattle.bits.specs.Bits.{unused_zero}
 use Rattle.bits.specs.Bytes.{same_bytes}
+use Rattle.refusal.specs.declared.Refusal.{Refusal}
 use Rattle.refusal.specs.Refusal.{number_of}
 use Rattle.refusal.specs.Outcome.{Outcome, refuses, done, unless}
 use Rattle.circuit.specs.Circuit.{Circuit}
 use Rattle.circuit.specs.File.{circuit_of}
 use Rattle.circuit.specs.Operations.{holds}
 use Rattle.circuit.specs.declared.Sizes.{Sizes}
+use Rattle.parties.specs.Parties.{height_of}
 use Rattle.mpc.specs.Steps.{Known}
 use Rattle.choice.specs.Challenge.{max_instances}
 use Rattle.seeds.specs.Operations.{max_message, max_output_bytes}
@@ -20,10 +22,9 @@ use Rattle.instance.specs.Opened.{stretch_commitments, stretch_online, stretch_u
 use Rattle.proof.specs.Protocol.{hstar_of, statement_of, challenged}
 use Rattle.proof.specs.File.{header_m, header_tau, header_n, header_hstar, header_salt, context_at, good_header, hides, proof_bytes, master_at, stretch_at}
 use Rattle.proof.specs.Check.{every}
+use Rattle.proof.specs.declared.Counts.{Counts}
 use Rattle.proof.specs.Steps.{asks_in, Asking, marks_in, master_in}
 use Rattle.proof_tests.specs.declared.Shape.{Shape}
-use Rattle.proof_tests.specs.declared.Entry.{Entry}
-use Rattle.proof_tests.specs.declared.Entry.TheVariants.{Refused, Taken}
 
 -- whether the replay of instance i gives y, and its digests
 abbrev pub output_at : Circuit → ℕ → ℕ → (ℕ → Asked) → List ℕ → List ℕ → ℕ → Bool
@@ -47,6 +48,14 @@ all_outputs c M n ask y proof = every M (λ j. stretch_output c n (context_at pr
 abbrev pub recomputed : Circuit → ℕ → ℕ → (ℕ → Asked) → List ℕ → List ℕ
 recomputed c M n ask proof =
     hstar_of M (λ j. stretch_commitments c n (context_at proof j) (master_at M ask proof j) (stretch_at c M n ask proof j) (ask j)) (λ j. stretch_online c n (context_at proof j) (stretch_at c M n ask proof j) (ask j))
+
+-- the counts that a header holds
+unfoldable pub counts_of : List ℕ → Counts
+counts_of proof = record { instances = header_m proof; chosen = header_tau proof; parties = header_n proof; height = height_of (header_n proof) }
+
+-- those of a good header
+unfoldable pub header_counts : List ℕ → Option Counts
+header_counts proof = cond (good_header proof) (Some (counts_of proof)) None
 
 -- the tests of a proof with a good header that need no run, then the rest
 unfoldable pub tested : Circuit → List ℕ → ℕ → ℕ → (ℕ → Asked) → Outcome → Outcome
@@ -110,14 +119,14 @@ pub record Ready (s : List ℕ) (f : Shape) (y message proof table marks : List 
       (statement_of (header_salt proof) f.counts.instances f.counts.chosen f.counts.parties s y message)
 
 -- the answer of the tests
-abbrev pub entered : Entry → Outcome
-entered (Refused k) = refuses (number_of k) []
-entered (Taken f) = done []
+abbrev pub entered : Result Shape Refusal → Outcome
+entered (Err k) = refuses (number_of k) []
+entered (Ok f) = done []
 
 -- what they leave in the table and the marks, where a proof passes
-abbrev pub Took : Entry → List ℕ → Sizes → List ℕ → List ℕ → List ℕ → (Shape → List ℕ) → (Shape → List ℕ) → Type 0
-Took (Refused k) s z y message proof table marks = Unit {0}
-Took (Taken f) s z y message proof table marks = (f.sizes ≡ z) × Ready s f y message proof (table f) (marks f)
+abbrev pub Took : Result Shape Refusal → List ℕ → Sizes → List ℕ → List ℕ → List ℕ → (Shape → List ℕ) → (Shape → List ℕ) → Type 0
+Took (Err k) s z y message proof table marks = Unit {0}
+Took (Ok f) s z y message proof table marks = (f.sizes ≡ z) × Ready s f y message proof (table f) (marks f)
 
 -- the entries of a table that are in use
 abbrev pub in_table : List ℕ → Shape → List ℕ

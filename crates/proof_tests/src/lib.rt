@@ -8,13 +8,13 @@ ghost use Rattle.mpc.specs.Steps.{Known};
 ghost use Rattle.cover.specs.Masters.{height as «height-of»};
 ghost use Rattle.instance.specs.Steps.{Tree};
 ghost use Rattle.proof.specs.Protocol.{statement_of, challenged};
-ghost use Rattle.proof.specs.File.{header_hstar, header_salt, good_header};
-ghost use Rattle.proof_tests.specs.Steps.{Headed, tested, legal_tests, entered, Took, in_table, in_marks};
+ghost use Rattle.proof.specs.File.{header_hstar, header_salt};
+ghost use Rattle.proof_tests.specs.Steps.{header_counts, Headed, tested, legal_tests, entered, Took, in_table, in_marks};
 
 mod unused_bits;
 
 use circuit::Sizes;
-use mpc::tests::{both, holds};
+use mpc::tests::holds;
 use proof::asking::{draw_challenge, proof_bytes};
 use proof::nodes::{mark_nodes, row_count};
 use proof::{Counts, HEADER_BYTES};
@@ -30,24 +30,27 @@ pub struct Shape {
     pub opened: usize,
 }
 
-// What the tests answer.
-#[derive(Clone, Copy)]
-pub enum Entry {
-    Refused(Refusal),
-    Taken(Shape),
-}
-
-// Whether the proof has a header within the limits.
-fn good_header(proof: &[u8]) -> bool
-    ensures { result ≡ good_header proof.now }
+// The counts of a proof's header, with the height of the tree of its parties; None where the header is not within the limits.
+fn header_counts(proof: &[u8]) -> Option<Counts>
+    ensures { result ≡ header_counts proof.now }
 {
     if proof.len() < HEADER_BYTES {
-        return false;
+        return None;
     }
     let m = bits::read_u16(proof, 0) as u32;
     let tau = bits::read_u16(proof, 2) as u32;
-    let h = parties::height(proof[4] as u32);
-    both(counts(m, tau), both(h != 0, proof[5] == 0))
+    let n = proof[4] as u32;
+    let zero = proof[5];
+    let h = parties::height(n)?;
+    if !counts(m, tau) || zero != 0 {
+        return None;
+    }
+    Some(Counts {
+        instances: m,
+        chosen: tau,
+        parties: n,
+        height: h,
+    })
 }
 
 // Tests a proof with a good header. The challenge, drawn from the header's h* and salt, goes into the table, and from it come the marks of the
@@ -61,7 +64,7 @@ fn test_proof(
     proof: &[u8],
     table: &mut [u8],
     marks: &mut [u8],
-) -> Entry
+) -> Result<Shape, Refusal>
     requires { Known s.now z × (Tree k.parties k.height × (Headed k.instances k.chosen k.parties y.now message.now proof.now × ((length table.old ≡ k.instances) × (length marks.old ≡ 2 ^ suc («height-of» k.instances))))) }
     ensures result_value { entered result ≡ tested (circuit_of s.now) proof.now k.instances k.parties (challenged k.instances k.chosen k.parties (header_hstar proof.now) (statement_of (header_salt proof.now) k.instances k.chosen k.parties s.now y.now message.now)) (done []) }
     ensures took { Took result s.now z y.now message.now proof.now (λ _. table.new) (λ _. marks.new) }
@@ -77,12 +80,12 @@ fn test_proof(
     );
     let opened = mark_nodes(k, table, marks);
     if proof.len() != proof_bytes(s, z, k, table, opened) {
-        return Entry::Refused(Refusal::ProofLength);
+        return Err(Refusal::ProofLength);
     }
     if !all_unused(s, z, k, table, opened, proof) {
-        return Entry::Refused(Refusal::UnusedBits);
+        return Err(Refusal::UnusedBits);
     }
-    Entry::Taken(Shape {
+    Ok(Shape {
         sizes: z,
         counts: k,
         opened,
@@ -99,31 +102,21 @@ pub fn test_lent(
     proof: &[u8],
     table: &mut [u8],
     marks: &mut [u8],
-) -> Entry
+) -> Result<Shape, Refusal>
     requires { (read_circuit s.now ≡ legal (circuit_of s.now)) × (Known s.now z × ((length table.old ≡ 512) × (length marks.old ≡ 1024))) }
     ensures result_value { entered result ≡ legal_tests s.now y.now message.now proof.now (circuit_of s.now) (done []) }
     ensures took { Took result s.now z y.now message.now proof.now (in_table table.new) (in_marks marks.new) }
 {
-    if !both(holds(y, z.outputs), message.len() <= MAX_MESSAGE) {
-        return Entry::Refused(Refusal::BufferLength);
+    if !holds(y, z.outputs) || message.len() > MAX_MESSAGE {
+        return Err(Refusal::BufferLength);
     }
     if !bits::unused_zero(y, z.outputs) {
-        return Entry::Refused(Refusal::UnusedBits);
+        return Err(Refusal::UnusedBits);
     }
-    if !good_header(proof) {
-        return Entry::Refused(Refusal::Header);
-    }
-    let m = bits::read_u16(proof, 0) as u32;
-    let tau = bits::read_u16(proof, 2) as u32;
-    let n = proof[4] as u32;
-    let h = parties::height(n);
-    let k = Counts {
-        instances: m,
-        chosen: tau,
-        parties: n,
-        height: h,
+    let Some(k) = header_counts(proof) else {
+        return Err(Refusal::Header);
     };
-    let c = m as usize;
-    let r = row_count(m);
+    let c = k.instances as usize;
+    let r = row_count(k.instances);
     test_proof(s, z, k, y, message, proof, &mut table[..c], &mut marks[..r])
 }

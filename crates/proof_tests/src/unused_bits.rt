@@ -12,7 +12,6 @@ ghost use Rattle.proof_tests.specs.Steps.{all_unused, Sized};
 
 use circuit::Sizes;
 use instance::checking::unused;
-use mpc::tests::both;
 use proof::asking::{asked, stretch_bytes};
 use proof::{Counts, HEADER_BYTES};
 
@@ -44,14 +43,11 @@ pub(crate) fn all_unused(
     let h = k.height;
     let mut good = true;
     let mut at = HEADER_BYTES + opened;
-    let mut j = 0;
-    while j < m {
+    for j in 0..m {
         let p = asked(table, n, j);
         let end = at + stretch_bytes(s, z, n, h, p);
-        let fine = stretch_unused(s, z, n, h, p, &proof[at..end]);
-        good = both(good, fine);
+        good &= stretch_unused(s, z, n, h, p, &proof[at..end]);
         at = end;
-        j += 1;
     }
     good
 }

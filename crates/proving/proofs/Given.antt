@@ -15,7 +15,8 @@ use Rattle.circuit.specs.Circuit.{evaluate}
 use Rattle.circuit.specs.File.{circuit_of, read_circuit, legal}
 use Rattle.circuit.specs.Operations.{evaluate_legal, evaluate_op}
 use Rattle.circuit.specs.Answers.{outcome}
-use Rattle.circuit.specs.declared.EvaluateAnswer.{EvaluateAnswer}
+use Rattle.refusal.specs.declared.Refusal.{Refusal}
+use Rattle.std.specs.Prelude.{⊤, Result}
 use Rattle.mpc.specs.Steps.{Known, WitnessFits}
 use Rattle.mpc.proofs.Opened.{sized, circuit-inputs, circuit-outputs}
 use Rattle.proof.specs.Prove.{witnesses}
@@ -37,7 +38,7 @@ module _ (s : List ℕ) (i o g a : ℕ) (w z : List ℕ) (read : read_circuit s 
       rw (read, eq-eqb _ _ p, eq-eqb _ _ q, u)
 
   -- the test
-  pub gives_made : (y left rest : List ℕ) (len : ℕ) (r : EvaluateAnswer) (b : Bool) → outcome r left ≡ evaluate_op s w z → length left ≡ len
+  pub gives_made : (y left rest : List ℕ) (len : ℕ) (r : Result ⊤ Refusal) (b : Bool) → outcome r left ≡ evaluate_op s w z → length left ≡ len
       → b ≡ same_bytes (take len (left ++ rest)) y → b ≡ witnesses (circuit_of s) w y
   unfolding witnesses
   gives_made y left rest len r b e l f =

@@ -17,22 +17,15 @@ ghost use Rattle.proving.specs.Answers.{outcome};
 mod writing;
 
 use bits::clear;
-use circuit::{ReadAnswer, Sizes};
+use circuit::Sizes;
 use evaluation::evaluate;
 use mpc::lending::work_bytes;
-use mpc::tests::{both, holds};
+use mpc::tests::holds;
 use proof::{Counts, HEADER_BYTES};
 use reading::read;
 use refusal::Refusal;
 use seeds::{MAX_MESSAGE, counts};
 use writing::prove_in;
-
-// What prove answers.
-#[derive(Clone, Copy)]
-pub enum Answer {
-    Written(usize),
-    Refused(Refusal),
-}
 
 // The bytes that the proof buffer must hold.
 fn room(s: &[u8], z: Sizes, k: Counts) -> usize
@@ -63,12 +56,13 @@ fn lengths(
     requires { Known s.now z × ((k.instances ≤ max_instances) × ((k.chosen ≤ k.instances) × Tree k.parties k.height)) }
     ensures { result ≡ eqb (length witness.now) (oct z.inputs) && eqb (length y.now) (oct z.outputs) && leb (length message.now) max_message && eqb (length root.now) 16 && eqb (length salt.now) 32 && leb (proof_room (circuit_of s.now) k.instances k.chosen k.parties) (length buffer.now) }
 {
-    let lent = both(
-        both(holds(witness, z.inputs), holds(y, z.outputs)),
-        message.len() <= MAX_MESSAGE,
-    );
-    let space = room(s, z, k) <= buffer.len();
-    both(both(both(lent, root.len() == 16), salt.len() == 32), space)
+    let need = room(s, z, k);
+    holds(witness, z.inputs)
+        && holds(y, z.outputs)
+        && message.len() <= MAX_MESSAGE
+        && root.len() == 16
+        && salt.len() == 32
+        && need <= buffer.len()
 }
 
 // Whether the witness gives y.
@@ -96,14 +90,16 @@ fn prove_lent(
     n: u32,
     buffer: &mut [u8],
     memory: &mut [u8],
-) -> Answer
+) -> Result<usize, Refusal>
     requires { (read_circuit s.now ≡ legal (circuit_of s.now)) × (Known s.now z × (64 * wire_count z + 4096 ≤ length memory.old)) }
     ensures { outcome result buffer.new ≡ prove_legal s.now witness.now y.now message.now root.now salt.now m tau n buffer.old (circuit_of s.now) }
 {
-    let h = parties::height(n);
-    if !both(counts(m, tau), h != 0) {
-        return Answer::Refused(Refusal::Parameter);
+    if !counts(m, tau) {
+        return Err(Refusal::Parameter);
     }
+    let Some(h) = parties::height(n) else {
+        return Err(Refusal::Parameter);
+    };
     let k = Counts {
         instances: m,
         chosen: tau,
@@ -111,18 +107,16 @@ fn prove_lent(
         height: h,
     };
     if !lengths(s, z, k, witness, y, message, root, salt, buffer) {
-        return Answer::Refused(Refusal::BufferLength);
+        return Err(Refusal::BufferLength);
     }
-    if !both(
-        bits::unused_zero(witness, z.inputs),
-        bits::unused_zero(y, z.outputs),
-    ) {
-        return Answer::Refused(Refusal::UnusedBits);
+    // Both tests are made, whatever the witness holds.
+    if !(bits::unused_zero(witness, z.inputs) & bits::unused_zero(y, z.outputs)) {
+        return Err(Refusal::UnusedBits);
     }
     if !gives(s, z, witness, y) {
-        return Answer::Refused(Refusal::Output);
+        return Err(Refusal::Output);
     }
-    Answer::Written(prove_in(s, z, k, witness, y, message, root, salt, buffer, memory))
+    Ok(prove_in(s, z, k, witness, y, message, root, salt, buffer, memory))
 }
 
 // Proves that the circuit gives y on the witness: writes a proof into the buffer and answers its length, or refuses and leaves the
@@ -139,21 +133,16 @@ pub fn prove(
     n: u32,
     buffer: &mut [u8],
     work: &mut [u8],
-) -> Answer
+) -> Result<usize, Refusal>
     ensures { leaving (outcome result buffer.new) work.new ≡ prove_op s.now witness.now y.now message.now root.now salt.now m tau n buffer.old work.old }
 {
-    let answer = read(s);
-    match answer {
-        ReadAnswer::Refused(k, _) => Answer::Refused(k),
-        ReadAnswer::Legal(z) => {
-            if work.len() < work_bytes(z) {
-                return Answer::Refused(Refusal::BufferLength);
-            }
-            let ended = prove_lent(
-                s, z, witness, y, message, root, salt, m, tau, n, buffer, work,
-            );
-            clear(work);
-            ended
-        }
+    let z = read(s)?;
+    if work.len() < work_bytes(z) {
+        return Err(Refusal::BufferLength);
     }
+    let ended = prove_lent(
+        s, z, witness, y, message, root, salt, m, tau, n, buffer, work,
+    );
+    clear(work);
+    ended
 }

@@ -8,7 +8,6 @@ ghost use Rattle.proof.specs.Protocol.{statement_of};
 ghost use Rattle.proof.specs.Prove.{proof_of};
 ghost use Rattle.rounds.specs.Steps.{proof_from, Tested};
 
-use bits::copy;
 use circuit::Sizes;
 use cover::{height, masters_tree};
 use growing::grow;
@@ -27,8 +26,8 @@ pub(crate) fn head(m: u32, tau: u32, n: u32, hstar: &[u8], salt: &[u8], out: &mu
     bits::write_u16(out, 2, tau as u16);
     out[4] = n as u8;
     out[5] = 0;
-    copy(hstar, &mut out[6..38]);
-    copy(salt, &mut out[38..]);
+    out[6..38].copy_from_slice(hstar);
+    out[38..].copy_from_slice(salt);
 }
 
 // Writes a proof into the buffer, with the nodes of the masters' tree, and gives its length.

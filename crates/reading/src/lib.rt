@@ -10,24 +10,24 @@ ghost use Rattle.circuit.specs.Operations.{read_answer, read_op};
 
 use chain::walk_chain;
 use circuit::records::field;
-use circuit::{MAX_GATES, ReadAnswer, Sizes, WIDTH, Walk};
+use circuit::{Fault, Front, MAX_GATES, Sizes, WIDTH};
 use legality::{and_count, good_outputs, good_reads, good_records, within_limits};
 use refusal::Refusal;
 
 // Reads a circuit: its numbers I, O, G and A, or the first refusal with the slot that it tells.
-pub fn read(s: &[u8]) -> ReadAnswer
+pub fn read(s: &[u8]) -> Result<Sizes, Fault>
     ensures { read_paper result ≡ read_op s.now }
 {
     read_with(s, WIDTH, MAX_GATES)
 }
 
 // Reads a circuit in the form with fields of `bytes` bytes and at most `most` gates.
-pub fn read_with(s: &[u8], bytes: usize, most: usize) -> ReadAnswer
+pub fn read_with(s: &[u8], bytes: usize, most: usize) -> Result<Sizes, Fault>
     requires { Known bytes × (most ≤ max_gates) }
     ensures { read_paper result ≡ read_answer (read_with bytes most s.now) }
 {
     if s.len() < bytes * 4 {
-        return ReadAnswer::Refused(Refusal::Length, 0);
+        return Err(Refusal::Length.into());
     }
     let inputs = field(s, bytes, 0) as usize;
     let outputs = field(s, bytes, 1) as usize;
@@ -36,60 +36,50 @@ pub fn read_with(s: &[u8], bytes: usize, most: usize) -> ReadAnswer
     let limited = within_limits(most, inputs, outputs, gates);
     let sized = s.len() == bytes * (4 + outputs + 4 * gates);
     if !limited {
-        return ReadAnswer::Refused(Refusal::Limits, 0);
+        return Err(Refusal::Limits.into());
     }
     if sized {
-        read_body(s, bytes, inputs, outputs, gates, head)
+        let f = Front {
+            width: bytes,
+            inputs,
+            outputs,
+            gates,
+            head,
+        };
+        read_body(s, f)
     } else {
-        ReadAnswer::Refused(Refusal::Length, 0)
+        Err(Refusal::Length.into())
     }
 }
 
 // Reads a circuit whose header and length are good.
-fn read_body(
-    s: &[u8],
-    bytes: usize,
-    inputs: usize,
-    outputs: usize,
-    gates: usize,
-    head: usize,
-) -> ReadAnswer
-    requires { Framed bytes s.now inputs outputs gates head }
-    ensures { read_paper result ≡ read_answer (read_fields (field bytes s.now)) }
+fn read_body(s: &[u8], f: Front) -> Result<Sizes, Fault>
+    requires { Framed f.width s.now f.inputs f.outputs f.gates f.head }
+    ensures { read_paper result ≡ read_answer (read_fields (field f.width s.now)) }
 {
-    if !good_records(s, bytes, inputs, outputs, gates) {
-        return ReadAnswer::Refused(Refusal::Record, 0);
+    if !good_records(s, f) {
+        return Err(Refusal::Record.into());
     }
-    let walk = walk_chain(s, bytes, inputs, outputs, gates, head);
-    match walk {
-        Walk::Ends => read_wires(s, bytes, inputs, outputs, gates, head),
-        Walk::Fault(k, slot) => ReadAnswer::Refused(k, slot),
-    }
+    walk_chain(s, f)?;
+    read_wires(s, f)
 }
 
 // Reads a circuit whose chain is good too.
-fn read_wires(
-    s: &[u8],
-    bytes: usize,
-    inputs: usize,
-    outputs: usize,
-    gates: usize,
-    head: usize,
-) -> ReadAnswer
-    requires { Linked bytes s.now inputs outputs gates head }
-    ensures { read_paper result ≡ read_answer (read_fields (field bytes s.now)) }
+fn read_wires(s: &[u8], f: Front) -> Result<Sizes, Fault>
+    requires { Linked f.width s.now f.inputs f.outputs f.gates f.head }
+    ensures { read_paper result ≡ read_answer (read_fields (field f.width s.now)) }
 {
-    if !good_reads(s, bytes, inputs, outputs, gates, head) {
-        return ReadAnswer::Refused(Refusal::Wire, 0);
+    if !good_reads(s, f) {
+        return Err(Refusal::Wire.into());
     }
-    if !good_outputs(s, bytes, inputs, outputs, gates) {
-        return ReadAnswer::Refused(Refusal::Wire, 0);
+    if !good_outputs(s, f) {
+        return Err(Refusal::Wire.into());
     }
-    let ands = and_count(s, bytes, inputs, outputs, gates, head);
-    ReadAnswer::Legal(Sizes {
-        inputs,
-        outputs,
-        gates,
+    let ands = and_count(s, f);
+    Ok(Sizes {
+        inputs: f.inputs,
+        outputs: f.outputs,
+        gates: f.gates,
         ands,
     })
 }

@@ -68,38 +68,40 @@ pub enum Refusal {
 }
 
 // The number that the documents give a refusal.
-pub fn number(r: Refusal) -> u32
-    ensures { result ≡ number_of r }
-{
-    match r {
-        Refusal::Length => 1,
-        Refusal::Limits => 2,
-        Refusal::Record => 3,
-        Refusal::Wire => 5,
-        Refusal::BufferLength => 6,
-        Refusal::UnusedBits => 7,
-        Refusal::Parameter => 8,
-        Refusal::Index => 9,
-        Refusal::Output => 10,
-        Refusal::Header => 11,
-        Refusal::ProofLength => 12,
-        Refusal::Digest => 13,
-        Refusal::Shelf => 14,
-        Refusal::Count => 15,
-        Refusal::Empty => 16,
-        Refusal::Full => 17,
-        Refusal::Exhausted => 18,
-        Refusal::BeyondGates => 19,
-        Refusal::EndsEarly => 20,
-        Refusal::GoesOn => 21,
-        Refusal::Text => 22,
-        Refusal::GateKind => 23,
-        Refusal::TextLimits => 24,
-        Refusal::InputCounts => 25,
-        Refusal::CallerNumber => 26,
-        Refusal::AlreadyWaiting => 27,
-        Refusal::NoneWaiting => 28,
-        Refusal::SmallSizes => 29,
-        Refusal::ListLength => 30,
+impl From<Refusal> for u32 {
+    ghost from_gives = { λ r n. n ≡ number_of r };
+
+    fn from(r: Refusal) -> u32 {
+        match r {
+            Refusal::Length => 1,
+            Refusal::Limits => 2,
+            Refusal::Record => 3,
+            Refusal::Wire => 5,
+            Refusal::BufferLength => 6,
+            Refusal::UnusedBits => 7,
+            Refusal::Parameter => 8,
+            Refusal::Index => 9,
+            Refusal::Output => 10,
+            Refusal::Header => 11,
+            Refusal::ProofLength => 12,
+            Refusal::Digest => 13,
+            Refusal::Shelf => 14,
+            Refusal::Count => 15,
+            Refusal::Empty => 16,
+            Refusal::Full => 17,
+            Refusal::Exhausted => 18,
+            Refusal::BeyondGates => 19,
+            Refusal::EndsEarly => 20,
+            Refusal::GoesOn => 21,
+            Refusal::Text => 22,
+            Refusal::GateKind => 23,
+            Refusal::TextLimits => 24,
+            Refusal::InputCounts => 25,
+            Refusal::CallerNumber => 26,
+            Refusal::AlreadyWaiting => 27,
+            Refusal::NoneWaiting => 28,
+            Refusal::SmallSizes => 29,
+            Refusal::ListLength => 30,
+        }
     }
 }

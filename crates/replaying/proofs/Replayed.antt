@@ -3,12 +3,12 @@
 use mathlib.Core.Path.{◌≡◌, sym, ap, ap₂, ◌∙◌}
 use mathlib.Core.Bool.{Bool, true, false, not, cond, ◌&&◌, ◌||◌}
 use mathlib.Core.List.{List, [], ◌∷◌, ◌++◌}
-use Prim.Native.Nat.{ℕ, ◌+◌, ◌-◌, ◌*◌, ◌≤◌, ◌<◌}
+use Prim.Native.Nat.{ℕ, ◌+◌, ◌*◌, ◌≤◌, ◌<◌}
 use native.Mathlib.Omega.{arith}
 use native.Mathlib.Numerals.{add-one}
 use borrow.Author.Tests.{lt-ltb, le-ltb, eqb-true}
 use lib.Dec.{eqb}
-use lib.ListN.{length, take, drop, replicate, length-append}
+use lib.ListN.{length, take, replicate, length-append}
 use lib.Seq.{take_at}
 use Rattle.bits.specs.Bits.{oct, pack, unused_zero}
 use Rattle.bits.specs.Bytes.{same_bytes, row_of}
@@ -21,8 +21,7 @@ use Rattle.circuit.specs.File.{circuit_of}
 use Rattle.circuit.specs.Operations.{read_op, holds}
 use Rattle.circuit.specs.Answers.{read_paper}
 use Rattle.circuit.specs.declared.Sizes.{Sizes}
-use Rattle.circuit.specs.declared.ReadAnswer.{ReadAnswer}
-use Rattle.circuit.specs.declared.ReadAnswer.TheVariants as read_answer
+use Rattle.circuit.specs.declared.Fault.{Fault}
 use Rattle.circuit.proofs.Answered.{fell, held}
 use Rattle.plain.specs.Tapes.{ands_of, unused_rows}
 use Rattle.plain.specs.Showing.{Showing, rows_of, replay_of}
@@ -31,18 +30,17 @@ use Rattle.packed.specs.Steps.{broadcast_bytes, tapes_held, corrections_held, sh
 use Rattle.packed.proofs.Runs.{rows-replayed}
 use Rattle.mpc.specs.Operations.{holds_rows, holds_showing, broadcast_bits, unused_showing, replay_legal, replay_op}
 use Rattle.mpc.specs.Answers.{outcome}
-use Rattle.mpc.specs.Steps.{Known, memory_bytes, Working, TapesFit, ShowingFits, with_both, is_done}
-use Rattle.mpc.specs.declared.Answer.{Answer}
-use Rattle.mpc.specs.declared.Answer.TheVariants.{Done, Refused}
+use Rattle.mpc.specs.Steps.{Known, memory_bytes, Working, TapesFit, ShowingFits, with_both}
+use Rattle.std.specs.Prelude.{⊤, Result, Ok, Err}
 use Rattle.mpc.proofs.Opened.{sized, circuit-inputs, circuit-outputs, circuit-ands, circuit-row}
-use Rattle.mpc.proofs.Lent.{all-cleared, work-refused, work-short, work-left}
+use Rattle.mpc.proofs.Lent.{work-refused, work-short, work-left}
 use Rattle.mpc.proofs.Places.{working-kept, memory-held, placed, both-length, both-tapes, both-corrections}
 
 -- six tests, one after the other
-pub all-six : (a b c d e f a' b' c' d' e' f' p q r s t : Bool) → a ≡ a' → b ≡ b' → c ≡ c' → d ≡ d' → e ≡ e' → f ≡ f'
-    → p ≡ a && b → q ≡ p && c → r ≡ q && d → s ≡ r && e → t ≡ s && f → t ≡ a' && b' && c' && d' && e' && f'
-all-six a b c d e f a' b' c' d' e' f' p q r s t ea eb ec ed ee ef hp hq hr hs ht =
-    ht ∙ ap₂ ◌&&◌ (hs ∙ ap₂ ◌&&◌ (hr ∙ ap₂ ◌&&◌ (hq ∙ ap₂ ◌&&◌ (hp ∙ ap₂ ◌&&◌ ea eb) ec) ed) ee) ef
+all-six : (a b c d e f a' b' c' d' e' f' : Bool) → a ≡ a' → b ≡ b' → c ≡ c' → d ≡ d' → e ≡ e' → f ≡ f'
+    → a && b && c && d && e && f ≡ a' && b' && c' && d' && e' && f'
+all-six a b c d e f a' b' c' d' e' f' ea eb ec ed ee ef =
+    ap₂ ◌&&◌ (ap₂ ◌&&◌ (ap₂ ◌&&◌ (ap₂ ◌&&◌ (ap₂ ◌&&◌ ea eb) ec) ed) ee) ef
 
 -- that all hold
 six-true : (a b c d e f : Bool) → a && b && c && d && e && f ≡ true
@@ -119,20 +117,18 @@ module _ (s : List ℕ) (i o g a : ℕ) (k : Known s (sized i o g a)) (n p : ℕ
   lent = record { tapes = tapes; corrections = corr; masked_inputs = masked; row = row }
 
   -- the test of its unused bits
-  pub unused-right : (len : ℕ) (own : List ℕ) (u v w x y z d p' q r f t : Bool) → len ≡ oct (i + 2 * a) → own ≡ row_of tapes len p
+  pub unused-right : (len : ℕ) (own : List ℕ) (u v w x y d : Bool) → len ≡ oct (i + 2 * a) → own ≡ row_of tapes len p
       → u ≡ unused_rows (circuit_of s) n tapes n → v ≡ unused_zero a corr → w ≡ unused_zero i masked → x ≡ unused_zero (a + o) row → y ≡ unused_zero 0 own
-      → d ≡ unused_zero 0 corr → z ≡ not (eqb (p + 1) n) || d → p' ≡ u && v → q ≡ p' && w → r ≡ q && x → f ≡ r && y → t ≡ f && z
-      → t ≡ unused_showing (circuit_of s) n p lent
+      → d ≡ unused_zero 0 corr → u && v && w && x && y && (not (eqb (p + 1) n) || d) ≡ unused_showing (circuit_of s) n p lent
   unfolding unused_showing
-  unused-right len own u v w x y z d p' q r f t l e hu hv hw hx hy hd hz h1 h2 h3 h4 h5 =
+  unused-right len own u v w x y d l e hu hv hw hx hy hd =
       let ii = sym (circuit-inputs s i o g a k) in
       let oo = sym (circuit-outputs s i o g a k) in
       let aa = sym (circuit-ands s i o g a k) in
-      all-six u v w x y z _ _ _ _ _ _ p' q r f t hu (hv ∙ ap (λ (j : ℕ). unused_zero j corr) aa) (hw ∙ ap (λ (j : ℕ). unused_zero j masked) ii)
+      all-six u v w x y (not (eqb (p + 1) n) || d) _ _ _ _ _ _ hu (hv ∙ ap (λ (j : ℕ). unused_zero j corr) aa) (hw ∙ ap (λ (j : ℕ). unused_zero j masked) ii)
       (hx ∙ ap₂ (λ (j m : ℕ). unused_zero (j + m) row) aa oo)
       (hy ∙ ap (unused_zero 0) (e ∙ ap (λ (j : ℕ). row_of tapes j p) (l ∙ sym (circuit-row s i o g a k))))
-      (hz ∙ ap₂ (λ (j : ℕ) (m : Bool). not (eqb j n) || m) (add-one p) hd)
-      h1 h2 h3 h4 h5
+      (ap₂ (λ (j : ℕ) (m : Bool). not (eqb j n) || m) (add-one p) hd)
 
   -- the answers
   module _ (h : ℕ) (y rows : List ℕ) (count : h ≡ height_of n) where
@@ -144,7 +140,7 @@ module _ (s : List ℕ) (i o g a : ℕ) (k : Known s (sized i o g a)) (n p : ℕ
         ∙ ap (λ (x : ℕ). lengths_hold (circuit_of s).inputs x (ands_of (circuit_of s)) n tapes corr masked row y rows) (sym (circuit-outputs s i o g a k))
 
     -- no party count
-    pub replay-parties : h ≡ 0 → outcome (Refused Parameter) (rows ∷ []) ≡ replay_legal n p lent y rows (circuit_of s)
+    pub replay-parties : h ≡ 0 → outcome (Err Parameter) (rows ∷ []) ≡ replay_legal n p lent y rows (circuit_of s)
     unfolding replay_legal
     replay-parties e = rw (count_no n (sym count ∙ e))
 
@@ -154,56 +150,55 @@ module _ (s : List ℕ) (i o g a : ℕ) (k : Known s (sized i o g a)) (n p : ℕ
       counts = count_yes n (λ z. more (count ∙ z))
 
       -- no party of these
-      pub replay-index : n ≤ p → outcome (Refused Index) (rows ∷ []) ≡ replay_legal n p lent y rows (circuit_of s)
+      pub replay-index : n ≤ p → outcome (Err Index) (rows ∷ []) ≡ replay_legal n p lent y rows (circuit_of s)
       unfolding replay_legal
       replay-index e = rw (counts, le-ltb p n e)
 
       module _ (hp : p < n) (r : Bool) (e : r ≡ lengths_hold i o a n tapes corr masked row y rows) where
         -- a lent length not as stated
-        pub replay-length : not r ≡ true → outcome (Refused BufferLength) (rows ∷ []) ≡ replay_legal n p lent y rows (circuit_of s)
+        pub replay-length : not r ≡ true → outcome (Err BufferLength) (rows ∷ []) ≡ replay_legal n p lent y rows (circuit_of s)
         unfolding replay_legal
         replay-length t = rw (counts, lt-ltb p n hp, fell _ r (e ∙ lengths) t)
 
-        module _ (t : not r ≡ false) (u v d : Bool) (eu : u ≡ unused_showing (circuit_of s) n p lent) (ev : v ≡ unused_zero o y) (ed : d ≡ u && v) where
-          tested : d ≡ unused_showing (circuit_of s) n p lent && unused_zero (length (circuit_of s).outputs) y
-          tested = ed ∙ ap₂ ◌&&◌ eu (ev ∙ ap (λ (j : ℕ). unused_zero j y) (sym (circuit-outputs s i o g a k)))
+        module _ (t : not r ≡ false) (u v : Bool) (eu : u ≡ unused_showing (circuit_of s) n p lent) (ev : v ≡ unused_zero o y) where
+          tested : u && v ≡ unused_showing (circuit_of s) n p lent && unused_zero (length (circuit_of s).outputs) y
+          tested = ap₂ ◌&&◌ eu (ev ∙ ap (λ (j : ℕ). unused_zero j y) (sym (circuit-outputs s i o g a k)))
 
           -- a nonzero unused bit
-          pub replay-unused : not d ≡ true → outcome (Refused UnusedBits) (rows ∷ []) ≡ replay_legal n p lent y rows (circuit_of s)
+          pub replay-unused : not (u && v) ≡ true → outcome (Err UnusedBits) (rows ∷ []) ≡ replay_legal n p lent y rows (circuit_of s)
           unfolding replay_legal
-          replay-unused z = rw (counts, lt-ltb p n hp, held _ r (e ∙ lengths) t, fell _ d tested z)
+          replay-unused z = rw (counts, lt-ltb p n hp, held _ r (e ∙ lengths) t, fell _ (u && v) tested z)
 
-          module _ (z : not d ≡ false) (w : Bool) (x : List ℕ) (ew : w ≡ same_bytes (pack (replay_of (circuit_of s) n p lent).output) y)
+          module _ (z : not (u && v) ≡ false) (w : Bool) (x : List ℕ) (ew : w ≡ same_bytes (pack (replay_of (circuit_of s) n p lent).output) y)
               (ex : x ≡ cond w (rows_of n (replay_of (circuit_of s) n p lent)) rows) where
             -- success
-            pub replay-done : w ≡ true → outcome Done (x ∷ []) ≡ replay_legal n p lent y rows (circuit_of s)
+            pub replay-done : w ≡ true → outcome (Ok tt) (x ∷ []) ≡ replay_legal n p lent y rows (circuit_of s)
             unfolding replay_legal
             replay-done c =
                 let f : x ≡ rows_of n (replay_of (circuit_of s) n p lent) = ex ∙ ap (λ (j : Bool). cond j (rows_of n (replay_of (circuit_of s) n p lent)) rows) c in
-                rw (counts, lt-ltb p n hp, held _ r (e ∙ lengths) t, held _ d tested z, sym ew ∙ c, f)
+                rw (counts, lt-ltb p n hp, held _ r (e ∙ lengths) t, held _ (u && v) tested z, sym ew ∙ c, f)
 
             -- the output differs
-            pub replay-output : w ≡ false → outcome (Refused Output) (x ∷ []) ≡ replay_legal n p lent y rows (circuit_of s)
+            pub replay-output : w ≡ false → outcome (Err Output) (x ∷ []) ≡ replay_legal n p lent y rows (circuit_of s)
             unfolding replay_legal
             replay-output c =
                 let f : x ≡ rows = ex ∙ ap (λ (j : Bool). cond j (rows_of n (replay_of (circuit_of s) n p lent)) rows) c in
-                rw (counts, lt-ltb p n hp, held _ r (e ∙ lengths) t, held _ d tested z, sym ew ∙ c, f)
+                rw (counts, lt-ltb p n hp, held _ r (e ∙ lengths) t, held _ (u && v) tested z, sym ew ∙ c, f)
 
 -- the file is read first
-module _ (s : List ℕ) (n p : ℕ) (x : Showing) (y rows work : List ℕ) (r : ReadAnswer) (e : read_paper r ≡ read_op s) where
-  pub replay-refused : (k : Refusal) {slot : ℕ} → r ≡ read_answer.Refused k slot → outcome (Refused k) (rows ∷ work ∷ []) ≡ replay_op s n p x y rows work
+module _ (s : List ℕ) (n p : ℕ) (x : Showing) (y rows work : List ℕ) (r : Result Sizes Fault) (e : read_paper r ≡ read_op s) where
+  pub replay-refused : (k : Fault) → r ≡ Err k → outcome (Err k.refusal) (rows ∷ work ∷ []) ≡ replay_op s n p x y rows work
   unfolding replay_op
   replay-refused k q = work-refused s (rows ∷ []) work (replay_legal n p x y rows) r e k q
 
   -- then the work buffer is tested
-  module _ (z : Sizes) (q : r ≡ read_answer.Legal z) (need : ℕ) (f : need ≡ memory_bytes z) where
-    pub replay-short : length work < need → outcome (Refused BufferLength) (rows ∷ work ∷ []) ≡ replay_op s n p x y rows work
+  module _ (z : Sizes) (q : r ≡ Ok z) (need : ℕ) (f : need ≡ memory_bytes z) where
+    pub replay-short : length work < need → outcome (Err BufferLength) (rows ∷ work ∷ []) ≡ replay_op s n p x y rows work
     unfolding replay_op
     replay-short l = work-short s (rows ∷ []) work (replay_legal n p x y rows) r e z q need f l
 
-    pub replay-left : need ≤ length work → (a : Answer) (filled : List ℕ) → outcome a (filled ∷ []) ≡ replay_legal n p x y rows (circuit_of s)
-        → (k : ℕ) (m w : List ℕ) → w ≡ cond (true || is_done a) (replicate k 0 ++ drop k m) m → k ≡ length work → length m ≡ length work
-        → outcome a (filled ∷ w ∷ []) ≡ replay_op s n p x y rows work
+    pub replay-left : need ≤ length work → (a : Result ⊤ Refusal) (filled : List ℕ) → outcome a (filled ∷ []) ≡ replay_legal n p x y rows (circuit_of s)
+        → (w : List ℕ) → w ≡ replicate (length work) 0 → outcome a (filled ∷ w ∷ []) ≡ replay_op s n p x y rows work
     unfolding replay_op
-    replay-left l a filled t k m w u v j =
-        work-left s (rows ∷ []) work (replay_legal n p x y rows) r e z q need f l (outcome a (filled ∷ [])) t w (all-cleared a k work m w u v j)
+    replay-left l a filled t w u =
+        work-left s (rows ∷ []) work (replay_legal n p x y rows) r e z q need f l (outcome a (filled ∷ [])) t w u

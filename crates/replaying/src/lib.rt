@@ -6,31 +6,18 @@ ghost use Rattle.bits.specs.Bits.{oct, pack};
 ghost use Rattle.bits.specs.Bytes.{same_bytes};
 ghost use Rattle.circuit.specs.File.{max_inputs, max_outputs, max_gates, circuit_of};
 ghost use Rattle.plain.specs.Showing.{rows_of, replay_of};
-ghost use Rattle.planes.specs.Steps.{Room};
-ghost use Rattle.walk.specs.Steps.{layout_of};
-ghost use Rattle.packed.specs.Steps.{broadcast_bytes, rows_sent};
 ghost use Rattle.mpc.specs.Operations.{unused_showing, replay_legal, replay_op};
 ghost use Rattle.mpc.specs.Answers.{outcome};
 ghost use Rattle.mpc.specs.Steps.{Known, Working, memory_bytes, ShowingFits};
 
-use circuit::{ReadAnswer, Sizes};
-use mpc::Answer;
+use bits::clear;
+use circuit::Sizes;
 use mpc::holding::hold;
-use mpc::lending::{clear_after, work_bytes};
-use mpc::tests::{both, either, holds, holds_rows, unused_rows};
+use mpc::lending::work_bytes;
+use mpc::tests::{holds, holds_rows, unused_rows};
 use packed::running::{give_rows, replay_held};
 use reading::read;
 use refusal::Refusal;
-
-// Fills the broadcast rows of n parties where good; else leaves them as they were.
-fn give_if(good: bool, z: Sizes, n: usize, memory: &[u8], rows: &mut [u8])
-    requires { Room (layout_of z) memory.now × ((n ≤ 64) × (length rows.old ≡ n * broadcast_bytes z)) }
-    ensures { rows.new ≡ cond good (rows_sent (layout_of z) n (broadcast_bytes z) memory.now) rows.old }
-{
-    if good {
-        give_rows(z, n, memory, rows);
-    }
-}
 
 // Replays in a work memory. Where the output is y, fills the rows and answers true; else answers false.
 fn replay_in(
@@ -53,9 +40,11 @@ fn replay_in(
     let size = bits::oct(z.outputs);
     hold(z, n, tapes, corrections, memory);
     replay_held(s, z, n, p, masked, row, &mut part[..size], memory);
-    let good = bits::same(&part[..size], y);
-    give_if(good, z, n, memory, rows);
-    good
+    let same = bits::same(&part[..size], y);
+    if same {
+        give_rows(z, n, memory, rows);
+    }
+    same
 }
 
 // Whether the lengths of what replay is lent are as stated.
@@ -72,18 +61,12 @@ fn replay_lengths(
     requires { (n ≤ 64) × ((z.inputs ≤ max_inputs) × ((z.outputs ≤ max_outputs) × (z.ands ≤ max_gates))) }
     ensures { result ≡ (eqb (length tapes.now) (n * oct (z.inputs + 2 * z.ands)) && eqb (length corrections.now) (oct z.ands) && eqb (length masked.now) (oct z.inputs) && eqb (length row.now) (oct (z.ands + z.outputs))) && eqb (length y.now) (oct z.outputs) && eqb (length rows.now) (n * oct (z.ands + z.outputs)) }
 {
-    let first = both(
-        both(
-            holds_rows(tapes, n, z.inputs + 2 * z.ands),
-            holds(corrections, z.ands),
-        ),
-        holds(masked, z.inputs),
-    );
-    let parts = both(first, holds(row, z.ands + z.outputs));
-    both(
-        both(parts, holds(y, z.outputs)),
-        holds_rows(rows, n, z.ands + z.outputs),
-    )
+    holds_rows(tapes, n, z.inputs + 2 * z.ands)
+        && holds(corrections, z.ands)
+        && holds(masked, z.inputs)
+        && holds(row, z.ands + z.outputs)
+        && holds(y, z.outputs)
+        && holds_rows(rows, n, z.ands + z.outputs)
 }
 
 // Whether every bit of a showing that is not used is zero, row p of the tapes and a hidden party's corrections too.
@@ -102,16 +85,14 @@ fn unused_showing(
 {
     let len = bits::oct(z.inputs + 2 * z.ands);
     let own = bits::row(tapes, len, p);
-    let lent = both(
-        unused_rows(s, z, n, tapes),
-        bits::unused_zero(corrections, z.ands),
-    );
-    let more = both(
-        both(lent, bits::unused_zero(masked, z.inputs)),
-        bits::unused_zero(row, z.ands + z.outputs),
-    );
-    let none = either(p + 1 != n, bits::unused_zero(corrections, 0));
-    both(both(more, bits::unused_zero(own, 0)), none)
+    let none = (p + 1 != n) | bits::unused_zero(corrections, 0);
+    // All run, whatever the bytes hold.
+    unused_rows(s, z, n, tapes)
+        & bits::unused_zero(corrections, z.ands)
+        & bits::unused_zero(masked, z.inputs)
+        & bits::unused_zero(row, z.ands + z.outputs)
+        & bits::unused_zero(own, 0)
+        & none
 }
 
 // Tests what is lent, and replays a run of a legal circuit.
@@ -127,33 +108,28 @@ fn replay_lent(
     y: &[u8],
     rows: &mut [u8],
     memory: &mut [u8],
-) -> Answer
+) -> Result<(), Refusal>
     requires { Known s.now z × (memory_bytes z ≤ length memory.old) }
     ensures { outcome result (rows.new ∷ []) ≡ replay_legal n p (record { tapes = tapes.entry.now; corrections = corrections.now; masked_inputs = masked.now; row = row.now }) y.now rows.old (circuit_of s.now) }
 {
-    if parties::height(n) == 0 {
-        return Answer::Refused(Refusal::Parameter);
+    if parties::height(n).is_none() {
+        return Err(Refusal::Parameter);
     }
     if n <= p {
-        return Answer::Refused(Refusal::Index);
+        return Err(Refusal::Index);
     }
     let k = n as usize;
     let q = p as usize;
     if !replay_lengths(z, k, tapes, corrections, masked, row, y, rows) {
-        return Answer::Refused(Refusal::BufferLength);
+        return Err(Refusal::BufferLength);
     }
-    if !both(
-        unused_showing(s, z, k, q, tapes, corrections, masked, row),
-        bits::unused_zero(y, z.outputs),
-    ) {
-        return Answer::Refused(Refusal::UnusedBits);
+    let clean = unused_showing(s, z, k, q, tapes, corrections, masked, row)
+        & bits::unused_zero(y, z.outputs);
+    if !clean {
+        return Err(Refusal::UnusedBits);
     }
     let good = replay_in(s, z, k, q, tapes, corrections, masked, row, y, rows, memory);
-    if good {
-        Answer::Done
-    } else {
-        Answer::Refused(Refusal::Output)
-    }
+    if good { Ok(()) } else { Err(Refusal::Output) }
 }
 
 // Replays an opened run: fills n broadcast rows where its output is y, or refuses and leaves them as they were. The work buffer is left
@@ -169,21 +145,15 @@ pub fn replay(
     y: &[u8],
     rows: &mut [u8],
     work: &mut [u8],
-) -> Answer
+) -> Result<(), Refusal>
     ensures { outcome result (rows.new ∷ work.new ∷ []) ≡ replay_op s.now n p (record { tapes = tapes.entry.now; corrections = corrections.now; masked_inputs = masked.now; row = row.now }) y.now rows.old work.old }
 {
-    let answer = read(s);
-    match answer {
-        ReadAnswer::Refused(k, _) => Answer::Refused(k),
-        ReadAnswer::Legal(z) => {
-            let all = work.len();
-            let need = work_bytes(z);
-            if all < need {
-                return Answer::Refused(Refusal::BufferLength);
-            }
-            let ended = replay_lent(s, z, n, p, tapes, corrections, masked, row, y, rows, work);
-            clear_after(ended, true, all, work);
-            ended
-        }
+    let z = read(s)?;
+    let need = work_bytes(z);
+    if work.len() < need {
+        return Err(Refusal::BufferLength);
     }
+    let ended = replay_lent(s, z, n, p, tapes, corrections, masked, row, y, rows, work);
+    clear(work);
+    ended
 }

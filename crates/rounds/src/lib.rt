@@ -44,9 +44,7 @@ pub fn first(
     let n = k.parties;
     let h = k.height;
     let mut all = start_all_commitments();
-    let mut j = 0;
-    while j < m {
-        let i = j;
+    for i in 0..m {
         let inst = Instance {
             context: Context { salt, number: i },
             parties: n,
@@ -54,10 +52,9 @@ pub fn first(
         };
         let d = digests(s, z, inst, witness, master(nodes, i), memory);
         all = all.absorb(SHA3_256_RATE, &d.commitments);
-        let a = 32 * (j as usize);
+        let a = 32 * (i as usize);
         let e = a + 32;
         copy(&d.online, &mut onlines[a..e]);
-        j += 1;
     }
     let online = finish(start_all_online().absorb(SHA3_256_RATE, onlines));
     transcript(&finish(all), &online)
@@ -106,9 +103,7 @@ fn respond(
     let n = k.parties;
     let h = k.height;
     let mut end = part.len();
-    let mut j = m;
-    while 0 < j {
-        j -= 1;
+    for j in (0..m).rev() {
         let p = asked(table, n, j);
         let start = end - stretch_bytes(s, z, n, h, p);
         let a = 32 * (j as usize);

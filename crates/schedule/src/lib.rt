@@ -24,12 +24,10 @@ fn first_waiting(waiting: [bool; 16], from: u8, to: u8) -> u8
     requires { to ≤ 16 }
     ensures { result ≡ first_waiting waiting from to }
 {
-    let mut i = from;
-    while i < to {
+    for i in from..to {
         if waiting[i as usize] {
             return i;
         }
-        i += 1;
     }
     CALLERS
 }

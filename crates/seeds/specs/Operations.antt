@@ -2,16 +2,13 @@
 -- the tree over the masters. Order 10: "A lent salt of another length gives 6."
 -- "A refusal returns its number alone, and all lent buffers hold what they held."
 -- Assumes nothing.
-use Rattle.std.specs.Prelude.{Bool, not, ◌&&◌, ℕ, ◌*◌, ◌/◌, ◌%◌, eqb, leb, ltb, length}
+use Rattle.std.specs.Prelude.{Bool, not, ◌&&◌, ℕ, ◌*◌, ◌/◌, ◌%◌, eqb, leb, ltb, length, ⊤, Result}
 use mathlib.Core.List.{List, [], ◌∷◌, flatten}
 use Rattle.bits.specs.Bits.{tabulate}
 use Rattle.bits.specs.Bytes.{le_at}
-use Rattle.refusal.specs.Outcome as outcomes
-use Rattle.refusal.specs.Outcome.{refusal, success, Outcome, done, unless}
-use Rattle.refusal.specs.Refusal.{number_of}
+use Rattle.refusal.specs.Outcome.{Answer, told, Outcome, done, unless}
+use Rattle.refusal.specs.declared.Refusal.{Refusal}
 use Rattle.parties.specs.Parties.{height_of, is_party_count}
-use Rattle.seeds.specs.declared.Answer.{Answer}
-use Rattle.seeds.specs.declared.Answer.TheVariants.{Done, Refused}
 use Rattle.hashing.specs.Inputs.{context_of, bound_of}
 use Rattle.tree.specs.Tree.{leaves_below, siblings_below}
 use Rattle.cover.specs.Cover.{some}
@@ -19,12 +16,11 @@ use Rattle.cover.specs.Masters.{master_of, cover_of, cover_bytes}
 use Rattle.choice.specs.Challenge.{max_instances, challenge_of}
 
 -- a success has no values
-abbrev pub paper : Answer → outcomes.Answer
-paper Done = success []
-paper (Refused r) = refusal (number_of r)
+abbrev pub paper : Result ⊤ Refusal → Answer
+paper r = told (λ _. []) r
 
 -- the answer, and what the lent buffer then holds
-abbrev pub outcome : Answer → List ℕ → Outcome
+abbrev pub outcome : Result ⊤ Refusal → List ℕ → Outcome
 outcome r left = record { answer = paper r; left = left ∷ [] }
 
 -- an instance number is a u16

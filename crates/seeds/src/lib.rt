@@ -25,70 +25,68 @@ pub const MAX_MESSAGE: usize = 4096;
 
 pub const MAX_OUTPUT_BYTES: usize = 32;
 
-// What an operation answers.
-#[derive(Clone, Copy)]
-pub enum Answer {
-    Done,
-    Refused(Refusal),
-}
-
 // Expands the tree of instance j from its master into its n leaves.
-pub fn expand(j: u32, n: u32, salt: &[u8], master: &[u8], leaves: &mut [u8]) -> Answer
+pub fn expand(j: u32, n: u32, salt: &[u8], master: &[u8], leaves: &mut [u8]) -> Result<(), Refusal>
     ensures { outcome result leaves.new ≡ expand_op j n salt.now master.now leaves.old }
 {
     if j > 65535 {
-        return Answer::Refused(Refusal::Parameter);
+        return Err(Refusal::Parameter);
     }
-    let h = height(n);
-    if h == 0 {
-        return Answer::Refused(Refusal::Parameter);
-    }
+    let Some(h) = height(n) else {
+        return Err(Refusal::Parameter);
+    };
     if salt.len() != 32 {
-        return Answer::Refused(Refusal::BufferLength);
+        return Err(Refusal::BufferLength);
     }
     if master.len() != 16 {
-        return Answer::Refused(Refusal::BufferLength);
+        return Err(Refusal::BufferLength);
     }
     if leaves.len() != 16 * (n as usize) {
-        return Answer::Refused(Refusal::BufferLength);
+        return Err(Refusal::BufferLength);
     }
     let context = Context {
         salt: salt_in(salt),
         number: j,
     };
     leaves_below(context, 1, h, master, leaves);
-    Answer::Done
+    Ok(())
 }
 
 // Opens all leaves but p of the tree of instance j: the siblings on the path to p, top first.
-pub fn open(j: u32, n: u32, p: u32, salt: &[u8], master: &[u8], siblings: &mut [u8]) -> Answer
+pub fn open(
+    j: u32,
+    n: u32,
+    p: u32,
+    salt: &[u8],
+    master: &[u8],
+    siblings: &mut [u8],
+) -> Result<(), Refusal>
     ensures { outcome result siblings.new ≡ open_op j n p salt.now master.now siblings.old }
 {
     if j > 65535 {
-        return Answer::Refused(Refusal::Parameter);
+        return Err(Refusal::Parameter);
     }
-    let h = height(n);
-    if h == 0 {
-        return Answer::Refused(Refusal::Parameter);
-    }
+    let Some(h) = height(n) else {
+        return Err(Refusal::Parameter);
+    };
     if p >= n {
-        return Answer::Refused(Refusal::Index);
+        return Err(Refusal::Index);
     }
     if salt.len() != 32 {
-        return Answer::Refused(Refusal::BufferLength);
+        return Err(Refusal::BufferLength);
     }
     if master.len() != 16 {
-        return Answer::Refused(Refusal::BufferLength);
+        return Err(Refusal::BufferLength);
     }
     if siblings.len() != 16 * (h as usize) {
-        return Answer::Refused(Refusal::BufferLength);
+        return Err(Refusal::BufferLength);
     }
     let context = Context {
         salt: salt_in(salt),
         number: j,
     };
     siblings_below(context, 1, h, p, master, siblings);
-    Answer::Done
+    Ok(())
 }
 
 // Whether m instances with tau of them chosen are within the limits.
@@ -120,23 +118,22 @@ pub fn challenge(
     y: &[u8],
     message: &[u8],
     out: &mut [u8],
-) -> Answer
+) -> Result<(), Refusal>
     ensures { outcome result out.new ≡ challenge_op m tau n hstar.now salt.now digest.now y.now message.now out.old }
 {
     let fit = counts(m, tau);
     if !fit {
-        return Answer::Refused(Refusal::Parameter);
+        return Err(Refusal::Parameter);
     }
-    let h = height(n);
-    if h == 0 {
-        return Answer::Refused(Refusal::Parameter);
+    if height(n).is_none() {
+        return Err(Refusal::Parameter);
     }
     let lent = statement_fits(hstar, salt, digest, y, message);
     if !lent {
-        return Answer::Refused(Refusal::BufferLength);
+        return Err(Refusal::BufferLength);
     }
     if out.len() != 3 * (tau as usize) {
-        return Answer::Refused(Refusal::BufferLength);
+        return Err(Refusal::BufferLength);
     }
     derive(
         m as usize,
@@ -149,7 +146,7 @@ pub fn challenge(
         message,
         out,
     );
-    Answer::Done
+    Ok(())
 }
 
 // Whether a tree may have m masters.
@@ -174,24 +171,24 @@ fn fill_masters(m: u32, salt: &[u8], root: &[u8], out: &mut [u8])
 }
 
 // Makes the masters of m instances from the root.
-pub fn masters(m: u32, salt: &[u8], root: &[u8], out: &mut [u8]) -> Answer
+pub fn masters(m: u32, salt: &[u8], root: &[u8], out: &mut [u8]) -> Result<(), Refusal>
     ensures { outcome result out.new ≡ masters_op m salt.now root.now out.old }
 {
     let fit = tree_size(m);
     if !fit {
-        return Answer::Refused(Refusal::Parameter);
+        return Err(Refusal::Parameter);
     }
     if salt.len() != 32 {
-        return Answer::Refused(Refusal::BufferLength);
+        return Err(Refusal::BufferLength);
     }
     if root.len() != 16 {
-        return Answer::Refused(Refusal::BufferLength);
+        return Err(Refusal::BufferLength);
     }
     if out.len() != 16 * (m as usize) {
-        return Answer::Refused(Refusal::BufferLength);
+        return Err(Refusal::BufferLength);
     }
     fill_masters(m, salt, root, out);
-    Answer::Done
+    Ok(())
 }
 
 // Whether any leaf is listed, and each one is below m.
@@ -199,13 +196,11 @@ fn are_leaves(m: u32, list: &[u8]) -> bool
     ensures { result ≡ are_leaves m list.now }
 {
     let n = list.len() / 2;
-    let mut k: usize = 0;
-    while k < n {
+    for k in 0..n {
         let leaf = read_u16(list, 2 * k);
         if (leaf as u32) >= m {
             return false;
         }
-        k += 1;
     }
     1 <= n
 }
@@ -217,11 +212,9 @@ fn list_leaves(m: u32, list: &[u8], table: &mut [u8])
 {
     clear(table);
     let n = list.len() / 2;
-    let mut k: usize = 0;
-    while k < n {
+    for k in 0..n {
         let leaf = read_u16(list, 2 * k);
         table[leaf as usize] = 1;
-        k += 1;
     }
 }
 
@@ -247,7 +240,7 @@ fn open_nodes(h: u32, salt: &[u8], root: &[u8], marks: &[u8], out: &mut [u8])
 }
 
 // Opens the tree over m masters, if the output has 16 bytes for each opened node.
-fn open_listed(m: u32, list: &[u8], salt: &[u8], root: &[u8], out: &mut [u8]) -> Answer
+fn open_listed(m: u32, list: &[u8], salt: &[u8], root: &[u8], out: &mut [u8]) -> Result<(), Refusal>
     requires { (m ≤ 512) × ((are_leaves m list.now ≡ true) × ((length salt.now ≡ 32) × (length root.now ≡ 16))) }
     ensures { outcome result out.new ≡ unless (eqb (length out.old) (cover_bytes m (listed list.now))) 6 (out.old ∷ []) (done (cover_of m (listed list.now) salt.now root.now ∷ [])) }
 {
@@ -257,32 +250,32 @@ fn open_listed(m: u32, list: &[u8], salt: &[u8], root: &[u8], out: &mut [u8]) ->
     mark_listed(m, h, list, &mut marks[..end]);
     let n = opened_before(&marks[..end], end);
     if out.len() != 16 * n {
-        return Answer::Refused(Refusal::BufferLength);
+        return Err(Refusal::BufferLength);
     }
     open_nodes(h, salt, root, &marks[..end], out);
-    Answer::Done
+    Ok(())
 }
 
 // Opens the tree over m masters with the listed leaves hidden: the fewest nodes from which every other master follows and no hidden one.
-pub fn cover(m: u32, hidden: &[u8], salt: &[u8], root: &[u8], out: &mut [u8]) -> Answer
+pub fn cover(m: u32, hidden: &[u8], salt: &[u8], root: &[u8], out: &mut [u8]) -> Result<(), Refusal>
     ensures { outcome result out.new ≡ cover_op m hidden.now salt.now root.now out.old }
 {
     let fit = tree_size(m);
     if !fit {
-        return Answer::Refused(Refusal::Parameter);
+        return Err(Refusal::Parameter);
     }
     let listed = are_leaves(m, hidden);
     if !listed {
-        return Answer::Refused(Refusal::Index);
+        return Err(Refusal::Index);
     }
     if hidden.len() % 2 != 0 {
-        return Answer::Refused(Refusal::BufferLength);
+        return Err(Refusal::BufferLength);
     }
     if salt.len() != 32 {
-        return Answer::Refused(Refusal::BufferLength);
+        return Err(Refusal::BufferLength);
     }
     if root.len() != 16 {
-        return Answer::Refused(Refusal::BufferLength);
+        return Err(Refusal::BufferLength);
     }
     open_listed(m, hidden, salt, root, out)
 }

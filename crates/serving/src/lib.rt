@@ -8,25 +8,23 @@ ghost use Rattle.proof_tests.specs.Steps.{Tested};
 ghost use Rattle.proof.specs.File.{header_bytes, header_m};
 ghost use Rattle.proof.specs.Steps.{asks_in};
 ghost use Rattle.shared.specs.Service.{settled as «settled-of», settled_both, after_instance, next_instance};
-ghost use Rattle.schedule.specs.Schedule.{finished as «finished-with»};
+ghost use Rattle.refusal.specs.Refusal.{number_of};
+ghost use Rattle.schedule.specs.Schedule.{finished};
 ghost use Rattle.shared.specs.Steps.{outcome_of, ReadyAt, instance_at};
 
 use keccak::sponge::Sponge;
 use proof::nodes::row_count;
 use proof_tests::Shape;
+use refusal::Refusal;
 use shared::entering::part;
 use shared::{Job, Served};
 use stepping::{Running, check_one, same_hstar, take_digests};
 
-// A proof that is finished.
-pub fn finished(job: Job, verdict: u32) -> Served
-    ensures { outcome_of result ≡ «finished-with» verdict }
+// A proof that is refused.
+pub fn refused(k: Refusal) -> Served
+    ensures { outcome_of result ≡ finished (number_of k) }
 {
-    Served {
-        done: true,
-        verdict,
-        job,
-    }
+    Served::Finished(Err(k))
 }
 
 // A sponge's fill is below its rate.
@@ -34,8 +32,10 @@ fn settled(s: Sponge) -> Sponge
     ensures { result ≡ «settled-of» s }
 {
     let lanes = s.lanes;
-    let fill = s.fill % 136;
-    Sponge { lanes, fill }
+    Sponge {
+        lanes,
+        fill: s.fill % 136,
+    }
 }
 
 fn settled_both(d: Running) -> Running
@@ -55,21 +55,16 @@ fn taken_in(job: Job, d: Running, m: u32, proof: &[u8]) -> Served
     let places = job.places;
     let next = job.next + 1;
     if next < m {
-        return Served {
-            done: false,
-            verdict: 0,
-            job: Job {
-                places,
-                next,
-                digests: d,
-            },
-        };
+        return Served::GoesOn(Job {
+            places,
+            next,
+            digests: d,
+        });
     }
-    let good = same_hstar(d, proof);
-    if good {
-        return finished(job, 0);
+    if same_hstar(d, proof) {
+        return Served::Finished(Ok(()));
     }
-    finished(job, 13)
+    refused(Refusal::Digest)
 }
 
 // Checks the next instance of a proof that passes all tests that need no run. The table and the marks are those of its challenge.
@@ -90,11 +85,11 @@ fn serve_tested(
     let m = k.instances;
     let j = job.next;
     if j >= m {
-        return finished(job, 13);
+        return refused(Refusal::Digest);
     }
     let r = check_one(s, f, table, marks, y, proof, j, memory);
     if !r.agrees {
-        return finished(job, 10);
+        return refused(Refusal::Output);
     }
     let digests = job.digests;
     let d = settled_both(digests);

@@ -27,13 +27,14 @@ use Rattle.instance.specs.Instance.{Asked}
 use Rattle.proof.specs.File.{header_m, header_n, header_hstar, good_header, proof_bytes}
 use Rattle.proof.specs.Check.{check_legal}
 use Rattle.proof_tests.specs.declared.Shape.{Shape}
-use Rattle.proof_tests.specs.declared.Entry.{Entry}
-use Rattle.proof_tests.specs.declared.Entry.TheVariants.{Refused, Taken}
-use Rattle.proof_tests.specs.Steps.{all_unused, all_outputs, recomputed, tested, judged, legal_tests, Ready, entered, Took}
+use Rattle.std.specs.Prelude.{Result, Ok, Err}
+use Rattle.proof_tests.specs.Steps.{all_unused, all_outputs, recomputed, tested, judged, legal_tests, Ready, entered, Took, in_table, in_marks}
 use Rattle.proof_tests.proofs.Outcomes.{check-tests, tests-refuse, tests-accept}
 use Rattle.shared.specs.declared.Place.{Place}
 use Rattle.shared.specs.declared.Places.{Places}
+use Rattle.shared.specs.StateSteps.{refusal_of}
 use Rattle.shared.specs.Service.{inside, all_inside, at, number, but_late, on_entry, entry_of, entry_at, asks}
+use Rattle.shared.specs.Steps.{Looking}
 use Rattle.shared.proofs.Instances.{late-6, late-7, late-11, late-12}
 
 -- a place, by its start and what is left
@@ -132,7 +133,7 @@ module _ (buffer : List ℕ) (p : Places) (ins : all_inside buffer p ≡ true) (
   look-read k n slot q e = ap some q ∙ (sym (ap (λ (r : Reading). on_entry r (check_legal s y message proof)) e) ∙ entry-is)
 
   -- it is legal; the tests
-  module _ (l : read_circuit s ≡ legal (circuit_of s)) (r : Entry) (e : entered r ≡ legal_tests s y message proof (circuit_of s) (done [])) where
+  module _ (l : read_circuit s ≡ legal (circuit_of s)) (r : Result Shape declared.Refusal) (e : entered r ≡ legal_tests s y message proof (circuit_of s) (done [])) where
     entry-late : but_late (number (check_legal s y message proof (circuit_of s)).answer) ≡ entry_at buffer p
     unfolding entry_of
     entry-late = sym (ap (λ (x : Reading). on_entry x (check_legal s y message proof)) l) ∙ entry-is
@@ -146,7 +147,7 @@ module _ (buffer : List ℕ) (p : Places) (ins : all_inside buffer p ≡ true) (
         (eqb (length proof) (proof_bytes c (header_m proof) (header_n proof) ask)) (all_unused c (header_m proof) (header_n proof) ask proof) k h
 
     -- they refuse
-    pub look-refused : (k : declared.Refusal) (n : ℕ) → n ≡ number_of k → r ≡ Refused k → some n ≡ entry_at buffer p
+    pub look-refused : (k : declared.Refusal) (n : ℕ) → n ≡ number_of k → r ≡ Err k → some n ≡ entry_at buffer p
     look-refused k n q t =
         let h : refuses (number_of k) [] ≡ legal_tests s y message proof (circuit_of s) (done []) = sym (ap entered t) ∙ e in
         let g : refuses (number_of k) [] ≡ check_legal s y message proof (circuit_of s) =
@@ -162,17 +163,26 @@ module _ (buffer : List ℕ) (p : Places) (ins : all_inside buffer p ≡ true) (
         judged-late (all_outputs c (header_m proof) (header_n proof) ask y proof) (same_bytes (recomputed c (header_m proof) (header_n proof) ask proof) (header_hstar proof))
 
     -- they pass
-    pub look-taken : (f : Shape) → r ≡ Taken f → none ≡ entry_at buffer p
+    pub look-taken : (f : Shape) → r ≡ Ok f → none ≡ entry_at buffer p
     look-taken f t =
         let g = tests-accept s y message proof (circuit_of s) (judged (circuit_of s) y proof (header_m proof) (header_n proof) (asks s y message proof)) (sym (ap entered t) ∙ e)
         ∙ sym (check-tests s y message proof (circuit_of s)) in
         sym judged-none ∙ (ap (λ (o : outcomes.Outcome). but_late (number o.answer)) g ∙ entry-late)
 
-    pub look-ready : (z : Sizes) (table marks : Shape → List ℕ) (f : Shape) → Took r s z y message proof table marks → r ≡ Taken f
+    pub look-ready : (z : Sizes) (table marks : Shape → List ℕ) (f : Shape) → Took r s z y message proof table marks → r ≡ Ok f
         → Ready (at buffer p.circuit) f (at buffer p.y) (at buffer p.message) (at buffer p.proof) (table f) (marks f)
     look-ready z table marks f t q =
-        let u : (f.sizes ≡ z) × Ready s f y message proof (table f) (marks f) = subst (λ (x : Entry). Took x s z y message proof table marks) q t in
+        let u : (f.sizes ≡ z) × Ready s f y message proof (table f) (marks f) = subst (λ (x : Result Shape declared.Refusal). Took x s z y message proof table marks) q t in
         subst (λ (x : List ℕ). Ready x f (at buffer p.y) (at buffer p.message) (at buffer p.proof) (table f) (marks f)) es
         (subst (λ (x : List ℕ). Ready s f x (at buffer p.message) (at buffer p.proof) (table f) (marks f)) ey
         (subst (λ (x : List ℕ). Ready s f y x (at buffer p.proof) (table f) (marks f)) em
         (subst (λ (x : List ℕ). Ready s f y message x (table f) (marks f)) ep u.1)))
+
+    -- what they answer
+    pub look-told : (z : Sizes) (table marks : List ℕ) → Took r s z y message proof (in_table table) (in_marks marks)
+        → (refusal_of r ≡ entry_at buffer p) × Looking r buffer p table marks
+    look-told z table marks t = by-case r refl
+      where
+        by-case : (x : Result Shape declared.Refusal) → r ≡ x → (refusal_of x ≡ entry_at buffer p) × Looking x buffer p table marks
+        by-case (Err k) q = (look-refused k (number_of k) refl q, number_small k (number_of k) refl)
+        by-case (Ok f) q = (look-taken f q, look-ready z (in_table table) (in_marks marks) f t q)

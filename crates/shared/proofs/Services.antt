@@ -23,8 +23,8 @@ use Rattle.proof.specs.Protocol.{statement_of, challenged}
 use Rattle.proof.specs.Steps.{asks_in}
 use Rattle.proof_tests.specs.declared.Shape.{Shape}
 use Rattle.shared.specs.declared.Places.{Places}
-use Rattle.shared.specs.declared.entering.Looked.{Looked}
-use Rattle.shared.specs.declared.entering.Looked.TheVariants as looked
+use Rattle.std.specs.Prelude.{Result, Ok}
+use Rattle.refusal.specs.declared.Refusal.{Refusal}
 use Rattle.shared.specs.Steps.{Looking, ReadyAt, instance_at}
 use Rattle.instance.specs.Instance.{Asked}
 use Rattle.proof.specs.File.{header_m, header_hstar, header_salt}
@@ -143,7 +143,7 @@ module _ (buffer : List ℕ) (job : Job) where
   service-ready e o q = q ∙ ap (λ (x : Option ℕ). unless_refused x finished (instance_at buffer job)) e ∙ by-instance buffer job
 
 -- what the tests leave is what the next instance needs
-pub ready_at : (r : Looked) (f : Shape) (buffer : List ℕ) (p : Places) (table marks : List ℕ) → Looking r buffer p table marks → r ≡ looked.Ready f
+pub ready_at : (r : Result Shape Refusal) (f : Shape) (buffer : List ℕ) (p : Places) (table marks : List ℕ) → Looking r buffer p table marks → r ≡ Ok f
     → all_inside buffer p ≡ true → length table ≡ 512 → length marks ≡ 1024 → ReadyAt f buffer p table marks
 ready_at r f buffer p table marks h q i a b =
-    record { inside = i; ready = subst (λ (x : Looked). Looking x buffer p table marks) q h; entries = a; nodes = b }
+    record { inside = i; ready = subst (λ (x : Result Shape Refusal). Looking x buffer p table marks) q h; entries = a; nodes = b }

@@ -8,6 +8,7 @@ ghost use Rattle.shared.specs.StateSteps.{state_of};
 
 pub mod entering;
 
+use refusal::Refusal;
 use stepping::{Running, start_digests};
 
 // Where an input lies in the lent buffer.
@@ -36,10 +37,9 @@ pub struct Job {
 
 // What a service gives: the proof as it goes on, or its verdict.
 #[derive(Clone, Copy)]
-pub struct Served {
-    pub done: bool,
-    pub verdict: u32,
-    pub job: Job,
+pub enum Served {
+    GoesOn(Job),
+    Finished(Result<(), Refusal>),
 }
 
 // The state of the checker: the caller to begin with, 0 at first and then one above the last served, who waits, and their proofs.

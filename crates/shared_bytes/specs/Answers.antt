@@ -1,17 +1,12 @@
 -- The answers of an entry and of a call in the paper's terms.
 -- Assumes nothing.
-use Rattle.std.specs.Prelude.{[], ◌∷◌}
-use Rattle.refusal.specs.Outcome.{Answer, refusal, success}
-use Rattle.shared_bytes.specs.declared.EnterAnswer.{EnterAnswer}
-use Rattle.shared_bytes.specs.declared.EnterAnswer.TheVariants as enterAnswer
-use Rattle.shared_bytes.specs.declared.CheckAnswer.{CheckAnswer}
-use Rattle.shared_bytes.specs.declared.CheckAnswer.TheVariants as checkAnswer
+use Rattle.std.specs.Prelude.{[], ◌∷◌, ℕ, ⊤, Result}
+use Rattle.refusal.specs.declared.Refusal.{Refusal}
+use Rattle.refusal.specs.Outcome.{Answer, told}
 
-abbrev pub enter_paper : EnterAnswer → Answer
-enter_paper enterAnswer.Done = success []
-enter_paper (enterAnswer.Refused k) = refusal k
+abbrev pub enter_paper : Result ⊤ Refusal → Answer
+enter_paper r = told (λ _. []) r
 
 -- "the answer counts the instances checked in that call"
-abbrev pub check_paper : CheckAnswer → Answer
-check_paper (checkAnswer.Checked n) = success (n ∷ [])
-check_paper (checkAnswer.Refused k) = refusal k
+abbrev pub check_paper : Result ℕ Refusal → Answer
+check_paper r = told (λ n. n ∷ []) r

@@ -6,23 +6,10 @@ ghost use Rattle.shared_bytes.specs.Operations.{start_op, places_of, enter_op, c
 ghost use Rattle.shared_bytes.specs.Answers.{enter_paper, check_paper};
 
 use calling::call;
+use refusal::Refusal;
 use shared::{Place, Places};
 use state_bytes::decoding::decode;
 use state_bytes::writing::encode;
-
-// The answer of an entry; a refusal by its number.
-#[derive(Clone, Copy)]
-pub enum EnterAnswer {
-    Done,
-    Refused(u32),
-}
-
-// The answer of a call: how many instances were checked, or a refusal by its number.
-#[derive(Clone, Copy)]
-pub enum CheckAnswer {
-    Checked(u32),
-    Refused(u32),
-}
 
 // The empty state.
 pub fn start(state: &mut [u8; 7537])
@@ -62,38 +49,31 @@ pub fn enter(
     places: &[u64; 8],
     buffer: &[u8],
     work: &mut [u8],
-) -> EnterAnswer
+) -> Result<(), Refusal>
     ensures { (enter_paper result ≡ (enter_op state.old caller places.now buffer.now work.old).answer) × (state.new ∷ work.new ∷ [] ≡ (enter_op state.old caller places.now buffer.now work.old).left) }
 {
     let s = decode(state);
     let p = places_of(places);
-    let e = entry::enter(s, caller, p, buffer, work);
-    if e.refused {
-        return EnterAnswer::Refused(e.number);
-    }
-    let next = e.state;
-    encode(next, state);
-    EnterAnswer::Done
+    let after = entry::enter(s, caller, p, buffer, work)?;
+    encode(after, state);
+    Ok(())
 }
 
-// Checks a quota of instances. A refused call leaves the state and the verdicts as they were.
+// Checks a quota of instances: how many were checked. A refused call leaves the state and the verdicts as they were.
 pub fn check(
     state: &mut [u8; 7537],
     quota: u32,
     buffer: &[u8],
     verdicts: &mut [u8; 16],
     work: &mut [u8],
-) -> CheckAnswer
+) -> Result<u32, Refusal>
     ensures { (check_paper result ≡ (call_op state.old quota buffer.now verdicts.old work.old).answer) × (state.new ∷ verdicts.new ∷ work.new ∷ [] ≡ (call_op state.old quota buffer.now verdicts.old work.old).left) }
 {
     let s = decode(state);
-    let r = call(s, quota, buffer, work);
-    if r.refused {
-        return CheckAnswer::Refused(r.number);
-    }
+    let r = call(s, quota, buffer, work)?;
     let after = r.state;
     encode(after, state);
     let told = r.verdicts;
     *verdicts = told;
-    CheckAnswer::Checked(r.count)
+    Ok(r.count)
 }

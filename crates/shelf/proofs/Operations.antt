@@ -8,15 +8,12 @@ use Prim.Native.Nat.{ℕ, ◌+◌}
 use borrow.Author.Tests.{eq-eqb, ne_eqb}
 use lib.ListN.{length, take, drop}
 use lib.Seq.{sets}
-use Rattle.shelf.specs.Steps.{no_root}
 use Rattle.bits.specs.Bytes.{le_bytes}
-use Rattle.refusal.specs.declared.Refusal.{Refusal}
-use Rattle.refusal.specs.Refusal.{number_of}
-use Rattle.refusal.specs.Outcome.{Outcome, refuses, done}
-use Rattle.shelf.specs.declared.Drawn.{Drawn}
+use Rattle.std.specs.Prelude.{Ok}
+use Rattle.refusal.specs.Outcome.{refuses, done}
 use Rattle.shelf_page.specs.declared.Shelf.{Shelf}
 use Rattle.shelf_page.specs.Page.{slot_at, ready_head, spare_head, draws_of, next_of, root_of, zero_root, sound}
-use Rattle.shelf.specs.Operations.{stocked, drawn, stock_op, draw_op, outcome, root_out, gives}
+use Rattle.shelf.specs.Operations.{stocked, drawn, stock_op, draw_op, draw_outcome, gives}
 use Rattle.shelf_page.proofs.Soundness.{shelf_of}
 use Rattle.shelf_slots.specs.Slots.{put_slot, put_heads}
 use Rattle.shelf_slots.specs.Steps.{moved_after, link_after}
@@ -64,18 +61,10 @@ module _ (p : List ℕ) (n : ℕ) where
         unfolding draw_op
         draw-accepted h = rw (t, eq-eqb n (draws_of p) c, ne_eqb (ready_head p) 0 r, ne_eqb (draws_of p) 4294967295 h)
 
--- what draw promises of a refusal: its number, the page as it was, and a zero root beside them
-pub draw-refused : (p : List ℕ) (n : ℕ) (r : Refusal) (d : Drawn) → d ≡ no_root r → draw_op p n ≡ refuses (number_of r) (p ∷ [])
-    → (outcome d.answer d.root p ≡ draw_op p n) × (d.root ≡ root_out (draw_op p n).answer)
-draw-refused p n r d e f = (
-  ap (λ (t : Drawn). outcome t.answer t.root p) e ∙ sym f,
-  ap (λ (t : Drawn). t.root) e ∙ sym (ap (λ (o : Outcome). root_out o.answer) f),
-)
-
--- what it promises of a root that is given
+-- what draw promises of a root that is given
 pub draw-given : (p : List ℕ) (n : ℕ) (root page : List ℕ) → root ≡ root_of p (ready_head p) → page ≡ drawn p
-    → draw_op p n ≡ gives (root_of p (ready_head p)) (drawn p) → (gives root page ≡ draw_op p n) × (root ≡ root_out (draw_op p n).answer)
-draw-given p n root page r d e = (ap₂ gives r d ∙ sym e, r ∙ sym (ap (λ (o : Outcome). root_out o.answer) e))
+    → draw_op p n ≡ gives (root_of p (ready_head p)) (drawn p) → draw_outcome (Ok root) page ≡ draw_op p n
+draw-given p n root page r d e = ap₂ gives r d ∙ sym e
 
 -- the writes of a stocking
 pub stock-done : (p root : List ℕ) (s : Shelf) (next : ℕ) (a b : List ℕ) → s ≡ shelf_of p → next ≡ next_of p s.spare

@@ -1,4 +1,3 @@
 pub mod Operations
 pub mod Plain
 pub mod History
-pub mod Steps

@@ -1,34 +1,31 @@
 -- The operations stock and draw (document 01, "Each operation's refusals, in order"): answer and page.
 -- Assumes nothing.
-use Rattle.std.specs.Prelude.{not, cond, List, [], ◌∷◌, ℕ, ◌+◌, eqb, length, get_or}
+use Rattle.std.specs.Prelude.{not, List, [], ◌∷◌, ℕ, ◌+◌, eqb, length, get_or, ⊤, Result}
 use Rattle.std.proofs.lemmas.List.Edits.{sets}
 use Rattle.bits.specs.Bytes.{le_bytes}
-use Rattle.refusal.specs.declared.Refusal.TheVariants.{BufferLength, Shelf, Count, Empty, Full, Exhausted}
 use Rattle.refusal.specs.declared.Refusal.{Refusal}
-use Rattle.refusal.specs.Refusal.{number_of}
-use Rattle.refusal.specs.Outcome.{Answer, refusal_at, refusal, success, Outcome, done, unless}
-use Rattle.shelf.specs.declared.Answer as declared
-use Rattle.shelf.specs.declared.Answer.TheVariants.{Accepted, Refused}
+use Rattle.refusal.specs.Outcome.{Answer, success, told, Outcome, done, unless}
 use Rattle.shelf_page.specs.Page.{ready_head, spare_head, draws_of, next_of, root_of, zero_root, sound}
 use Rattle.shelf_slots.specs.Slots.{put_slot, put_heads}
 
--- the answer of stock and of draw in the paper's terms, where a success has these values: of stock none, of draw the root's bytes
-abbrev pub paper : declared.Answer → List ℕ → Answer
-paper Accepted values = success values
-paper (Refused r) values = refusal (number_of r)
+-- an answer in the paper's terms, where a success has these values: of stock none
+abbrev pub paper : Result ⊤ Refusal → List ℕ → Answer
+paper r values = told (λ _. values) r
 
 -- the answer, and what the one lent buffer, the page, then holds
-abbrev pub outcome : declared.Answer → List ℕ → List ℕ → Outcome
+abbrev pub outcome : Result ⊤ Refusal → List ℕ → List ℕ → Outcome
 outcome r values page = record { answer = paper r values; left = page ∷ [] }
+
+-- the same of draw: the values of a success are the bytes of the root that it gives
+abbrev pub draw_paper : Result (List ℕ) Refusal → Answer
+draw_paper r = told (λ root. root) r
+
+abbrev pub draw_outcome : Result (List ℕ) Refusal → List ℕ → Outcome
+draw_outcome r page = record { answer = draw_paper r; left = page ∷ [] }
 
 -- the page that an outcome leaves
 abbrev pub page_left : Outcome → List ℕ
 page_left o = get_or o.left 0 []
-
--- the root that goes out beside an answer of draw: a refusal has a zero root beside it
-abbrev pub root_out : Answer → List ℕ
-root_out (refusal_at k x) = zero_root
-root_out (success root) = root
 
 -- "Stocking writes the lent root into the first spare slot and moves that slot to the front of ready."
 unfoldable pub stocked : List ℕ → List ℕ → List ℕ

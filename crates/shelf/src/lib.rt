@@ -2,75 +2,50 @@
 #![tactic(auto)]
 
 ghost use Rattle.std.specs.Prelude.{◌≡◌, []};
-ghost use Rattle.shelf.specs.Steps.{no_root};
-ghost use Rattle.shelf.specs.Operations.{stock_op, draw_op, outcome, root_out};
+ghost use Rattle.shelf.specs.Operations.{stock_op, draw_op, outcome, draw_outcome};
 
 use refusal::Refusal;
-use shelf_page::{Checked, check, slot_at};
+use shelf_page::{check, slot_at};
 use shelf_slots::{move_after, put_heads, put_slot, take_root};
 
-// The answer of stock and of draw.
-#[derive(Clone, Copy)]
-pub enum Answer {
-    Accepted,
-    Refused(Refusal),
-}
-
-// A draw's answer, and the root that it gives; a zero root on a refusal.
-#[derive(Clone, Copy)]
-pub struct Drawn {
-    pub answer: Answer,
-    pub root: [u8; 16],
-}
-
 // Stocks a root: into the first spare slot, which goes to the front of ready.
-pub fn stock(page: &mut [u8], root: &[u8]) -> Answer
+pub fn stock(page: &mut [u8], root: &[u8]) -> Result<(), Refusal>
     ensures { outcome result [] page.new ≡ stock_op page.old root.now }
 {
-    let Checked::Sound(shelf) = check(page) else {
-        return Answer::Refused(Refusal::Shelf);
+    let Some(shelf) = check(page) else {
+        return Err(Refusal::Shelf);
     };
     if root.len() != 16 {
-        return Answer::Refused(Refusal::BufferLength);
+        return Err(Refusal::BufferLength);
     }
     let slot = shelf.spare as usize;
     if slot == 0 {
-        return Answer::Refused(Refusal::Full);
+        return Err(Refusal::Full);
     }
     let next = bits::read_u16(page, slot_at(slot));
     put_slot(page, slot, shelf.ready, root);
     put_heads(page, shelf.spare, next);
-    Answer::Accepted
-}
-
-// A refused draw gives a zero root.
-fn refuse(r: Refusal) -> Drawn
-    ensures { result ≡ no_root r }
-{
-    Drawn {
-        answer: Answer::Refused(r),
-        root: [0u8; 16],
-    }
+    Ok(())
 }
 
 // Draws the first ready root, whose slot goes to the front of spare. `count` is the count of the host's log.
-pub fn draw(page: &mut [u8], count: u64) -> Drawn
-    ensures { (outcome result.answer result.root page.new ≡ draw_op page.old count) × (result.root ≡ root_out (draw_op page.old count).answer) }
+pub fn draw(page: &mut [u8], count: u64) -> Result<[u8; 16], Refusal>
+    ensures { draw_outcome result page.new ≡ draw_op page.old count }
 {
-    let Checked::Sound(shelf) = check(page) else {
-        return refuse(Refusal::Shelf);
+    let Some(shelf) = check(page) else {
+        return Err(Refusal::Shelf);
     };
     let draws = shelf.draws;
     let due = draws as u64;
     let first = shelf.ready as usize;
     if count != due {
-        return refuse(Refusal::Count);
+        return Err(Refusal::Count);
     }
     if first == 0 {
-        return refuse(Refusal::Empty);
+        return Err(Refusal::Empty);
     }
     if draws == 4294967295 {
-        return refuse(Refusal::Exhausted);
+        return Err(Refusal::Exhausted);
     }
     let at = slot_at(first);
     let next = bits::read_u16(page, at);
@@ -78,8 +53,5 @@ pub fn draw(page: &mut [u8], count: u64) -> Drawn
     let zero = [0u8; 16];
     move_after(page, 0, shelf.ready, next, &zero);
     bits::write_u32(page, 8, draws + 1);
-    Drawn {
-        answer: Answer::Accepted,
-        root,
-    }
+    Ok(root)
 }

@@ -15,7 +15,7 @@ use Rattle.bits.proofs.Tests.{and-true-left, and-true-right}
 use Rattle.bits.specs.Counting.{count}
 use Rattle.bits.proofs.Counting.{count-append, count-le}
 use Rattle.shelf_page.specs.declared.Shelf.{Shelf}
-use Rattle.shelf_page.specs.declared.Checked.TheVariants.{Sound, Broken}
+use Rattle.std.specs.Prelude.{Some, None}
 use Rattle.shelf_page.specs.Page.{size_of, ready_head, spare_head, zero_field, draws_of, slot_at, next_of, chain, ended, all_one, blank, header_sound, chains_from, sound}
 use Rattle.shelf_page.specs.Steps.{Tallied, checked}
 use Rattle.shelf_page.proofs.Walks.{false-true, ended-room, all_one-cong, chain_length}
@@ -96,50 +96,50 @@ abbrev pub shelf_of : List ℕ → Shelf
 shelf_of p = record { size = size_of p; ready = ready_head p; spare = spare_head p; draws = draws_of p }
 
 module _ (p : List ℕ) where
-  pub checked-true : sound p ≡ true → checked p ≡ Sound (shelf_of p)
+  pub checked-true : sound p ≡ true → checked p ≡ Some (shelf_of p)
   unfolding checked
   checked-true e = rw e
 
-  pub checked-false : sound p ≡ false → checked p ≡ Broken
+  pub checked-false : sound p ≡ false → checked p ≡ None
   unfolding checked
   checked-false e = rw e
 
   -- a page that is checked as sound is, and its numbers are the page's
-  pub opened : (s : Shelf) → Sound s ≡ checked p → (sound p ≡ true) × (s ≡ shelf_of p)
+  pub opened : (s : Shelf) → Some s ≡ checked p → (sound p ≡ true) × (s ≡ shelf_of p)
   opened s e =
       ⊎_elim
-      (λ t. (t, let q : Sound s ≡ Sound (shelf_of p) = e ∙ checked-true t in cc))
-      (λ f. absurd (let q : Sound s ≡ Broken = e ∙ checked-false f in let z : ◌≡◌ {A = ℕ} 0 1 = cc in omega arith))
+      (λ t. (t, let q : Some s ≡ Some (shelf_of p) = e ∙ checked-true t in cc))
+      (λ f. absurd (let q : Some s ≡ None = e ∙ checked-false f in let z : ◌≡◌ {A = ℕ} 0 1 = cc in omega arith))
       (true-or-false (sound p))
 
   -- a page that is checked as broken is not sound
-  pub broken : Broken ≡ checked p → sound p ≡ false
+  pub broken : None ≡ checked p → sound p ≡ false
   broken e =
       ⊎_elim
-      (λ t. absurd (let q : Broken ≡ Sound (shelf_of p) = e ∙ checked-true t in let z : ◌≡◌ {A = ℕ} 0 1 = cc in omega arith))
+      (λ t. absurd (let q : None ≡ Some (shelf_of p) = e ∙ checked-true t in let z : ◌≡◌ {A = ℕ} 0 1 = cc in omega arith))
       (λ f. f)
       (true-or-false (sound p))
 
   -- each test that fails breaks the page
-  unsound : (Parts p → ⊥) → Broken ≡ checked p
+  unsound : (Parts p → ⊥) → None ≡ checked p
   unsound h = sym (checked-false (not_so (sound p) (λ t. h (parts p t))))
 
-  pub check-short : length p < 12 → Broken ≡ checked p
+  pub check-short : length p < 12 → None ≡ checked p
   check-short h = unsound (λ c. let l = c.long in omega arith)
 
-  pub check-length : (s : ℕ) → s ≡ le_at 2 p 0 → length p ≢ 12 + 18 * s → Broken ≡ checked p
+  pub check-length : (s : ℕ) → s ≡ le_at 2 p 0 → length p ≢ 12 + 18 * s → None ≡ checked p
   unfolding size_of
   check-length s e h = unsound (λ c. h (c.long ∙ ap (λ (n : ℕ). 12 + 18 * n) (sym e)))
 
-  pub check-low : (s : ℕ) → s ≡ le_at 2 p 0 → s < 1 → Broken ≡ checked p
+  pub check-low : (s : ℕ) → s ≡ le_at 2 p 0 → s < 1 → None ≡ checked p
   unfolding size_of
   check-low s e h = unsound (λ c. let l : 1 ≤ le_at 2 p 0 = c.low in omega arith)
 
-  pub check-high : (s : ℕ) → s ≡ le_at 2 p 0 → 255 < s → Broken ≡ checked p
+  pub check-high : (s : ℕ) → s ≡ le_at 2 p 0 → 255 < s → None ≡ checked p
   unfolding size_of
   check-high s e h = unsound (λ c. let l : le_at 2 p 0 ≤ 255 = c.high in omega arith)
 
-  pub check-zero : (z : ℕ) → z ≡ le_at 2 p 6 → z ≢ 0 → Broken ≡ checked p
+  pub check-zero : (z : ℕ) → z ≡ le_at 2 p 6 → z ≢ 0 → None ≡ checked p
   unfolding zero_field
   check-zero z e h = unsound (λ c. h (e ∙ c.zeroed))
 
@@ -148,11 +148,11 @@ module _ (p : List ℕ) where
     unfolding size_of ready_head spare_head
     same-chains = ap₂ (λ (a b : ℕ). chains_from p a b q) es er ∙ ap (chains_from p (le_at 2 p 0) (le_at 2 p 2)) eq
 
-    pub check-chains : chains_from p s r q ≡ false → Broken ≡ checked p
+    pub check-chains : chains_from p s r q ≡ false → None ≡ checked p
     check-chains e = unsound (λ c. false-true (sym e ∙ same-chains ∙ c.chained))
 
     pub check_sound : (z d : ℕ) → length p ≡ 12 + 18 * s → 1 ≤ s → s ≤ 255 → z ≡ le_at 2 p 6 → z ≡ 0 → d ≡ le_at 4 p 8 → chains_from p s r q ≡ true
-        → Sound (record { size = s; ready = r; spare = q; draws = d }) ≡ checked p
+        → Some (record { size = s; ready = r; spare = q; draws = d }) ≡ checked p
     unfolding size_of ready_head spare_head zero_field draws_of
     check_sound z d l lo hi ez z0 ed ch =
         let e : sound p ≡ true =
@@ -165,7 +165,7 @@ module _ (p : List ℕ) where
           chained = sym same-chains ∙ ch;
         }) in
         let f : ◌≡◌ {A = Shelf} (record { size = s; ready = r; spare = q; draws = d }) (shelf_of p) = cc in
-        ap Sound f ∙ sym (checked-true e)
+        ap Some f ∙ sym (checked-true e)
 
   -- a chain's first slot is one of the page's
   pub slot-room : (k : ℕ) → Parts p → ended (next_of p) (size_of p) (size_of p) k ≡ true → k ≢ 0 → (k ≤ 255) × (slot_at k + 18 ≤ length p)

@@ -1,7 +1,7 @@
 -- Laws of the walk along a chain, of counting its slots, and of the tests over them.
 -- Assumes nothing.
 use mathlib.Core.Path.{◌≡◌, refl, sym, ap, ap₂, ◌∙◌}
-use mathlib.Core.Bool.{Bool, true, false}
+use mathlib.Core.Bool.{Bool, true, false, and-false}
 use mathlib.Core.List.{List, [], ◌∷◌}
 use mathlib.Core.Logic.{◌≢◌, ⊎_elim}
 use Prim.Native.Nat.{ℕ, zero, suc, ◌+◌, ◌-◌, ◌≤◌, ◌<◌}
@@ -105,6 +105,16 @@ unfolding all_one
 all_one-not f zero l h = absurd (omega arith)
 all_one-not f (suc n) l h = rw (ne_eqb (f (suc n)) 1 h)
 
+-- a slot k of them is not 1
+pub all_one-miss : (f : ℕ → ℕ) (k n : ℕ) → 1 ≤ k → k ≤ n → f k ≢ 1 → all_one f n ≡ false
+unfolding all_one
+all_one-miss f k zero l u h = absurd (omega arith)
+all_one-miss f k (suc n) l u h =
+    ⊎_elim
+    (λ (w : n < k). let e : k ≡ suc n = omega arith in all_one-not f (suc n) (omega arith) (λ q. h (ap f e ∙ q)))
+    (λ (w : k ≤ n). rw (all_one-miss f k n l w h) (and-false (eqb (f (suc n)) 1)))
+    (lt-or-le n k)
+
 -- slot n is 1, and the slots below it are left
 pub all_one-more : (f : ℕ → ℕ) (n : ℕ) → 0 < n → f n ≡ 1 → all_one f n ≡ all_one f (n - 1)
 unfolding all_one
@@ -146,6 +156,17 @@ tallied-end p S head n slot before counts z e f =
           omega (arith, f k);
     }
 
+-- a chain that was followed through all its turns, where the counts are c
+pub tallied-last : (p : List ℕ) (S head n slot : ℕ) (before counts : List ℕ) → n ≡ 0
+    → ended (next_of p) S n slot ≡ ended (next_of p) S S head
+    → ((k : ℕ) → get_or counts k 0 + count k (chain (next_of p) n slot) ≡ get_or before k 0 + count k (chain (next_of p) S head))
+    → Tallied p S head before (eqb slot 0) counts
+tallied-last p S head n slot before counts z e f =
+    ⊎_elim
+    (λ (q : slot ≡ 0). rw (eq-eqb slot 0 q) (tallied-end p S head n slot before counts q e f))
+    (λ (q : slot ≢ 0). rw (ne_eqb slot 0 q) (tallied-not p S head before counts (sym e ∙ ap (λ (m : ℕ). ended (next_of p) S m slot) z ∙ ended-none (next_of p) S slot q)))
+    (eq-or-ne slot 0)
+
 -- nothing is counted yet
 pub get_or-zeros : (n k : ℕ) → ◌≡◌ {A = ℕ} (get_or (replicate n 0) k 0) 0
 get_or-zeros zero k = refl
@@ -167,6 +188,11 @@ blank-not p n k z l e = ap (blank p) (chain-slot (next_of p) n k z l) ∙ rw e
 pub blank-end : (p : List ℕ) (n k : ℕ) → k ≡ 0 → blank p (chain (next_of p) n k) ≡ true
 unfolding blank
 blank-end p n k z = ap (λ (j : ℕ). blank p (chain (next_of p) n j)) z ∙ ap (blank p) (chain-end (next_of p) n)
+
+-- no turn left
+pub blank-none : (p : List ℕ) (n k : ℕ) → n ≡ 0 → blank p (chain (next_of p) n k) ≡ true
+unfolding blank chain
+blank-none p n k z = ap (λ (m : ℕ). blank p (chain (next_of p) m k)) z
 
 -- the test of a slot's root, as it is made on that part of the page
 pub root-test : (p : List ℕ) (k at : ℕ) (r b : Bool) → at ≡ slot_at k → r ≡ same_bytes (take (at + 18 - (at + 2)) (drop (at + 2) p)) zero_root → r ≡ b

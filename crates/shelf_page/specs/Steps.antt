@@ -1,17 +1,16 @@
 -- What only the contracts of steps use: no definition of the paper stands here.
 -- Assumes nothing.
-use Rattle.std.specs.Prelude.{cond, Bool, true, List, ◌≡◌, ℕ, ◌+◌, get_or}
+use Rattle.std.specs.Prelude.{cond, Bool, true, List, ◌≡◌, ℕ, ◌+◌, get_or, Option, Some, None}
 use Rattle.bits.specs.Counting.{count}
-use Rattle.shelf_page.specs.declared.Checked.{Checked}
-use Rattle.shelf_page.specs.declared.Checked.TheVariants.{Sound, Broken}
+use Rattle.shelf_page.specs.declared.Shelf.{Shelf}
 use Rattle.shelf_page.specs.Page.{size_of, ready_head, spare_head, draws_of, sound, chain, ended, next_of}
 
--- the sound shelf of a page: S, the heads and draws
-unfoldable pub checked : List ℕ → Checked
+-- the shelf of a sound page: S, the heads and draws
+unfoldable pub checked : List ℕ → Option Shelf
 checked p =
     cond (sound p)
-    (Sound (record { size = size_of p; ready = ready_head p; spare = spare_head p; draws = draws_of p }))
-    Broken
+    (Some (record { size = size_of p; ready = ready_head p; spare = spare_head p; draws = draws_of p }))
+    None
 
 -- what counting a chain's slots leaves: whether the chain is ended, and, if so, its slots added to the counts
 pub record Tallied (p : List ℕ) (S head : ℕ) (before : List ℕ) (ends : Bool) (counts : List ℕ) : Type 0 where

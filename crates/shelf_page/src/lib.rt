@@ -14,13 +14,6 @@ pub struct Shelf {
     pub draws: u32,
 }
 
-// A page that was checked.
-#[derive(Clone, Copy)]
-pub enum Checked {
-    Sound(Shelf),
-    Broken,
-}
-
 // Where slot k starts.
 pub fn slot_at(slot: usize) -> usize
     requires { (0 < slot) × (slot ≤ 65535) }
@@ -35,19 +28,17 @@ fn tally(page: &[u8], size: usize, head: usize, seen: &mut [u16]) -> bool
     ensures { Tallied page.now size head seen.old result seen.new }
 {
     let mut slot = head;
-    let mut left = size;
-    while slot != 0 {
-        if left == 0 {
-            return false;
+    for _turn in 0..size {
+        if slot == 0 {
+            return true;
         }
         if size < slot {
             return false;
         }
-        seen[slot] = seen[slot] + 1;
+        seen[slot] += 1;
         slot = bits::read_u16(page, slot_at(slot)) as usize;
-        left -= 1;
     }
-    true
+    slot == 0
 }
 
 // Whether each of the slots 1..size was counted once.
@@ -55,12 +46,10 @@ fn each_once(seen: &[u16; 256], size: usize) -> bool
     requires { size ≤ 255 }
     ensures { result ≡ all_one (λ k. get_or seen.now k 0) size }
 {
-    let mut k = size;
-    while 0 < k {
+    for k in 1..=size {
         if seen[k] != 1 {
             return false;
         }
-        k -= 1;
     }
     true
 }
@@ -72,8 +61,10 @@ fn blanks(page: &[u8], size: usize, head: usize) -> bool
 {
     let zero = [0u8; 16];
     let mut slot = head;
-    let mut left = size;
-    while slot != 0 {
+    for _turn in 0..size {
+        if slot == 0 {
+            return true;
+        }
         let at = slot_at(slot);
         let from = at + 2;
         let to = at + 18;
@@ -81,7 +72,6 @@ fn blanks(page: &[u8], size: usize, head: usize) -> bool
             return false;
         }
         slot = bits::read_u16(page, at) as usize;
-        left -= 1;
     }
     true
 }
@@ -104,35 +94,35 @@ fn chains(page: &[u8], size: usize, ready: usize, spare: usize) -> bool
     blanks(page, size, spare)
 }
 
-// The sound shelf of a page.
-pub fn check(page: &[u8]) -> Checked
+// The shelf of a sound page.
+pub fn check(page: &[u8]) -> Option<Shelf>
     ensures { result ≡ checked page.now }
 {
     if page.len() < 12 {
-        return Checked::Broken;
+        return None;
     }
     let size = bits::read_u16(page, 0);
     let n = size as usize;
     if page.len() != 12 + 18 * n {
-        return Checked::Broken;
+        return None;
     }
     if n < 1 {
-        return Checked::Broken;
+        return None;
     }
     if 255 < n {
-        return Checked::Broken;
+        return None;
     }
     let zero = bits::read_u16(page, 6);
     if zero != 0 {
-        return Checked::Broken;
+        return None;
     }
     let ready = bits::read_u16(page, 2);
     let spare = bits::read_u16(page, 4);
     if !chains(page, n, ready as usize, spare as usize) {
-        return Checked::Broken;
+        return None;
     }
     let draws = bits::read_u32(page, 8);
-    Checked::Sound(Shelf {
+    Some(Shelf {
         size,
         ready,
         spare,

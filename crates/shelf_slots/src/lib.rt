@@ -14,11 +14,7 @@ fn put_root(page: &mut [u8], at: usize, root: &[u8])
     requires { (at + 16 ≤ length page.old) × (length root.now ≡ 16) }
     ensures { page.new ≡ sets page.old at root.now }
 {
-    let mut i = 0;
-    while i < 16 {
-        page[at + i] = root[i];
-        i += 1;
-    }
+    page[at..at + 16].copy_from_slice(root);
 }
 
 // Copies a root out of the page.
@@ -27,11 +23,7 @@ pub fn take_root(page: &[u8], at: usize) -> [u8; 16]
     ensures { result ≡ take 16 (drop at page.now) }
 {
     let mut root = [0u8; 16];
-    let mut i = 0;
-    while i < 16 {
-        root[i] = page[at + i];
-        i += 1;
-    }
+    root.copy_from_slice(&page[at..at + 16]);
     root
 }
 

@@ -35,7 +35,7 @@ lanes-in zero w m p bytes l =
     ap₂ (λ (t : ℕ) (u : List ℕ). xor_bytes (p ++ replicate t 0) (8 * length p) u) none (drop_of_length-le m {i = 8 * length p} (omega arith))
 lanes-in (suc n) w m p bytes l =
     let i : ℕ = 8 * length p in
-    let k : ℕ = (0 + i) / 8 in
+    let k : ℕ = 0 / 8 + length p in
     let x : ℕ = le_at 8 m i in
     let r : List ℕ = replicate (w + n) 0 in
     let q : List ℕ = p ++ x ∷ [] in
@@ -45,14 +45,15 @@ lanes-in (suc n) w m p bytes l =
     let lq : length q ≡ length p + 1 = length-append p (x ∷ []) in
     let one : w + suc n ≡ suc (w + n) = omega arith in
     let start : i ≡ 0 + i = omega arith in
-    let next : i + 8 ≡ 8 * length q = omega arith in
-    let next' : 0 + (i + 8) ≡ 8 * length q = omega arith in
+    let next : 8 * (length p + 1) ≡ 8 * length q = omega arith in
+    let next' : 0 + 8 * (length p + 1) ≡ 8 * length q = omega arith in
+    let after : i + 8 ≡ 8 * length q = omega arith in
     ap₂ (λ (t u : ℕ). xor_bytes (p ++ replicate t 0) u (drop i m)) one start
-    ∙ sym (xor_bytes-turn m 0 i (p ++ 0 ∷ r) x bytes (omega arith) (omega arith) refl)
-    ∙ ap₂ (λ (s : List ℕ) (t : ℕ). xor_bytes s (0 + (i + 8)) (drop t m)) put next
+    ∙ sym (xor_bytes-turn m 0 (length p) (p ++ 0 ∷ r) x bytes (omega arith) (omega arith) refl)
+    ∙ ap₂ (λ (s : List ℕ) (t : ℕ). xor_bytes s (0 + 8 * (length p + 1)) (drop t m)) put next
     ∙ ap (λ (t : ℕ). xor_bytes (q ++ r) t (drop (8 * length q) m)) next'
     ∙ lanes-in n w m q bytes (omega arith)
-    ∙ ap (λ (t : ℕ). q ++ (lanes_at n m t ++ replicate w 0)) (sym next)
+    ∙ ap (λ (t : ℕ). q ++ (lanes_at n m t ++ replicate w 0)) (sym after)
     ∙ append_assoc p (x ∷ []) (lanes_at n m (i + 8) ++ replicate w 0)
 
 -- zeros change nothing

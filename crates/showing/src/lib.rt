@@ -10,11 +10,11 @@ ghost use Rattle.mpc.specs.Operations.{parts_of, show_legal, show_op};
 ghost use Rattle.mpc.specs.Answers.{outcome};
 ghost use Rattle.mpc.specs.Steps.{Known, Working, memory_bytes, ShowLent, ShowingFits};
 
-use circuit::{ReadAnswer, Sizes};
-use mpc::Answer;
-use mpc::lending::{clear_after, work_bytes};
+use bits::clear;
+use circuit::Sizes;
+use mpc::lending::work_bytes;
 use mpc::preparing::prepare_held;
-use mpc::tests::{both, holds, holds_rows, unused_rows};
+use mpc::tests::{holds, holds_rows, unused_rows};
 use packed::running::run_held;
 use reading::read;
 use refusal::Refusal;
@@ -71,18 +71,12 @@ fn show_lengths(
     requires { (n ≤ 64) × ((z.inputs ≤ max_inputs) × ((z.outputs ≤ max_outputs) × (z.ands ≤ max_gates))) }
     ensures { result ≡ eqb (length witness.now) (oct z.inputs) && eqb (length tapes.now) (n * oct (z.inputs + 2 * z.ands)) && (eqb (length blanked.now) (n * oct (z.inputs + 2 * z.ands)) && eqb (length corrections.now) (oct z.ands) && eqb (length masked.now) (oct z.inputs) && eqb (length row.now) (oct (z.ands + z.outputs))) }
 {
-    let lent = both(
-        holds(witness, z.inputs),
-        holds_rows(tapes, n, z.inputs + 2 * z.ands),
-    );
-    let first = both(
-        both(
-            holds_rows(blanked, n, z.inputs + 2 * z.ands),
-            holds(corrections, z.ands),
-        ),
-        holds(masked, z.inputs),
-    );
-    both(lent, both(first, holds(row, z.ands + z.outputs)))
+    holds(witness, z.inputs)
+        && holds_rows(tapes, n, z.inputs + 2 * z.ands)
+        && holds_rows(blanked, n, z.inputs + 2 * z.ands)
+        && holds(corrections, z.ands)
+        && holds(masked, z.inputs)
+        && holds(row, z.ands + z.outputs)
 }
 
 // Tests what is lent, and shows the run of a legal circuit.
@@ -99,26 +93,25 @@ fn show_lent(
     masked: &mut [u8],
     row: &mut [u8],
     memory: &mut [u8],
-) -> Answer
+) -> Result<(), Refusal>
     requires { Known s.now z × (memory_bytes z ≤ length memory.old) }
     ensures { outcome result (blanked.new ∷ corrections.new ∷ masked.new ∷ row.new ∷ []) ≡ show_legal n p cut witness.now tapes.entry.now (record { tapes = blanked.old; corrections = corrections.old; masked_inputs = masked.old; row = row.old }) (circuit_of s.now) }
 {
-    if parties::height(n) == 0 {
-        return Answer::Refused(Refusal::Parameter);
+    if parties::height(n).is_none() {
+        return Err(Refusal::Parameter);
     }
     let g = cut as usize;
-    if !both(p < n, g <= z.gates) {
-        return Answer::Refused(Refusal::Index);
+    if n <= p || z.gates < g {
+        return Err(Refusal::Index);
     }
     let k = n as usize;
     if !show_lengths(z, k, witness, tapes, blanked, corrections, masked, row) {
-        return Answer::Refused(Refusal::BufferLength);
+        return Err(Refusal::BufferLength);
     }
-    if !both(
-        bits::unused_zero(witness, z.inputs),
-        unused_rows(s, z, k, tapes),
-    ) {
-        return Answer::Refused(Refusal::UnusedBits);
+    // Both run, whatever the secret bytes hold.
+    let clean = bits::unused_zero(witness, z.inputs) & unused_rows(s, z, k, tapes);
+    if !clean {
+        return Err(Refusal::UnusedBits);
     }
     show_in(
         s,
@@ -134,7 +127,7 @@ fn show_lent(
         row,
         memory,
     );
-    Answer::Done
+    Ok(())
 }
 
 // Shows the run with party p hidden, cut after some gates: fills the four parts, or refuses and leaves them as they were. The work buffer
@@ -151,34 +144,28 @@ pub fn show(
     masked: &mut [u8],
     row: &mut [u8],
     work: &mut [u8],
-) -> Answer
+) -> Result<(), Refusal>
     ensures { outcome result (blanked.new ∷ corrections.new ∷ masked.new ∷ row.new ∷ work.new ∷ []) ≡ show_op s.now n p cut witness.now tapes.entry.now (record { tapes = blanked.old; corrections = corrections.old; masked_inputs = masked.old; row = row.old }) work.old }
 {
-    let answer = read(s);
-    match answer {
-        ReadAnswer::Refused(k, _) => Answer::Refused(k),
-        ReadAnswer::Legal(z) => {
-            let all = work.len();
-            let need = work_bytes(z);
-            if all < need {
-                return Answer::Refused(Refusal::BufferLength);
-            }
-            let ended = show_lent(
-                s,
-                z,
-                n,
-                p,
-                cut,
-                witness,
-                tapes,
-                blanked,
-                corrections,
-                masked,
-                row,
-                work,
-            );
-            clear_after(ended, true, all, work);
-            ended
-        }
+    let z = read(s)?;
+    let need = work_bytes(z);
+    if work.len() < need {
+        return Err(Refusal::BufferLength);
     }
+    let ended = show_lent(
+        s,
+        z,
+        n,
+        p,
+        cut,
+        witness,
+        tapes,
+        blanked,
+        corrections,
+        masked,
+        row,
+        work,
+    );
+    clear(work);
+    ended
 }

@@ -1,12 +1,12 @@
 -- What show makes and answers: the bits that a cut shows, the hidden row, the four parts, and each refusal.
 -- Assumes nothing.
 use mathlib.Core.Path.{◌≡◌, sym, ap, ap₂, ◌∙◌, fun_ext}
-use mathlib.Core.Bool.{Bool, true, false, not, cond, ◌&&◌, ◌||◌}
+use mathlib.Core.Bool.{Bool, true, false, not, cond, ◌&&◌}
 use mathlib.Core.List.{List, [], ◌∷◌, ◌++◌}
 use Prim.Native.Nat.{ℕ, suc, ◌+◌, ◌*◌, ◌≤◌, ◌<◌}
 use native.Mathlib.Omega.{arith}
 use native.Mathlib.Numerals.{add-one}
-use borrow.Author.Tests.{ltb-true, leb-true, eqb-true, eq-eqb, ne_eqb}
+use borrow.Author.Tests.{lt-ltb, le-ltb, le-leb, lt-leb, eqb-true, eq-eqb, ne_eqb, not-false}
 use lib.Dec.{eqb, leb, ltb}
 use lib.ListN.{length, take, drop, replicate}
 use Rattle.bits.specs.Bits.{tabulate, oct, bit_at, pack, unused_zero}
@@ -21,8 +21,7 @@ use Rattle.circuit.specs.File.{circuit_of}
 use Rattle.circuit.specs.Operations.{read_op, holds}
 use Rattle.circuit.specs.Answers.{read_paper}
 use Rattle.circuit.specs.declared.Sizes.{Sizes}
-use Rattle.circuit.specs.declared.ReadAnswer.{ReadAnswer}
-use Rattle.circuit.specs.declared.ReadAnswer.TheVariants as read_answer
+use Rattle.circuit.specs.declared.Fault.{Fault}
 use Rattle.circuit.proofs.Answered.{fell, held}
 use Rattle.plain.specs.Run.{Transcript}
 use Rattle.plain.specs.Tapes.{ands_of, unused_rows, with_row}
@@ -35,11 +34,10 @@ use Rattle.packed.specs.Steps.{Held, broadcast_bytes, tapes_held, corrections_he
 use Rattle.packed.proofs.Runs.{row-ran}
 use Rattle.mpc.specs.Operations.{holds_rows, tape_bits, parts_of, holds_showing, show_legal, show_op}
 use Rattle.mpc.specs.Answers.{outcome}
-use Rattle.mpc.specs.Steps.{Known, memory_bytes, Working, TapesFit, ShowLent, ShowingFits, prepared, is_done}
-use Rattle.mpc.specs.declared.Answer.{Answer}
-use Rattle.mpc.specs.declared.Answer.TheVariants.{Done, Refused}
+use Rattle.mpc.specs.Steps.{Known, memory_bytes, Working, TapesFit, ShowLent, ShowingFits, prepared}
+use Rattle.std.specs.Prelude.{⊤, Result, Ok, Err}
 use Rattle.mpc.proofs.Opened.{sized, circuit-inputs, circuit-outputs, circuit-gates, circuit-ands, circuit-row}
-use Rattle.mpc.proofs.Lent.{all-cleared, work-refused, work-short, work-left}
+use Rattle.mpc.proofs.Lent.{work-refused, work-short, work-left}
 use Rattle.mpc.proofs.Places.{working-kept, memory-held, prepared-length, prepared-tapes, prepared-corrections}
 use Rattle.shown_parts.proofs.Shown.{shown-few}
 
@@ -120,12 +118,6 @@ pub show-made : (c : Circuit) (n p cut : ℕ) (w tapes x y z u : List ℕ) → x
 unfolding showing
 show-made c n p cut w tapes x y z u d e f h = ap₂ ◌∷◌ d (ap₂ ◌∷◌ e (ap₂ ◌∷◌ f (ap (λ (v : List ℕ). v ∷ []) h)))
 
--- six lengths, tested one by one
-pub lengths-made : (w t b c m u : Bool) (wt bc bcm bcmu r w' t' b' c' m' u' : Bool) → w ≡ w' → t ≡ t' → wt ≡ w && t → b ≡ b' → c ≡ c' → bc ≡ b && c → m ≡ m'
-    → bcm ≡ bc && m → u ≡ u' → bcmu ≡ bcm && u → r ≡ wt && bcmu → r ≡ w' && t' && (b' && c' && m' && u')
-lengths-made w t b c m u wt bc bcm bcmu r w' t' b' c' m' u' p1 p2 p3 p4 p5 p6 p7 p8 p9 p10 p11 =
-    p11 ∙ ap₂ ◌&&◌ (p3 ∙ ap₂ ◌&&◌ p1 p2) (p10 ∙ ap₂ ◌&&◌ (p8 ∙ ap₂ ◌&&◌ (p6 ∙ ap₂ ◌&&◌ p4 p5) p7) p9)
-
 -- the lengths in the numbers that the code carries
 abbrev pub lengths_of : (i o a n : ℕ) (w tapes b c m u : List ℕ) → Bool
 lengths_of i o a n w tapes b c m u =
@@ -147,12 +139,12 @@ module _ (i o g a n : ℕ) (w tapes b c m u : List ℕ) (r : Bool) (e : r ≡ le
   outs = and-true-right (eqb (length w) (oct i) && eqb (length tapes) (n * oct (i + 2 * a))) _ six
 
   -- the witness and the tapes
-  pub inputs-tested : (s : List ℕ) (x y v : Bool) → y ≡ unused_rows (circuit_of s) n tapes n → v ≡ x && y → not v ≡ false → ShowLent s (sized i o g a) n w tapes
-  inputs-tested s x y v p q h =
+  pub inputs-tested : (s : List ℕ) (x y : Bool) → y ≡ unused_rows (circuit_of s) n tapes n → not (x && y) ≡ false → ShowLent s (sized i o g a) n w tapes
+  inputs-tested s x y p h =
       record {
         witness_fits = eqb-true (length w) (oct i) (and-true-left _ (eqb (length tapes) (n * oct (i + 2 * a))) ins);
         tapes_fit = eqb-true (length tapes) (n * oct (i + 2 * a)) (and-true-right (eqb (length w) (oct i)) _ ins);
-        unused = sym p ∙ and-true-right x y (held (x && y) v q h);
+        unused = sym p ∙ and-true-right x y (not-false (x && y) h);
       }
 
   -- the parts
@@ -166,12 +158,6 @@ module _ (i o g a n : ℕ) (w tapes b c m u : List ℕ) (r : Bool) (e : r ≡ le
         masked_fit = eqb-true (length m) (oct i) (and-true-right (eqb (length b) (n * oct (i + 2 * a)) && eqb (length c) (oct a)) _ q);
         row_fits = eqb-true (length u) (oct (a + o)) (and-true-right (eqb (length b) (n * oct (i + 2 * a)) && eqb (length c) (oct a) && eqb (length m) (oct i)) _ outs);
       }
-
--- what the test of the indices says
-pub indices-tested : (p n cut g : ℕ) (r : Bool) → r ≡ ltb p n && leb cut g → not r ≡ false → (p < n) × (cut ≤ g)
-indices-tested p n cut g r e t =
-    let z = held (ltb p n && leb cut g) r e t in
-    (ltb-true p n (and-true-left (ltb p n) (leb cut g) z), leb-true cut g (and-true-right (ltb p n) (leb cut g) z))
 
 -- the answers on a legal file
 module _ (s : List ℕ) (i o g a : ℕ) (k : Known s (sized i o g a)) (n h p cut : ℕ) (w tapes b c m u : List ℕ) (count : h ≡ height_of n) where
@@ -188,61 +174,66 @@ module _ (s : List ℕ) (i o g a : ℕ) (k : Known s (sized i o g a)) (n h p cut
       ∙ ap (λ (x : ℕ). lengths_of (circuit_of s).inputs x (ands_of (circuit_of s)) n w tapes b c m u) (sym (circuit-outputs s i o g a k))
 
   -- no party count
-  pub show-parties : h ≡ 0 → outcome (Refused Parameter) (b ∷ c ∷ m ∷ u ∷ []) ≡ show_legal n p cut w tapes lent (circuit_of s)
+  pub show-parties : h ≡ 0 → outcome (Err Parameter) (b ∷ c ∷ m ∷ u ∷ []) ≡ show_legal n p cut w tapes lent (circuit_of s)
   unfolding show_legal
   show-parties e = rw (count_no n (sym count ∙ e))
 
   -- a party count
-  module _ (more : h ≡ 0 → ⊥) (r : Bool) (e : r ≡ ltb p n && leb cut g) where
-    -- the test of the indices
-    tested : r ≡ ltb p n && leb cut (length (circuit_of s).gates)
-    tested = e ∙ ap (λ (x : ℕ). ltb p n && leb cut x) (sym (circuit-gates s i o g a k))
-
-    -- a party or a cut beyond
-    pub show-index : not r ≡ true → outcome (Refused Index) (b ∷ c ∷ m ∷ u ∷ []) ≡ show_legal n p cut w tapes lent (circuit_of s)
+  module _ (more : h ≡ 0 → ⊥) where
+    -- a party beyond
+    pub show-party : n ≤ p → outcome (Err Index) (b ∷ c ∷ m ∷ u ∷ []) ≡ show_legal n p cut w tapes lent (circuit_of s)
     unfolding show_legal
-    show-index t = rw (count_yes n (λ z. more (count ∙ z)), fell _ r tested t)
+    show-party t = rw (count_yes n (λ z. more (count ∙ z)), le-ltb p n t)
 
-    module _ (t : not r ≡ false) (q : Bool) (f : q ≡ lengths_of i o a n w tapes b c m u) where
+    -- a cut beyond
+    pub show-cut : p < n → g < cut → outcome (Err Index) (b ∷ c ∷ m ∷ u ∷ []) ≡ show_legal n p cut w tapes lent (circuit_of s)
+    unfolding show_legal
+    show-cut t v = rw (count_yes n (λ z. more (count ∙ z)), lt-ltb p n t, circuit-gates s i o g a k, lt-leb cut g v)
+
+    module _ (r : p < n) (t : cut ≤ g) (q : Bool) (f : q ≡ lengths_of i o a n w tapes b c m u) where
+      -- the test of the indices
+      tested : ltb p n && leb cut (length (circuit_of s).gates) ≡ true
+      tested = ap₂ ◌&&◌ (lt-ltb p n r) (ap (leb cut) (circuit-gates s i o g a k) ∙ le-leb cut g t)
+
       -- a lent length not as stated
-      pub show-length : not q ≡ true → outcome (Refused BufferLength) (b ∷ c ∷ m ∷ u ∷ []) ≡ show_legal n p cut w tapes lent (circuit_of s)
+      pub show-length : not q ≡ true → outcome (Err BufferLength) (b ∷ c ∷ m ∷ u ∷ []) ≡ show_legal n p cut w tapes lent (circuit_of s)
       unfolding show_legal
-      show-length v = rw (count_yes n (λ z. more (count ∙ z)), held _ r tested t, fell _ q (f ∙ lengths) v)
+      show-length v = rw (count_yes n (λ z. more (count ∙ z)), tested, fell _ q (f ∙ lengths) v)
 
-      module _ (v : not q ≡ false) (x y z : Bool) (d : x ≡ unused_zero i w) (l : y ≡ unused_rows (circuit_of s) n tapes n) (j : z ≡ x && y) where
+      module _ (v : not q ≡ false) (x y : Bool) (d : x ≡ unused_zero i w) (l : y ≡ unused_rows (circuit_of s) n tapes n) where
         -- the test of the unused bits
-        used : z ≡ unused_zero (circuit_of s).inputs w && unused_rows (circuit_of s) n tapes n
-        used = j ∙ ap₂ ◌&&◌ (d ∙ ap (λ (x : ℕ). unused_zero x w) (sym (circuit-inputs s i o g a k))) l
+        used : x && y ≡ unused_zero (circuit_of s).inputs w && unused_rows (circuit_of s) n tapes n
+        used = ap₂ ◌&&◌ (d ∙ ap (λ (x : ℕ). unused_zero x w) (sym (circuit-inputs s i o g a k))) l
 
         -- a nonzero unused bit
-        pub show-unused : not z ≡ true → outcome (Refused UnusedBits) (b ∷ c ∷ m ∷ u ∷ []) ≡ show_legal n p cut w tapes lent (circuit_of s)
+        pub show-unused : not (x && y) ≡ true → outcome (Err UnusedBits) (b ∷ c ∷ m ∷ u ∷ []) ≡ show_legal n p cut w tapes lent (circuit_of s)
         unfolding show_legal
-        show-unused α = rw (count_yes n (λ z. more (count ∙ z)), held _ r tested t, held _ q (f ∙ lengths) v, fell _ z used α)
+        show-unused α = rw (count_yes n (λ z. more (count ∙ z)), tested, held _ q (f ∙ lengths) v, fell _ (x && y) used α)
 
         -- success
-        pub show-done : not z ≡ false → (filled : List (List ℕ)) → filled ≡ parts_of (showing (circuit_of s) n p cut w tapes)
-            → outcome Done filled ≡ show_legal n p cut w tapes lent (circuit_of s)
+        pub show-done : not (x && y) ≡ false → (filled : List (List ℕ)) → filled ≡ parts_of (showing (circuit_of s) n p cut w tapes)
+            → outcome (Ok tt) filled ≡ show_legal n p cut w tapes lent (circuit_of s)
         unfolding show_legal
-        show-done α filled full = rw (count_yes n (λ z. more (count ∙ z)), held _ r tested t, held _ q (f ∙ lengths) v, held _ z used α, full)
+        show-done α filled full = rw (count_yes n (λ z. more (count ∙ z)), tested, held _ q (f ∙ lengths) v, held _ (x && y) used α, full)
 
 -- the file is read first
-module _ (s : List ℕ) (n p cut : ℕ) (w tapes : List ℕ) (out : Showing) (work : List ℕ) (r : ReadAnswer) (e : read_paper r ≡ read_op s) where
-  pub show-refused : (k : Refusal) {slot : ℕ} → r ≡ read_answer.Refused k slot
-      → outcome (Refused k) (out.tapes ∷ out.corrections ∷ out.masked_inputs ∷ out.row ∷ work ∷ []) ≡ show_op s n p cut w tapes out work
+module _ (s : List ℕ) (n p cut : ℕ) (w tapes : List ℕ) (out : Showing) (work : List ℕ) (r : Result Sizes Fault) (e : read_paper r ≡ read_op s) where
+  pub show-refused : (k : Fault) → r ≡ Err k
+      → outcome (Err k.refusal) (out.tapes ∷ out.corrections ∷ out.masked_inputs ∷ out.row ∷ work ∷ []) ≡ show_op s n p cut w tapes out work
   unfolding show_op
   show-refused k q = work-refused s (parts_of out) work (show_legal n p cut w tapes out) r e k q
 
   -- then the work buffer is tested
-  module _ (z : Sizes) (q : r ≡ read_answer.Legal z) (need : ℕ) (f : need ≡ memory_bytes z) where
+  module _ (z : Sizes) (q : r ≡ Ok z) (need : ℕ) (f : need ≡ memory_bytes z) where
     pub show-short : length work < need
-        → outcome (Refused BufferLength) (out.tapes ∷ out.corrections ∷ out.masked_inputs ∷ out.row ∷ work ∷ []) ≡ show_op s n p cut w tapes out work
+        → outcome (Err BufferLength) (out.tapes ∷ out.corrections ∷ out.masked_inputs ∷ out.row ∷ work ∷ []) ≡ show_op s n p cut w tapes out work
     unfolding show_op
     show-short l = work-short s (parts_of out) work (show_legal n p cut w tapes out) r e z q need f l
 
-    pub show-left : need ≤ length work → (a : Answer) (x1 x2 x3 x4 : List ℕ)
-        → outcome a (x1 ∷ x2 ∷ x3 ∷ x4 ∷ []) ≡ show_legal n p cut w tapes out (circuit_of s) → (k : ℕ) (m x : List ℕ)
-        → x ≡ cond (true || is_done a) (replicate k 0 ++ drop k m) m → k ≡ length work → length m ≡ length work
+    pub show-left : need ≤ length work → (a : Result ⊤ Refusal) (x1 x2 x3 x4 : List ℕ)
+        → outcome a (x1 ∷ x2 ∷ x3 ∷ x4 ∷ []) ≡ show_legal n p cut w tapes out (circuit_of s) → (x : List ℕ)
+        → x ≡ replicate (length work) 0
         → outcome a (x1 ∷ x2 ∷ x3 ∷ x4 ∷ x ∷ []) ≡ show_op s n p cut w tapes out work
     unfolding show_op
-    show-left l a x1 x2 x3 x4 t k m x u v j =
-        work-left s (parts_of out) work (show_legal n p cut w tapes out) r e z q need f l (outcome a (x1 ∷ x2 ∷ x3 ∷ x4 ∷ [])) t x (all-cleared a k work m x u v j)
+    show-left l a x1 x2 x3 x4 t x u =
+        work-left s (parts_of out) work (show_legal n p cut w tapes out) r e z q need f l (outcome a (x1 ∷ x2 ∷ x3 ∷ x4 ∷ [])) t x u

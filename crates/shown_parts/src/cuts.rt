@@ -2,23 +2,12 @@
 ghost use Rattle.std.specs.Prelude.{◌≡◌, ◌≤◌};
 ghost use Rattle.circuit.specs.Circuit.{ands};
 ghost use Rattle.circuit.specs.File.{head_of, circuit_of};
-ghost use Rattle.circuit.specs.Steps.{Chained, gates_from, and_one};
+ghost use Rattle.circuit.specs.Steps.{Chained, gates_from};
 ghost use Rattle.plain.specs.Showing.{shown_bits};
 ghost use Rattle.mpc.specs.Steps.{Known};
 
-use circuit::records::record;
-use circuit::{Gate, Sizes};
-
-// 1 for an AND gate, 0 for another.
-fn and_one(g: Gate) -> usize
-    ensures { result ≡ and_one g }
-{
-    match g {
-        Gate::Xor(_, _) => 0,
-        Gate::And(_, _) => 1,
-        Gate::Inv(_) => 0,
-    }
-}
+use circuit::Sizes;
+use circuit::records::{and_one, record};
 
 // The AND gates among the first `cut` gates.
 fn ands_passed(s: &[u8], z: Sizes, head: usize, cut: usize) -> usize
@@ -27,14 +16,12 @@ fn ands_passed(s: &[u8], z: Sizes, head: usize, cut: usize) -> usize
 {
     let outputs = z.outputs;
     let mut count = 0;
-    let mut left = cut;
     let mut slot = head;
-    while 0 < left {
+    for _ in 0..cut {
         let r = record(s, outputs, slot);
         let g = r.gate;
         count += and_one(g);
         slot = r.next;
-        left -= 1;
     }
     count
 }

@@ -12,7 +12,6 @@ ghost use Rattle.walk.specs.Steps.{layout_of};
 ghost use Rattle.packed.specs.Steps.{broadcast_bytes, corrections_held, sent_bit};
 ghost use Rattle.mpc.specs.Steps.{Known, Placed};
 
-use bits::clear;
 use circuit::Sizes;
 use cuts::shown_bits;
 use mpc::holding::give_corrections;
@@ -24,14 +23,10 @@ pub fn hide_row(tapes: &[u8], len: usize, p: usize, out: &mut [u8])
     requires { (length out.old ≡ length tapes.now) × (p * len + len ≤ length tapes.now) }
     ensures { out.new ≡ take (p * len) tapes.now ++ replicate len 0 ++ drop (p * len + len) tapes.now }
 {
-    let mut k = 0;
-    while k < tapes.len() {
-        out[k] = tapes[k];
-        k += 1;
-    }
+    out.copy_from_slice(tapes);
     let a = p * len;
     let e = a + len;
-    clear(&mut out[a..e]);
+    out[a..e].fill(0);
 }
 
 // Shows the corrections that stand in the memory, or zeros where they are the hidden party's.
@@ -40,7 +35,7 @@ pub fn show_corrections(z: Sizes, n: usize, p: usize, memory: &[u8], out: &mut [
     ensures { out.new ≡ cond (eqb (suc p) n) (replicate (oct z.ands) 0) (corrections_held z memory.now) }
 {
     if p + 1 == n {
-        clear(out);
+        out.fill(0);
     } else {
         give_corrections(z, n, memory, out);
     }

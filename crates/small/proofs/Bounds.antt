@@ -1,13 +1,8 @@
 -- The numbers of gates, pairs and files are small.
 -- Assumes nothing.
-use mathlib.Core.Path.{◌≡◌, refl, sym, ap}
-use mathlib.Core.Bool.{Bool, true, false, cond, ◌&&◌, ◌||◌}
-use Prim.Native.Nat.{ℕ, zero, suc, ◌+◌, ◌*◌, ◌≤◌, ◌<◌}
+use Prim.Native.Nat.{ℕ, zero, suc, ◌+◌, ◌*◌, ◌≤◌}
 use native.Mathlib.Nat.{mul-le-mul}
 use native.Mathlib.Omega.{arith}
-use borrow.Author.Tests.{ne_eqb, le-leb, lt-leb}
-use lib.Dec.{eqb, leb}
-use Rattle.small.specs.Small.{small_sizes}
 use Rattle.small.specs.Steps.{gates_on, pairs, per_head, count_of}
 use Rattle.small.proofs.Files.{gates-some, pairs-some}
 
@@ -55,39 +50,3 @@ module _ (I : ℕ) (few : I ≤ 2) where
   count-some some zero = some
   count-some some (suc zero) = product-low 1 1 (I + 1) (gates_on I) (omega arith) (gates-some I I some)
   count-some some (suc (suc n)) = omega (arith, head-some some)
-
--- the test of the sizes, as the code makes it
-module _ (I O G : ℕ) where
-  and-false : (b c : Bool) → c ≡ false → b && c ≡ false
-  and-false true c e = e
-  and-false false c e = refl
-
-  pub sizes-outputs : (O ≡ 1 → ⊥) → false ≡ small_sizes I O G
-  unfolding small_sizes
-  sizes-outputs h = sym (ap (λ (b : Bool). b && leb G 2) (and-false (eqb I 1 || eqb I 2) (eqb O 1) (ne_eqb O 1 h)))
-
-  pub sizes-gates : 2 < G → false ≡ small_sizes I O G
-  unfolding small_sizes
-  sizes-gates h = sym (and-false ((eqb I 1 || eqb I 2) && eqb O 1) (leb G 2) (lt-leb G 2 h))
-
-  module _ (o : O ≡ 1) (g : G ≤ 2) where
-    pub sizes-one : I ≡ 1 → true ≡ small_sizes I O G
-    unfolding small_sizes
-    sizes-one e = rw (e, o, le-leb G 2 g)
-
-    pub sizes-two : (I ≡ 1 → ⊥) → eqb I 2 ≡ small_sizes I O G
-    unfolding small_sizes
-    sizes-two e = rw (ne_eqb I 1 e, o, le-leb G 2 g) (alone (eqb I 2))
-      where
-        alone : (b : Bool) → b ≡ b && true && true
-        alone true = refl
-        alone false = refl
-
--- where the output is too short, and where it is not
-pub room-short : (p : Bool) (r l n : ℕ) → r ≡ cond p 0 n → l < r → (p ≡ false) × (l < n)
-room-short true r l n e h = absurd (omega arith)
-room-short false r l n e h = (refl, omega arith)
-
-pub room-enough : (p : Bool) (r l n : ℕ) → p ≡ false → r ≡ cond p 0 n → r ≤ l → n ≤ l
-room-enough true r l n q e h = absurd (let z : ◌≡◌ {A = ℕ} 0 1 = cc in omega arith)
-room-enough false r l n q e h = omega arith

@@ -17,7 +17,7 @@ use Rattle.circuit.specs.Fields.{Fields, good_record, good_records, link_of, cha
 use Rattle.circuit.proofs.Readings.{Sound}
 use Rattle.small.specs.Steps.{wires, two_records, heads, records_of, direct}
 use Rattle.small.proofs.Members.{In, in-here, in-later, in_one, in-choose, choose-in, in-tabulate, tabulate-in}
-use Rattle.small.proofs.Gates.{Fits, fits-map, is_good, gate_on, gate-out, gate-in, in-records, records-in, inputs_in, in-inputs, written_in, in-written}
+use Rattle.small.proofs.Gates.{Fits, fits-map, is_good, gate_on, gate-out, gate-in, in-records, inputs_in, in-inputs, written_in, in-written}
 
 -- the fields of a list
 abbrev pub fields_in : List ℕ → Fields

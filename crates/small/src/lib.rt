@@ -1,7 +1,7 @@
 // Every small circuit in turn (document 02, order 11): the file at a place, found by division.
 #![tactic(auto)]
 
-ghost use Rattle.std.specs.Prelude.{◌≡◌, cond, ◌+◌, ◌*◌, ◌≤◌, ◌<◌, length};
+ghost use Rattle.std.specs.Prelude.{◌≡◌, ◌+◌, ◌*◌, ◌≤◌, ◌<◌, length};
 ghost use Rattle.std.proofs.lemmas.List.Edits.{sets};
 ghost use Rattle.circuit.specs.File.{width};
 ghost use Rattle.small.specs.Answers.{outcome};
@@ -12,20 +12,12 @@ use building::write_four;
 use circuit::WIDTH;
 use refusal::Refusal;
 
-// A gate by the first three fields of its record.
+// A gate by the first three fields of its record, as written: the kind is found by division, so it is a number.
 #[derive(Clone, Copy)]
 pub struct Gate {
     pub kind: u32,
     pub a: u32,
     pub b: u32,
-}
-
-// What asking for a place answers: the length of the file written, that the last has passed, or a refusal.
-#[derive(Clone, Copy)]
-pub enum Answer {
-    Written(usize),
-    Passed,
-    Refused(Refusal),
 }
 
 // Wire i of those that a gate reads: the inputs, then one more.
@@ -176,48 +168,35 @@ fn write_file(inputs: u32, gates: u32, place: u32, out: &mut [u8])
 }
 
 // Whether the sizes are small: I of 1 or 2, O = 1 and G up to 2.
+#[tactic(auto, unfolding(crate::specs::Small::small_sizes))]
 fn small_sizes(inputs: u32, outputs: u32, gates: u32) -> bool
     ensures { result ≡ small_sizes inputs outputs gates }
 {
-    if outputs != 1 {
-        return false;
-    }
-    if gates > 2 {
-        return false;
-    }
-    if inputs == 1 {
-        return true;
-    }
-    inputs == 2
+    (inputs == 1 || inputs == 2) && outputs == 1 && gates <= 2
 }
 
-// How many bytes the output must have: those of the file, or none where the last has passed.
-fn room(passed: bool, size: usize) -> usize
-    ensures { result ≡ cond passed 0 size }
-{
-    if passed {
-        return 0;
-    }
-    size
-}
-
-// The file at a place, written into the lent output: its length, or that the last has passed; 29 for other sizes, 6 for a short output.
+// The file at a place, written into the lent output: its length, or none where the last has passed; 29 for other sizes, 6 for a short output.
 // The output stays as it was where no file is written.
-pub fn small(inputs: u32, outputs: u32, gates: u32, place: u64, out: &mut [u8]) -> Answer
+pub fn small(
+    inputs: u32,
+    outputs: u32,
+    gates: u32,
+    place: u64,
+    out: &mut [u8],
+) -> Result<Option<usize>, Refusal>
     ensures { outcome result out.new ≡ small_op inputs outputs gates place out.old }
 {
     if !small_sizes(inputs, outputs, gates) {
-        return Answer::Refused(Refusal::SmallSizes);
+        return Err(Refusal::SmallSizes);
     }
     let last = count(inputs, gates) as u64 - 1;
-    let passed = place > last;
     let size = WIDTH * (5 + 4 * gates as usize);
-    if out.len() < room(passed, size) {
-        return Answer::Refused(Refusal::BufferLength);
+    if place > last {
+        return Ok(None);
     }
-    if passed {
-        return Answer::Passed;
+    if out.len() < size {
+        return Err(Refusal::BufferLength);
     }
     write_file(inputs, gates, place as u32, out);
-    Answer::Written(size)
+    Ok(Some(size))
 }

@@ -42,10 +42,8 @@ fn read_lanes(s: &[u8], at: usize) -> [u64; 25]
     ensures { result ≡ tabulate 25 (λ i. le_at 8 s.now (at + 8 * i)) }
 {
     let mut lanes = [0u64; 25];
-    let mut i = 0;
-    while i < 25 {
+    for i in 0..25 {
         lanes[i] = read_u64(s, at + 8 * i);
-        i += 1;
     }
     lanes
 }
@@ -83,10 +81,8 @@ fn read_flags(s: &[u8]) -> [bool; 16]
     ensures { result ≡ tabulate 16 (flag_in s.now) }
 {
     let mut flags = [false; 16];
-    let mut i = 0;
-    while i < 16 {
+    for i in 0..16 {
         flags[i] = s[1 + SLOT_BYTES * i] != 0;
-        i += 1;
     }
     flags
 }
@@ -97,10 +93,8 @@ fn read_jobs(s: &[u8]) -> [Job; 16]
     ensures { result ≡ tabulate 16 (job_of s.now) }
 {
     let mut jobs = [read_job(s, 2); 16];
-    let mut i = 0;
-    while i < 16 {
+    for i in 0..16 {
         jobs[i] = read_job(s, 2 + SLOT_BYTES * i);
-        i += 1;
     }
     jobs
 }

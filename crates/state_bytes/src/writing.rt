@@ -36,10 +36,8 @@ fn write_lanes(out: &mut [u8], at: usize, lanes: [u64; 25])
     requires { at + 200 ≤ length out.old }
     ensures { (out.new ≡ sets out.old at (lane_bytes lanes)) × (length lanes ≡ 25) }
 {
-    let mut i = 0;
-    while i < 25 {
+    for i in 0..25 {
         write_u64(out, at + 8 * i, lanes[i]);
-        i += 1;
     }
 }
 
@@ -92,11 +90,9 @@ fn write_state(out: &mut [u8], s: Shared)
     let flags = s.waiting;
     let jobs = s.jobs;
     out[0] = asked_first(s.begin);
-    let mut i = 0;
-    while i < 16 {
+    for i in 0..16 {
         let j = job_of(jobs, i);
         write_slot(out, 1 + SLOT_BYTES * i, flags[i], j);
-        i += 1;
     }
 }
 

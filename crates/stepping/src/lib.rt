@@ -38,11 +38,9 @@ fn stretch_start(s: &[u8], f: Shape, table: &[u8], proof: &[u8], marks: &[u8], j
     let z = f.sizes;
     let k = f.counts;
     let mut at = HEADER_BYTES + f.opened;
-    let mut i = 0;
-    while i < j {
+    for i in 0..j {
         let p = asked(table, k.parties, i);
         at += stretch_bytes(s, z, k.parties, k.height, p);
-        i += 1;
     }
     at
 }

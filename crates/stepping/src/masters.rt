@@ -3,7 +3,7 @@ ghost use Rattle.std.specs.Prelude.{◌≡◌, cond, suc, ◌+◌, ◌*◌, ◌^
 ghost use Rattle.cover.specs.Masters.{height as «height-of», child_of, from_above};
 ghost use Rattle.cover.specs.Steps.{opened_by, cover_by};
 
-use bits::{copy, row};
+use bits::row;
 use cover::{height, leaves};
 use growing::{is_opened, opened_before};
 use hashing::Context;
@@ -17,7 +17,7 @@ fn child(x: usize, value: [u8; 16], tree: Context) -> [u8; 16]
     let mut pair = [0u8; 32];
     children(tree, (x / 2) as u32, &value, &mut pair);
     let mut out = [0u8; 16];
-    copy(row(&pair, 16, x % 2), &mut out);
+    out.copy_from_slice(row(&pair, 16, x % 2));
     out
 }
 
@@ -30,10 +30,9 @@ fn from_above(marks: &[u8], values: &[u8], d: u32, x: usize, tree: Context) -> [
     if d == 0 {
         return out;
     }
-    let o = is_opened(marks, x);
-    if o {
+    if is_opened(marks, x) {
         let n = opened_before(marks, x);
-        copy(row(values, 16, n), &mut out);
+        out.copy_from_slice(row(values, 16, n));
         return out;
     }
     child(x, from_above(marks, values, d - 1, x / 2, tree), tree)

@@ -20,11 +20,10 @@ use Rattle.circuit.specs.File.{width, max_gates, read_circuit}
 use Rattle.circuit.specs.Meaning.{SameFields}
 use Rattle.circuit.specs.Operations.{read_answer}
 use Rattle.circuit.specs.Answers.{read_paper}
-use Rattle.circuit.specs.declared.ReadAnswer.{ReadAnswer}
-use Rattle.circuit.specs.declared.ReadAnswer.TheVariants as readAnswers
+use Rattle.circuit.specs.declared.Fault.{Fault}
 use Rattle.circuit.specs.declared.Sizes.{Sizes}
 use Rattle.refusal.specs.Refusal.{number_of}
-use Rattle.refusal.specs.declared.Refusal.{Refusal}
+use Rattle.std.specs.Prelude.{Result, Ok, Err}
 use Rattle.circuit.proofs.Alike.{fields-theorem}
 use Rattle.building.specs.Files.{bytes_of, file_of}
 use Rattle.building.proofs.Bytes.{bytes-length, bytes-field, at_front}
@@ -33,7 +32,6 @@ use Rattle.circuit.proofs.Answered.{not-refused}
 use Rattle.upgrade.specs.Upgrade.{old_width, old_gates, old_fields, read_old, upgraded, upgrade_op}
 use Rattle.upgrade.specs.Answers.{outcome}
 use Rattle.upgrade.specs.Theorem.{ConvertedSame}
-use Rattle.upgrade.specs.declared.Answer.TheVariants.{Refused}
 
 -- a legal file has the right length
 legal-right : (s : List ℕ) (c : Circuit) → read_old s ≡ legal c → right_length old_width s ≡ true
@@ -128,10 +126,10 @@ module _ (s out : List ℕ) where
   told-damaged k x (refused j y) p q = cc
   told-damaged k x (legal c) p q = absurd (let z : ◌≡◌ {A = ℕ} 0 1 = cc in omega arith)
 
-  module _ (r : ReadAnswer) (e : read_paper r ≡ read_answer (read_old s)) where
-    pub answered-legal : (z : Sizes) → r ≡ readAnswers.Legal z → (right_length old_width s ≡ true) × (upgrade_op s out ≡ builds (upgraded s) out)
+  module _ (r : Result Sizes Fault) (e : read_paper r ≡ read_answer (read_old s)) where
+    pub answered-legal : (z : Sizes) → r ≡ Ok z → (right_length old_width s ≡ true) × (upgrade_op s out ≡ builds (upgraded s) out)
     answered-legal z p = told-legal _ (read_old s) refl (sym (ap read_paper p) ∙ e)
 
-    pub answered-damaged : (k : Refusal) (x : ℕ) → r ≡ readAnswers.Refused k x → outcome (Refused k x) out ≡ upgrade_op s out
-    answered-damaged k x p =
-        sym (upgrade-damaged s out (number_of k) x (told-damaged (number_of k) x (read_old s) refl (sym (ap read_paper p) ∙ e)))
+    pub answered-damaged : (f : Fault) → r ≡ Err f → outcome (Err f) out ≡ upgrade_op s out
+    answered-damaged f p =
+        sym (upgrade-damaged s out (number_of f.refusal) f.slot (told-damaged (number_of f.refusal) f.slot (read_old s) refl (sym (ap read_paper p) ∙ e)))

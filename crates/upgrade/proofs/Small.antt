@@ -9,7 +9,7 @@ use borrow.Author.Tests.{not-false}
 use lib.Dec.{leb, ltb}
 use lib.ListN.{length}
 use Rattle.refusal.specs.Outcome.{Answer, refusal_at, success, Outcome, unless}
-use Rattle.refusal.specs.declared.Refusal.{Refusal}
+use Rattle.std.specs.Prelude.{Err}
 use Rattle.circuit.specs.Building.{builds}
 use Rattle.circuit.specs.Chain.{Walk, ends, fault}
 use Rattle.circuit.specs.Fields.{Fields, field, inputs_of, outputs_of, gates_of, within_limits, right_length, good_records, link_of, chain_walk, good_wires, circuit_of, Reading, refused, legal, on_walk, read_fields, read_with}
@@ -18,7 +18,7 @@ use Rattle.circuit.proofs.Readings.{header, limits-few}
 use Rattle.circuit.proofs.Walking.{fault-low}
 use Rattle.upgrade.specs.Answers.{outcome}
 use Rattle.upgrade.specs.Upgrade.{old_width, old_gates, read_old, upgraded, on_read, upgrade_op}
-use Rattle.upgrade.specs.declared.Answer.TheVariants.{Refused}
+use Rattle.circuit.specs.declared.Fault.{Fault}
 
 -- the slot that a reading tells, 0 where it tells none
 unfoldable slot_of : Reading → ℕ
@@ -81,8 +81,8 @@ unfolding upgrade_op
 slot_same s out out' = told-slot (read_old s) (upgraded s) out ∙ sym (told-slot (read_old s) (upgraded s) out')
 
 -- and fits 32 bits
-pub slot_small : (s out left : List ℕ) (k : Refusal) (x : ℕ) → outcome (Refused k x) left ≡ upgrade_op s out → x < 2 ^ 32
+pub slot_small : (s out left : List ℕ) (f : Fault) → outcome (Err f) left ≡ upgrade_op s out → f.slot < 2 ^ 32
 unfolding upgrade_op
-slot_small s out left k x e =
-    let t : x ≡ slot_of (read_old s) = ap (λ (o : Outcome). told o.answer) e ∙ told-slot (read_old s) (upgraded s) out in
+slot_small s out left f e =
+    let t : f.slot ≡ slot_of (read_old s) = ap (λ (o : Outcome). told o.answer) e ∙ told-slot (read_old s) (upgraded s) out in
     omega (arith, read_low old_width old_gates s)

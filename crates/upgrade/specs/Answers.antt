@@ -1,17 +1,15 @@
 -- The answer of upgrade in the paper's terms.
 -- Assumes nothing.
-use Rattle.std.specs.Prelude.{List, [], ◌∷◌, ℕ}
+use Rattle.std.specs.Prelude.{List, [], ◌∷◌, ℕ, Result, Ok, Err}
 use Rattle.refusal.specs.Refusal.{number_of}
-use Rattle.refusal.specs.Outcome as outcomes
-use Rattle.refusal.specs.Outcome.{refusal_at, success, Outcome}
-use Rattle.upgrade.specs.declared.Answer.{Answer}
-use Rattle.upgrade.specs.declared.Answer.TheVariants.{Written, Refused}
+use Rattle.refusal.specs.Outcome.{Answer, refusal_at, success, Outcome}
+use Rattle.circuit.specs.declared.Fault.{Fault}
 
 -- "success gives the file's length"; a refusal is told with its slot
-abbrev pub paper : Answer → outcomes.Answer
-paper (Written k) = success (k ∷ [])
-paper (Refused k x) = refusal_at (number_of k) x
+abbrev pub paper : Result ℕ Fault → Answer
+paper (Ok k) = success (k ∷ [])
+paper (Err f) = refusal_at (number_of f.refusal) f.slot
 
 -- the answer, and what the lent output then holds
-abbrev pub outcome : Answer → List ℕ → Outcome
+abbrev pub outcome : Result ℕ Fault → List ℕ → Outcome
 outcome r out = record { answer = paper r; left = out ∷ [] }

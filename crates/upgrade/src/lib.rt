@@ -11,7 +11,7 @@ ghost use Rattle.building.specs.Files.{bytes_of};
 ghost use Rattle.upgrade.specs.Upgrade.{old_width, old_fields, upgraded, upgrade_op};
 
 use circuit::records::field;
-use circuit::{ReadAnswer, WIDTH};
+use circuit::{Fault, WIDTH};
 use reading::read_with;
 use refusal::Refusal;
 
@@ -20,48 +20,36 @@ pub const OLD_WIDTH: usize = 2;
 
 pub const OLD_GATES: usize = 4096;
 
-// What upgrading a file answers: the length written, or a refusal with the slot that it tells, 0 where it tells none.
-#[derive(Clone, Copy)]
-pub enum Answer {
-    Written(usize),
-    Refused(Refusal, usize),
-}
-
 // Writes the first n fields of a file of the old form in the form in use.
 fn write_fields(old: &[u8], n: usize, out: &mut [u8])
     requires { (old_width * n ≤ length old.now) × (width * n ≤ length out.old) }
     ensures { out.new ≡ sets out.old 0 (bytes_of (old_fields old.now) n) }
 {
-    let mut k = 0;
-    while k < n {
+    for k in 0..n {
         let x = field(old, OLD_WIDTH, k);
         bits::write_u32(out, WIDTH * k, x);
-        k += 1;
     }
 }
 
 // Writes the new file of a legal file of the old form, if the output is long enough.
-fn upgrade_legal(old: &[u8], out: &mut [u8]) -> Answer
+fn upgrade_legal(old: &[u8], out: &mut [u8]) -> Result<usize, Fault>
     requires { right_length old_width old.now ≡ true }
     ensures { outcome result out.new ≡ builds (upgraded old.now) out.old }
 {
     let n = old.len() / OLD_WIDTH;
     let size = WIDTH * n;
     if out.len() < size {
-        return Answer::Refused(Refusal::BufferLength, 0);
+        return Err(Refusal::BufferLength.into());
     }
     write_fields(old, n, out);
-    Answer::Written(size)
+    Ok(size)
 }
 
 // Converts a file of the old form into the lent output: the new file's length, or the old reading's refusal with the slot that it tells,
 // or 6 for a short output. A refusal leaves the output as it was.
-pub fn upgrade(old: &[u8], out: &mut [u8]) -> Answer
+pub fn upgrade(old: &[u8], out: &mut [u8]) -> Result<usize, Fault>
     ensures { outcome result out.new ≡ upgrade_op old.now out.old }
 {
-    let answer = read_with(old, OLD_WIDTH, OLD_GATES);
-    match answer {
-        ReadAnswer::Refused(k, slot) => Answer::Refused(k, slot),
-        ReadAnswer::Legal(_) => upgrade_legal(old, out),
-    }
+    read_with(old, OLD_WIDTH, OLD_GATES)?;
+    upgrade_legal(old, out)
 }

@@ -11,14 +11,12 @@ ghost use Rattle.proof.specs.File.{header_bytes, header_salt, hides};
 ghost use Rattle.proof.specs.Steps.{ask_of, asks_in};
 ghost use Rattle.proof_tests.specs.Steps.{all_unused, all_outputs, recomputed, Sized, Rebuilt};
 
-use bits::copy;
 use circuit::Sizes;
 use cover::masters_tree;
 use hashing::{Context, finish, salt_in, start_all_commitments, start_all_online, transcript};
 use instance::checking::{reopen, replay};
 use instance::{Instance, Replayed};
 use keccak::SHA3_256_RATE;
-use mpc::tests::both;
 use proof::asking::{asked, stretch_bytes};
 use proof::nodes::master;
 use proof::{Counts, HEADER_BYTES};
@@ -64,7 +62,7 @@ pub fn check_instance(
     if p == n {
         let commitments = reopen(s, z, inst, master, memory);
         let mut online = [0u8; 32];
-        copy(part, &mut online);
+        online.copy_from_slice(part);
         return Replayed {
             agrees: true,
             commitments,
@@ -97,8 +95,7 @@ pub fn recompute(
     let mut all = start_all_commitments();
     let mut online = start_all_online();
     let mut at = HEADER_BYTES + opened;
-    let mut j = 0;
-    while j < m {
+    for j in 0..m {
         let p = asked(table, n, j);
         let end = at + stretch_bytes(s, z, n, h, p);
         let inst = Instance {
@@ -108,11 +105,10 @@ pub fn recompute(
         };
         let seed = master(nodes, j);
         let r = check_instance(s, z, inst, p, y, seed, &proof[at..end], memory);
-        agrees = both(agrees, r.agrees);
+        agrees &= r.agrees;
         all = all.absorb(SHA3_256_RATE, &r.commitments);
         online = online.absorb(SHA3_256_RATE, &r.online);
         at = end;
-        j += 1;
     }
     let hstar = transcript(&finish(all), &finish(online));
     Verdict { agrees, hstar }

@@ -9,7 +9,7 @@ use Rattle.circuit.specs.Steps.{gate_of, and_one, gates_from, Laid, Legal, Chain
 use Rattle.circuit.specs.declared.Sizes.{Sizes}
 use Rattle.planes.specs.Steps.{Room}
 use Rattle.planes.specs.declared.Layout.{Layout}
-use Rattle.gates.specs.Steps.{put_wire, gate_step, output_step, output_value}
+use Rattle.gates.specs.Steps.{gate_step, output_step, output_value}
 
 -- the layout of the work memory for a circuit: I + G wires
 abbrev pub layout_of : Sizes → Layout

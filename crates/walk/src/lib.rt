@@ -3,11 +3,10 @@
 
 ghost use Rattle.std.specs.Prelude.{◌≡◌, ◌+◌, ◌≤◌};
 ghost use Rattle.bits.specs.Bits.{tabulate, pack};
-ghost use Rattle.circuit.specs.Steps.{and_one};
 ghost use Rattle.walk.specs.Steps.{layout_of, Ready, Ended, Lent, walked, outputs_sent, output_bit, outputs_run, values_run};
 
-use circuit::records::{output_wire, record};
-use circuit::{Gate, Sizes};
+use circuit::Sizes;
+use circuit::records::{and_one, output_wire, record};
 use gates::{gate, output};
 use planes::Layout;
 
@@ -24,35 +23,19 @@ pub fn layout(z: Sizes) -> Layout
     }
 }
 
-// 1 for an AND gate, 0 for another.
-pub fn and_one(g: Gate) -> usize
-    ensures { result ≡ and_one g }
-{
-    match g {
-        Gate::Xor(_, _) => 0,
-        Gate::And(_, _) => 1,
-        Gate::Inv(_) => 0,
-    }
-}
-
 // Runs the gates in chain order; at the places of hidden the broadcasts stand in their places already.
 fn walk(s: &[u8], z: Sizes, head: usize, hidden: u64, memory: &mut [u8])
     requires { Ready s.now z head memory.old }
     ensures { memory.new ≡ walked (layout_of z) hidden s.now z.gates head 0 memory.old }
 {
     let l = layout(z);
-    let inputs = z.inputs;
-    let outputs = z.outputs;
-    let mut left = z.gates;
     let mut slot = head;
     let mut t = 0;
-    while 0 < left {
-        let r = record(s, outputs, slot);
-        let g = r.gate;
-        gate(memory, l, g, inputs + (slot - 1), t, hidden);
-        t += and_one(g);
+    for _ in 0..z.gates {
+        let r = record(s, z.outputs, slot);
+        gate(memory, l, r.gate, z.inputs + (slot - 1), t, hidden);
+        t += and_one(r.gate);
         slot = r.next;
-        left -= 1;
     }
 }
 
@@ -63,15 +46,11 @@ pub fn broadcast_outputs(s: &[u8], z: Sizes, hidden: u64, memory: &mut [u8], y: 
     ensures y_after { y.new ≡ pack (tabulate z.outputs (output_bit (layout_of z) hidden s.now memory.old)) }
 {
     let l = layout(z);
-    let outputs = z.outputs;
-    let ands = z.ands;
     bits::clear(y);
-    let mut j = 0;
-    while j < outputs {
+    for j in 0..z.outputs {
         let w = output_wire(s, j);
-        let x = output(memory, l, w, ands + j, hidden);
+        let x = output(memory, l, w, z.ands + j, hidden);
         bits::put_bit(y, j, x);
-        j += 1;
     }
 }
 
@@ -81,7 +60,6 @@ pub fn run(s: &[u8], z: Sizes, hidden: u64, memory: &mut [u8], y: &mut [u8])
     ensures memory_after { memory.new ≡ outputs_run s.now z hidden memory.old }
     ensures y_after { y.new ≡ pack (values_run s.now z hidden memory.old) }
 {
-    let head = circuit::records::head(s);
-    walk(s, z, head, hidden, memory);
+    walk(s, z, circuit::records::head(s), hidden, memory);
     broadcast_outputs(s, z, hidden, memory, y);
 }

@@ -1,4 +1,3 @@
 pub mod Statuses
-pub mod SharedStatuses
 pub mod Answers
 pub mod SmallStatuses

@@ -16,7 +16,7 @@ use Rattle.seeds.specs.Operations as seeds
 use Rattle.proving.specs.Answers as proving
 use Rattle.checking.specs.Answers as checking
 use Rattle.shared_bytes.specs.Answers.{enter_paper, check_paper}
-use Rattle.shelf.specs.Operations.{paper as shelfPaper}
+use Rattle.shelf.specs.Operations.{paper as shelfPaper, draw_paper}
 use Rattle.wivulameno.specs.Interface.{status, values, slot}
 
 -- different arguments have different results
@@ -25,7 +25,7 @@ Injective {A} f = (a b : A) → f a ≡ f b → a ≡ b
 
 -- the definitions that put each answer enum into the paper's terms: of the refusals; of read; of evaluate; of convert; of upgrade; of join;
 -- of small; of one of; of prepare, run, show and replay; of expand, open, masters, cover and challenge; of prove; of check; of the shared
--- checker's entry and call; of stock and draw, with the values of a success
+-- checker's entry and call; of stock, with the values of a success; of draw
 pub record DifferentAnswers : Type 0 where
   pub refusals : Injective number_of
   pub read : Injective read_paper
@@ -42,6 +42,7 @@ pub record DifferentAnswers : Type 0 where
   pub shared_enter : Injective enter_paper
   pub shared_check : Injective check_paper
   pub shelf : (vs : List ℕ) → Injective (λ a. shelfPaper a vs)
+  pub draw : Injective (λ a. draw_paper a)
 
 -- what a C function with numbers to fill in says: its status, and those numbers, where `lent` is what they were
 abbrev pub reported : List ℕ → Answer → ℕ × List ℕ
@@ -65,4 +66,7 @@ pub record DifferentStatuses : Type 0 where
   pub derive : Injective (λ a. status (seeds.paper a))
   pub prove : (lent : List ℕ) → Injective (λ a. reported lent (proving.paper a))
   pub check : Injective (λ a. status (checking.paper a))
+  pub shared_enter : Injective (λ a. status (enter_paper a))
+  pub shared_check : (lent : List ℕ) → Injective (λ a. reported lent (check_paper a))
   pub shelf : (vs : List ℕ) → Injective (λ a. status (shelfPaper a vs))
+  pub draw : (lent : List ℕ) → Injective (λ a. reported lent (draw_paper a))

@@ -3,7 +3,8 @@
 // wv_version the version. No logic of its own.
 #![tactic(auto)]
 
-ghost use Rattle.std.specs.Prelude.{◌≡◌, cond, [], ◌∷◌, length};
+ghost use Rattle.std.specs.Prelude.{◌≡◌, [], ◌∷◌, length};
+ghost use Rattle.refusal.specs.Outcome.{told};
 ghost use Rattle.circuit.specs.Operations.{read_op, evaluate_op};
 ghost use Rattle.bristol.specs.Operations.{convert_op};
 ghost use Rattle.upgrade.specs.Upgrade.{upgrade_op};
@@ -18,6 +19,31 @@ ghost use Rattle.shelf.specs.Operations.{stock_op, draw_op};
 ghost use Rattle.seeds.specs.Operations.{expand_op, open_op, masters_op, cover_op, challenge_op};
 ghost use Rattle.wivulameno.specs.Interface.{status, values, slot, length_told};
 ghost use Rattle.keccak.specs.Sponge.{«sha3_256», «shake128», «shake256»};
+
+use refusal::Refusal;
+
+// The status of an operation that tells no numbers.
+fn status(r: Result<(), Refusal>) -> u32
+    ensures { result ≡ status (told (λ _. []) r) }
+{
+    match r {
+        Ok(()) => 0,
+        Err(k) => k.into(),
+    }
+}
+
+// The status of an operation that tells a length, and the length.
+fn tell(r: Result<usize, Refusal>, written: &mut [u64; 1]) -> u32
+    ensures { (result ≡ status (told (λ k. k ∷ []) r)) × (written.new ≡ values (told (λ k. k ∷ []) r) written.old) }
+{
+    match r {
+        Ok(k) => {
+            *written = [k as u64];
+            0
+        }
+        Err(k) => k.into(),
+    }
+}
 
 // The version of this library, 65536 times its major number, 256 times its minor number and its patch number: 0.1.0.
 #[unsafe(no_mangle)]
@@ -59,9 +85,8 @@ pub extern "C" fn wv_shake256(data: &[u8], out: &mut [u8]) -> u32
 pub extern "C" fn wv_read(circuit: &[u8], sizes: &mut [u32; 4]) -> u32
     ensures { (result ≡ status (read_op circuit.now)) × (sizes.new ≡ values (read_op circuit.now) sizes.old) }
 {
-    let a = reading::read(circuit);
-    match a {
-        circuit::ReadAnswer::Legal(z) => {
+    match reading::read(circuit) {
+        Ok(z) => {
             *sizes = [
                 z.inputs as u32,
                 z.outputs as u32,
@@ -70,7 +95,7 @@ pub extern "C" fn wv_read(circuit: &[u8], sizes: &mut [u32; 4]) -> u32
             ];
             0
         }
-        circuit::ReadAnswer::Refused(k, _) => refusal::number(k),
+        Err(f) => f.refusal.into(),
     }
 }
 
@@ -79,10 +104,9 @@ pub extern "C" fn wv_read(circuit: &[u8], sizes: &mut [u32; 4]) -> u32
 pub extern "C" fn wv_fault_slot(circuit: &[u8]) -> u32
     ensures { result ≡ slot (read_op circuit.now) }
 {
-    let a = reading::read(circuit);
-    match a {
-        circuit::ReadAnswer::Legal(_) => 0,
-        circuit::ReadAnswer::Refused(_, at) => at as u32,
+    match reading::read(circuit) {
+        Ok(_) => 0,
+        Err(f) => f.slot as u32,
     }
 }
 
@@ -91,14 +115,7 @@ pub extern "C" fn wv_fault_slot(circuit: &[u8]) -> u32
 pub extern "C" fn wv_bristol(text: &[u8], out: &mut [u8], written: &mut [u64; 1]) -> u32
     ensures { (result ≡ status (convert_op text.now out.old).answer) × ((written.new ≡ values (convert_op text.now out.old).answer written.old) × (out.new ∷ [] ≡ (convert_op text.now out.old).left)) }
 {
-    let a = bristol::conversion::convert(text, out);
-    match a {
-        bristol::Answer::Written(k) => {
-            *written = [k as u64];
-            0
-        }
-        bristol::Answer::Refused(k) => refusal::number(k),
-    }
+    tell(bristol::conversion::convert(text, out), written)
 }
 
 // Converts a circuit file of the old form: the new file's length, or the refusal.
@@ -106,13 +123,12 @@ pub extern "C" fn wv_bristol(text: &[u8], out: &mut [u8], written: &mut [u64; 1]
 pub extern "C" fn wv_upgrade(old: &[u8], out: &mut [u8], written: &mut [u64; 1]) -> u32
     ensures { (result ≡ status (upgrade_op old.now out.old).answer) × ((written.new ≡ values (upgrade_op old.now out.old).answer written.old) × (out.new ∷ [] ≡ (upgrade_op old.now out.old).left)) }
 {
-    let a = upgrade::upgrade(old, out);
-    match a {
-        upgrade::Answer::Written(k) => {
+    match upgrade::upgrade(old, out) {
+        Ok(k) => {
             *written = [k as u64];
             0
         }
-        upgrade::Answer::Refused(k, _) => refusal::number(k),
+        Err(f) => f.refusal.into(),
     }
 }
 
@@ -122,10 +138,9 @@ pub extern "C" fn wv_upgrade_slot(old: &[u8]) -> u32
     ensures { result ≡ slot (upgrade_op old.now []).answer }
 {
     let mut none = [0u8; 1];
-    let a = upgrade::upgrade(old, &mut none[..0]);
-    match a {
-        upgrade::Answer::Written(_) => 0,
-        upgrade::Answer::Refused(_, at) => at as u32,
+    match upgrade::upgrade(old, &mut none[..0]) {
+        Ok(_) => 0,
+        Err(f) => f.slot as u32,
     }
 }
 
@@ -139,14 +154,7 @@ pub extern "C" fn wv_join(
 ) -> u32
     ensures { (result ≡ status (join_op first.now second.now out.old).answer) × ((written.new ≡ values (join_op first.now second.now out.old).answer written.old) × (out.new ∷ [] ≡ (join_op first.now second.now out.old).left)) }
 {
-    let a = join::join(first, second, out);
-    match a {
-        join::Answer::Written(k) => {
-            *written = [k as u64];
-            0
-        }
-        join::Answer::Refused(k) => refusal::number(k),
-    }
+    tell(join::join(first, second, out), written)
 }
 
 // The small circuit at a place: its file's length, 0 where the last has passed, or the refusal.
@@ -161,17 +169,12 @@ pub extern "C" fn wv_small(
 ) -> u32
     ensures { (result ≡ status (small_op inputs outputs gates place out.old).answer) × ((written.new ≡ length_told (small_op inputs outputs gates place out.old).answer written.old) × (out.new ∷ [] ≡ (small_op inputs outputs gates place out.old).left)) }
 {
-    let a = small::small(inputs, outputs, gates, place, out);
-    match a {
-        small::Answer::Written(k) => {
-            *written = [k as u64];
+    match small::small(inputs, outputs, gates, place, out) {
+        Ok(k) => {
+            *written = [k.unwrap_or(0) as u64];
             0
         }
-        small::Answer::Passed => {
-            *written = [0];
-            0
-        }
-        small::Answer::Refused(k) => refusal::number(k),
+        Err(k) => k.into(),
     }
 }
 
@@ -185,14 +188,7 @@ pub extern "C" fn wv_one_of(
 ) -> u32
     ensures { (result ≡ status (one_of_op circuit.now list.now out.old).answer) × ((written.new ≡ values (one_of_op circuit.now list.now out.old).answer written.old) × (out.new ∷ [] ≡ (one_of_op circuit.now list.now out.old).left)) }
 {
-    let a = one_of::one_of(circuit, list, out);
-    match a {
-        one_of::Answer::Written(k) => {
-            *written = [k as u64];
-            0
-        }
-        one_of::Answer::Refused(k) => refusal::number(k),
-    }
+    tell(one_of::one_of(circuit, list, out), written)
 }
 
 // Evaluates a circuit on a witness, into y.
@@ -200,11 +196,7 @@ pub extern "C" fn wv_one_of(
 pub extern "C" fn wv_evaluate(circuit: &[u8], witness: &[u8], y: &mut [u8]) -> u32
     ensures { (result ≡ status (evaluate_op circuit.now witness.now y.old).answer) × (y.new ∷ [] ≡ (evaluate_op circuit.now witness.now y.old).left) }
 {
-    let a = evaluation::evaluate(circuit, witness, y);
-    match a {
-        circuit::EvaluateAnswer::Done => 0,
-        circuit::EvaluateAnswer::Refused(k) => refusal::number(k),
-    }
+    status(evaluation::evaluate(circuit, witness, y))
 }
 
 // Prepares the corrections from the tapes of n parties.
@@ -218,11 +210,7 @@ pub extern "C" fn wv_prepare(
 ) -> u32
     ensures { (result ≡ status (prepare_op circuit.now n tapes.now corrections.old work.old).answer) × (corrections.new ∷ work.new ∷ [] ≡ (prepare_op circuit.now n tapes.now corrections.old work.old).left) }
 {
-    let a = mpc::preparing::prepare(circuit, n, tapes, corrections, work);
-    match a {
-        mpc::Answer::Done => 0,
-        mpc::Answer::Refused(k) => refusal::number(k),
-    }
+    status(mpc::preparing::prepare(circuit, n, tapes, corrections, work))
 }
 
 // Runs the circuit on a witness: masked inputs, n broadcast rows and y.
@@ -240,7 +228,7 @@ pub extern "C" fn wv_run(
 ) -> u32
     ensures { (result ≡ status (run_op circuit.now n witness.now tapes.now corrections.now masked.old rows.old y.old work.old).answer) × (masked.new ∷ rows.new ∷ y.new ∷ work.new ∷ [] ≡ (run_op circuit.now n witness.now tapes.now corrections.now masked.old rows.old y.old work.old).left) }
 {
-    let a = mpc::running::run(
+    status(mpc::running::run(
         circuit,
         n,
         witness,
@@ -250,11 +238,7 @@ pub extern "C" fn wv_run(
         rows,
         y,
         work,
-    );
-    match a {
-        mpc::Answer::Done => 0,
-        mpc::Answer::Refused(k) => refusal::number(k),
-    }
+    ))
 }
 
 // Shows the run with party p hidden, cut after some gates: tapes, corrections, masked inputs and row p.
@@ -274,7 +258,7 @@ pub extern "C" fn wv_show(
 ) -> u32
     ensures { (result ≡ status (show_op circuit.now n p cut witness.now tapes.entry.now (record { tapes = blanked.old; corrections = corrections.old; masked_inputs = masked.old; row = row.old }) work.old).answer) × (blanked.new ∷ corrections.new ∷ masked.new ∷ row.new ∷ work.new ∷ [] ≡ (show_op circuit.now n p cut witness.now tapes.entry.now (record { tapes = blanked.old; corrections = corrections.old; masked_inputs = masked.old; row = row.old }) work.old).left) }
 {
-    let a = showing::show(
+    status(showing::show(
         circuit,
         n,
         p,
@@ -286,11 +270,7 @@ pub extern "C" fn wv_show(
         masked,
         row,
         work,
-    );
-    match a {
-        mpc::Answer::Done => 0,
-        mpc::Answer::Refused(k) => refusal::number(k),
-    }
+    ))
 }
 
 // Replays an opened run: n broadcast rows, where its output is y.
@@ -309,7 +289,7 @@ pub extern "C" fn wv_replay(
 ) -> u32
     ensures { (result ≡ status (replay_op circuit.now n p (record { tapes = tapes.entry.now; corrections = corrections.now; masked_inputs = masked.now; row = row.now }) y.now rows.old work.old).answer) × (rows.new ∷ work.new ∷ [] ≡ (replay_op circuit.now n p (record { tapes = tapes.entry.now; corrections = corrections.now; masked_inputs = masked.now; row = row.now }) y.now rows.old work.old).left) }
 {
-    let a = replaying::replay(
+    status(replaying::replay(
         circuit,
         n,
         p,
@@ -320,11 +300,7 @@ pub extern "C" fn wv_replay(
         y,
         rows,
         work,
-    );
-    match a {
-        mpc::Answer::Done => 0,
-        mpc::Answer::Refused(k) => refusal::number(k),
-    }
+    ))
 }
 
 // Proves that the circuit gives y on the witness: the proof, and the length written.
@@ -345,16 +321,12 @@ pub extern "C" fn wv_prove(
 ) -> u32
     ensures { (result ≡ status (prove_op circuit.now witness.now y.now message.now root.now salt.now m tau n proof.old work.old).answer) × ((written.new ≡ values (prove_op circuit.now witness.now y.now message.now root.now salt.now m tau n proof.old work.old).answer written.old) × (proof.new ∷ work.new ∷ [] ≡ (prove_op circuit.now witness.now y.now message.now root.now salt.now m tau n proof.old work.old).left)) }
 {
-    let a = proving::prove(
-        circuit, witness, y, message, root, salt, m, tau, n, proof, work,
-    );
-    match a {
-        proving::Answer::Written(k) => {
-            *written = [k as u64];
-            0
-        }
-        proving::Answer::Refused(k) => refusal::number(k),
-    }
+    tell(
+        proving::prove(
+            circuit, witness, y, message, root, salt, m, tau, n, proof, work,
+        ),
+        written,
+    )
 }
 
 // Checks a proof that the circuit gives y on some witness, under the message.
@@ -368,11 +340,7 @@ pub extern "C" fn wv_check(
 ) -> u32
     ensures { (result ≡ status (check_op circuit.now y.now message.now proof.now work.old).answer) × (work.new ∷ [] ≡ (check_op circuit.now y.now message.now proof.now work.old).left) }
 {
-    let a = checking::check(circuit, y, message, proof, work);
-    match a {
-        checking::Answer::Accepted => 0,
-        checking::Answer::Refused(k) => refusal::number(k),
-    }
+    status(checking::check(circuit, y, message, proof, work))
 }
 
 // Puts the empty state of a shared checker into the lent bytes.
@@ -396,11 +364,7 @@ pub extern "C" fn wv_shared_enter(
 ) -> u32
     ensures { (result ≡ status (enter_op state.old caller places.now buffer.now work.old).answer) × (state.new ∷ work.new ∷ [] ≡ (enter_op state.old caller places.now buffer.now work.old).left) }
 {
-    let a = shared_bytes::enter(state, caller, places, buffer, work);
-    match a {
-        shared_bytes::EnterAnswer::Done => 0,
-        shared_bytes::EnterAnswer::Refused(k) => k,
-    }
+    status(shared_bytes::enter(state, caller, places, buffer, work))
 }
 
 // Checks a quota of instances of the proofs that wait in a shared checker: how many were checked, and each caller's verdict, 255 for none in
@@ -416,13 +380,12 @@ pub extern "C" fn wv_shared_check(
 ) -> u32
     ensures { (result ≡ status (call_op state.old quota buffer.now verdicts.old work.old).answer) × ((checked.new ≡ values (call_op state.old quota buffer.now verdicts.old work.old).answer checked.old) × (state.new ∷ verdicts.new ∷ work.new ∷ [] ≡ (call_op state.old quota buffer.now verdicts.old work.old).left)) }
 {
-    let a = shared_bytes::check(state, quota, buffer, verdicts, work);
-    match a {
-        shared_bytes::CheckAnswer::Checked(n) => {
+    match shared_bytes::check(state, quota, buffer, verdicts, work) {
+        Ok(n) => {
             *checked = [n];
             0
         }
-        shared_bytes::CheckAnswer::Refused(k) => k,
+        Err(k) => k.into(),
     }
 }
 
@@ -431,20 +394,7 @@ pub extern "C" fn wv_shared_check(
 pub extern "C" fn wv_stock(page: &mut [u8], root: &[u8]) -> u32
     ensures { (result ≡ status (stock_op page.old root.now).answer) × (page.new ∷ [] ≡ (stock_op page.old root.now).left) }
 {
-    let a = shelf::stock(page, root);
-    match a {
-        shelf::Answer::Accepted => 0,
-        shelf::Answer::Refused(k) => refusal::number(k),
-    }
-}
-
-// Puts a root that is given into the lent one; where none is given, the lent root stays as it was.
-fn put_given(given: bool, drawn: [u8; 16], root: &mut [u8; 16])
-    ensures { root.new ≡ cond given drawn root.old }
-{
-    if given {
-        *root = drawn;
-    }
+    status(shelf::stock(page, root))
 }
 
 // Draws a root from the shelf's page; count is that of the host's log. The lent root stays as it was on a refusal.
@@ -452,18 +402,12 @@ fn put_given(given: bool, drawn: [u8; 16], root: &mut [u8; 16])
 pub extern "C" fn wv_draw(page: &mut [u8], count: u64, root: &mut [u8; 16]) -> u32
     ensures { (result ≡ status (draw_op page.old count).answer) × ((root.new ≡ values (draw_op page.old count).answer root.old) × (page.new ∷ [] ≡ (draw_op page.old count).left)) }
 {
-    let d = shelf::draw(page, count);
-    let a = d.answer;
-    let drawn = d.root;
-    match a {
-        shelf::Answer::Accepted => {
-            put_given(true, drawn, root);
+    match shelf::draw(page, count) {
+        Ok(drawn) => {
+            *root = drawn;
             0
         }
-        shelf::Answer::Refused(k) => {
-            put_given(false, drawn, root);
-            refusal::number(k)
-        }
+        Err(k) => k.into(),
     }
 }
 
@@ -472,11 +416,7 @@ pub extern "C" fn wv_draw(page: &mut [u8], count: u64, root: &mut [u8; 16]) -> u
 pub extern "C" fn wv_expand(j: u32, n: u32, salt: &[u8], master: &[u8], leaves: &mut [u8]) -> u32
     ensures { (result ≡ status (expand_op j n salt.now master.now leaves.old).answer) × (leaves.new ∷ [] ≡ (expand_op j n salt.now master.now leaves.old).left) }
 {
-    let a = seeds::expand(j, n, salt, master, leaves);
-    match a {
-        seeds::Answer::Done => 0,
-        seeds::Answer::Refused(k) => refusal::number(k),
-    }
+    status(seeds::expand(j, n, salt, master, leaves))
 }
 
 // Opens all leaves but p of the tree of instance j.
@@ -491,11 +431,7 @@ pub extern "C" fn wv_open(
 ) -> u32
     ensures { (result ≡ status (open_op j n p salt.now master.now siblings.old).answer) × (siblings.new ∷ [] ≡ (open_op j n p salt.now master.now siblings.old).left) }
 {
-    let a = seeds::open(j, n, p, salt, master, siblings);
-    match a {
-        seeds::Answer::Done => 0,
-        seeds::Answer::Refused(k) => refusal::number(k),
-    }
+    status(seeds::open(j, n, p, salt, master, siblings))
 }
 
 // Makes the masters of m instances from the root.
@@ -503,11 +439,7 @@ pub extern "C" fn wv_open(
 pub extern "C" fn wv_masters(m: u32, salt: &[u8], root: &[u8], out: &mut [u8]) -> u32
     ensures { (result ≡ status (masters_op m salt.now root.now out.old).answer) × (out.new ∷ [] ≡ (masters_op m salt.now root.now out.old).left) }
 {
-    let a = seeds::masters(m, salt, root, out);
-    match a {
-        seeds::Answer::Done => 0,
-        seeds::Answer::Refused(k) => refusal::number(k),
-    }
+    status(seeds::masters(m, salt, root, out))
 }
 
 // Opens the tree over m masters with the listed leaves hidden, a u16 each.
@@ -515,11 +447,7 @@ pub extern "C" fn wv_masters(m: u32, salt: &[u8], root: &[u8], out: &mut [u8]) -
 pub extern "C" fn wv_cover(m: u32, hidden: &[u8], salt: &[u8], root: &[u8], out: &mut [u8]) -> u32
     ensures { (result ≡ status (cover_op m hidden.now salt.now root.now out.old).answer) × (out.new ∷ [] ≡ (cover_op m hidden.now salt.now root.now out.old).left) }
 {
-    let a = seeds::cover(m, hidden, salt, root, out);
-    match a {
-        seeds::Answer::Done => 0,
-        seeds::Answer::Refused(k) => refusal::number(k),
-    }
+    status(seeds::cover(m, hidden, salt, root, out))
 }
 
 // Derives the challenge from h*, bound to the salt, the counts, the digest of the circuit file, y and the message.
@@ -537,9 +465,5 @@ pub extern "C" fn wv_challenge(
 ) -> u32
     ensures { (result ≡ status (challenge_op m tau n hstar.now salt.now digest.now y.now message.now out.old).answer) × (out.new ∷ [] ≡ (challenge_op m tau n hstar.now salt.now digest.now y.now message.now out.old).left) }
 {
-    let a = seeds::challenge(m, tau, n, hstar, salt, digest, y, message, out);
-    match a {
-        seeds::Answer::Done => 0,
-        seeds::Answer::Refused(k) => refusal::number(k),
-    }
+    status(seeds::challenge(m, tau, n, hstar, salt, digest, y, message, out))
 }

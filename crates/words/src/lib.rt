@@ -9,25 +9,18 @@ ghost use Rattle.words.specs.Steps.{AndColumns};
 
 pub mod transpose;
 
-// A byte as a word.
-pub(crate) fn wide(x: u8) -> u64
-    ensures { result ≡ x }
-{
-    x as u64
-}
-
 // The XOR of the 64 bits of a word.
 pub fn parity(x: u64) -> u8
     ensures { result ≡ bit_val (parity 64 x) }
 {
-    (u64::count_ones(x) % 2) as u8
+    (x.count_ones() % 2) as u8
 }
 
 // The word with the lowest bit of m at each place.
 pub fn every(m: u8) -> u64
     ensures { result ≡ every 64 (odd m) }
 {
-    wide(m % 2) * 0xFFFFFFFFFFFFFFFF
+    (m % 2) as u64 * 0xFFFFFFFFFFFFFFFF
 }
 
 // The word with a bit at party p's place alone; zero where p is 64 or more.
@@ -71,7 +64,7 @@ pub fn and_gate(
     let own = chosen(hidden, shown, z ^ o);
     let word = (every(ma) & (sb & kept)) ^ ((every(mb) & (sa & kept)) ^ own);
     Delivered {
-        word: word,
+        word,
         masked: (ma & mb) ^ parity(word),
     }
 }

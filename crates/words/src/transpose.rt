@@ -2,8 +2,6 @@
 ghost use Rattle.std.specs.Prelude.{◌≡◌, ◌+◌, ◌*◌, ◌≤◌, ◌<◌, length};
 ghost use Rattle.words.specs.Steps.{swapped, transposed, gathered, scattered, turned};
 
-use crate::wide;
-
 // The word x with the bits at the places of m exchanged for those d places above them.
 fn swap(x: u64, m: u64, d: u64) -> u64
     requires { d < 64 }
@@ -62,10 +60,8 @@ pub fn gather(s: &[u8], j: usize, step: usize, n: usize) -> u64
         return gather8(s, j, step);
     }
     let mut x: u64 = 0;
-    let mut i = 0;
-    while i < n {
-        x = x | (wide(s[j + i * step]) << ((8 * i) as u64));
-        i += 1;
+    for i in 0..n {
+        x |= (s[j + i * step] as u64) << ((8 * i) as u64);
     }
     x
 }
@@ -94,10 +90,8 @@ pub fn scatter(x: u64, memory: &mut [u8], j: usize, step: usize, n: usize)
         scatter8(x, memory, j, step);
         return;
     }
-    let mut i = 0;
-    while i < n {
+    for i in 0..n {
         memory[j + i * step] = ((x >> ((8 * i) as u64)) % 256) as u8;
-        i += 1;
     }
 }
 

@@ -1,27 +1,26 @@
 -- `bits::same` meets its contract. The loop's invariant: what is gathered is zero where the bytes passed are equal, and only there.
 -- Assumes nothing.
-use native.Mathlib.Omega.{arith}
-use mathlib.Core.Path.{sym}
-use Prim.Native.Nat.{◌-◌}
-use Rattle.bits.proofs.Equal.{agree-none, agree-more, agree-all, lengths_differ}
+use Rattle.std.proofs.Common.{rules, arith, ◌≡◌, sym, [], ◌∷◌, ◌++◌, ℕ, ◌+◌, length, length-append}
+use Rattle.std.proofs.lemmas.Slice.Zip.{zip_turn, zip_end}
+use Rattle.bits.proofs.Equal.{agree-more, agree-all, lengths_differ}
 use Rattle.bits.proofs.same.Goals as goal
 
 pub returns-then-a-b : goal.returns-then-a-b
 returns-then-a-b c = sym (lengths_differ _ _ c.if-a-b.true)
 
-pub loop-i-init : goal.loop-i-init
-loop-i-init c =
-    let x = c.args in
-    (omega arith, agree-none x.a.now x.b.now)
-
-pub loop-i-preserved : goal.loop-i-preserved
-loop-i-preserved c =
-    let x = c.args in
-    let l = c.loop-i in
-    (omega arith, agree-more x.a.now x.b.now l.i l.diff l.invariant.1)
+pub loop-x-preserved : goal.loop-x-preserved
+loop-x-preserved c =
+    let a = c.args.a.now in
+    let b = c.args.b.now in
+    let l = c.loop-x in
+    let t = zip_turn {A = ℕ} {B = ℕ} a b l.yielded c.into_iter-x-iterator.result l.x-iterator c.next.new.self c.next.result (search rules) (search rules) l.yielded_by (c.in-Some.x, c.in-Some.y) c.in-Some.is c.next.ensures.steps in
+    let m : length (l.yielded ++ ((c.in-Some.x, c.in-Some.y) ∷ [])) ≡ length l.yielded + 1 = omega (arith, length-append l.yielded ((c.in-Some.x, c.in-Some.y) ∷ [])) in
+    rw (m, t.2 0, t.3 0) (agree-more a b (length l.yielded) l.diff l.invariant)
 
 pub returns : goal.returns
 returns c =
-    let x = c.args in
-    let l = c.loop-i in
-    agree-all x.a.now x.b.now l.i l.diff c.if-a-b.false c.loop-i-test.false l.invariant.1
+    let a = c.args.a.now in
+    let b = c.args.b.now in
+    let l = c.loop-x in
+    let t = zip_end {A = ℕ} {B = ℕ} a b l.yielded c.into_iter-x-iterator.result l.x-iterator c.next.new.self c.next.result (search rules) (search rules) l.yielded_by c.in-None.is c.next.ensures.steps in
+    agree-all a b (length l.yielded) l.diff c.if-a-b.false (omega arith) l.invariant

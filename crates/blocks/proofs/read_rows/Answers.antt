@@ -2,14 +2,14 @@
 -- Assumes nothing.
 use native.Mathlib.Omega.{arith}
 use mathlib.Core.Path.{◌≡◌, ap, ◌∙◌}
-use Prim.Native.Nat.{ℕ, ◌-◌}
+use Prim.Native.Nat.{ℕ}
 use Rattle.blocks.specs.Steps.{row_words}
 use Rattle.words.proofs.Turns.{place-within}
 use Rattle.blocks.proofs.Columns.{rows_none, rows-turn}
 use Rattle.blocks.proofs.read_rows.Goals as goal
 
 pub loop-p-init : goal.loop-p-init
-loop-p-init c = (omega arith, rows_none _ _ _)
+loop-p-init c = rows_none _ _ _
 
 pub overflow_mul-p : goal.overflow_mul-p
 overflow_mul-p c =
@@ -27,10 +27,10 @@ read_u64-requires c =
     omega (arith, place-within c.loop-p.p x.n x.step (omega arith))
 
 pub loop-p-preserved : goal.loop-p-preserved
-loop-p-preserved c = (omega arith, rows-turn _ _ _ _ _ _ c.loop-p.invariant.1 c.read_u64.ensures)
+loop-p-preserved c = rows-turn _ _ _ _ _ _ c.loop-p.invariant c.read_u64.ensures
 
 pub returns : goal.returns
 returns c =
     let x = c.args in
     let e : c.loop-p.p ≡ x.n = omega arith in
-    c.loop-p.invariant.1 ∙ ap (λ (k : ℕ). row_words k x.s.now x.j x.step) e
+    c.loop-p.invariant ∙ ap (λ (k : ℕ). row_words k x.s.now x.j x.step) e

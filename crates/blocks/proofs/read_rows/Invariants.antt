@@ -1,12 +1,8 @@
 -- `blocks::read_rows` meets its contract. The invariant: p words are read.
 -- Assumes nothing.
 use mathlib.Core.Path.{◌≡◌}
-use Prim.Native.Nat.{◌-◌, ◌≤◌}
 use Rattle.blocks.specs.Steps.{row_words}
 use Rattle.blocks.proofs.read_rows.Given as goal
 
 abbrev pub invariant-loop-p : goal.invariant-loop-p
-invariant-loop-p l = (l.p ≤ l.n) × (l.r ≡ row_words l.p l.s l.j l.step)
-
-abbrev pub decreases-loop-p : goal.decreases-loop-p
-decreases-loop-p l = l.n - l.p
+invariant-loop-p l = l.r ≡ row_words l.p l.s l.j l.step

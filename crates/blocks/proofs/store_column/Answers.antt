@@ -1,9 +1,8 @@
 -- `blocks::store_column` meets its contract. The invariant: i bytes are stored.
 -- Assumes nothing.
 use native.Mathlib.Omega.{arith}
-use mathlib.Core.Path.{◌≡◌, refl, sym, ap, ◌∙◌}
-use Prim.Native.Nat.{ℕ, ◌-◌}
-use lib.ListN.{length-set}
+use mathlib.Core.Path.{◌≡◌, sym, ap, ◌∙◌}
+use Prim.Native.Nat.{ℕ}
 use Rattle.blocks.specs.Steps.{stored_column}
 use Rattle.words.proofs.Turns.{place-within, times_eight}
 use Rattle.blocks.proofs.Columns.{column-none, column-turn}
@@ -22,7 +21,7 @@ returns-then-n-eq8 c =
     r.store_column8.ensures ∙ ap (λ (k : ℕ). stored_column k x.w x.b x.j x.step x.memory.now) (sym e)
 
 pub loop-i-init : goal.loop-i-init
-loop-i-init c = (omega arith, (refl, column-none _ _ _ _ _))
+loop-i-init c = column-none _ _ _ _ _
 
 pub overflow_mul-memory : goal.overflow_mul-memory
 overflow_mul-memory c =
@@ -41,11 +40,10 @@ bounds-memory-j c =
 
 pub loop-i-preserved : goal.loop-i-preserved
 loop-i-preserved c =
-    let l = c.loop-i in
-    (omega arith, (simp length-set l.invariant.1.0, column-turn _ _ _ _ _ _ _ l.invariant.1.1))
+    column-turn _ _ _ _ _ _ _ c.loop-i.invariant
 
 pub returns : goal.returns
 returns c =
     let x = c.args in
     let e : c.loop-i.i ≡ x.n = omega arith in
-    c.loop-i.invariant.1.1 ∙ ap (λ (k : ℕ). stored_column k x.w x.b x.j x.step x.memory.now) e
+    c.loop-i.invariant ∙ ap (λ (k : ℕ). stored_column k x.w x.b x.j x.step x.memory.now) e

@@ -9,18 +9,11 @@ loop-i-init c = alone-start c.args.l.now
 
 pub returns-then-l-i-eq32 : goal.returns-then-l-i-eq32
 returns-then-l-i-eq32 c =
-    let x = c.args in
-    let m = c.loop-i in
-    alone-space x.l.now m.i (omega arith) m.invariant c.if-l-i-eq32.true
+    alone-space c.args.l.now c.loop-i.i (omega arith) c.loop-i.invariant c.if-l-i-eq32.true
 
 pub loop-i-preserved : goal.loop-i-preserved
 loop-i-preserved c =
-    let x = c.args in
-    let m = c.loop-i in
-    alone-back x.l.now m.i (omega arith) m.invariant c.if-l-i-eq32.false
+    alone-back c.args.l.now c.loop-i.i (omega arith) c.loop-i.invariant c.if-l-i-eq32.false
 
 pub returns : goal.returns
-returns c =
-    let x = c.args in
-    let m = c.loop-i in
-    alone-whole x.l.now m.i (omega arith) m.invariant
+returns c = alone-whole c.args.l.now c.loop-i.i (omega arith) c.loop-i.invariant

@@ -1,13 +1,9 @@
 -- `calling::test_once` meets its contract.
 -- Assumes nothing.
-
 use Rattle.calling.proofs.test_once.Goals as goal
 
-pub returns-then-old : goal.returns-then-old
-returns-then-old c = c.requires c.if-old.true
+pub returns-in-Some : goal.returns-in-Some
+returns-in-Some c = c.requires _ c.in-Some.is
 
-pub test_bytes-requires : goal.test_bytes-requires
-test_bytes-requires c = tt
-
-pub returns : goal.returns
-returns c = c.test_bytes.ensures
+pub returns-in-None : goal.returns-in-None
+returns-in-None c = c.test_bytes.ensures

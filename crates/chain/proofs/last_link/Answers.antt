@@ -7,7 +7,7 @@ use Rattle.chain.proofs.last_link.Goals as goal
 
 pub returns-then-gates-last : goal.returns-then-gates-last
 unfolding walk_from
-returns-then-gates-last c = let x = c.args in rw (lt-ltb x.gates x.last c.if-gates-last.true)
+returns-then-gates-last c = let x = c.args in rw (c.fault.ensures, lt-ltb x.gates x.last c.if-gates-last.true)
 
 pub returns-then-last-eq0 : goal.returns-then-last-eq0
 unfolding walk_from
@@ -15,4 +15,4 @@ returns-then-last-eq0 c = let x = c.args in rw (le-ltb x.gates x.last (omega ari
 
 pub returns : goal.returns
 unfolding walk_from
-returns c = let x = c.args in rw (le-ltb x.gates x.last (omega arith), ne_eqb x.last 0 c.if-last-eq0.false)
+returns c = let x = c.args in rw (c.fault-2.ensures, le-ltb x.gates x.last (omega arith), ne_eqb x.last 0 c.if-last-eq0.false)

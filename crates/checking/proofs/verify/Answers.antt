@@ -85,9 +85,6 @@ slice_bounds-same-end-2 c =
     let x = c.args in
     omega (arith, tested-opened x.s.now x.f x.proof.now x.table.now x.marks.now c.requires.0)
 
-pub same-requires : goal.same-requires
-same-requires c = tt
-
 pub returns-then-not-same : goal.returns-then-not-same
 returns-then-not-same c =
     let x = c.args in

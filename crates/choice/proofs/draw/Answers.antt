@@ -2,14 +2,14 @@
 -- Assumes nothing.
 use native.Mathlib.Omega.{arith}
 use native.Mathlib.Nat.{mod-lt}
-use mathlib.Core.Path.{refl, ap, ◌∙◌}
+use mathlib.Core.Path.{ap, ◌∙◌}
 use Prim.Native.Nat.{ℕ, ◌-◌, ◌%◌, ◌<◌}
 use Rattle.choice.specs.Challenge.{instances}
 use Rattle.choice.proofs.Choosing.{draw-none, draw-more, draw-all}
 use Rattle.choice.proofs.draw.Goals as goal
 
 pub loop-t-init : goal.loop-t-init
-loop-t-init c = let x = c.args in (refl, (omega arith, draw-none x.m x.stream.now x.chosen.now))
+loop-t-init c = let x = c.args in draw-none x.m x.stream.now x.chosen.now
 
 pub choose-requires : goal.choose-requires
 choose-requires c =
@@ -22,10 +22,10 @@ pub loop-t-preserved : goal.loop-t-preserved
 loop-t-preserved c =
     let x = c.args in
     let l = c.loop-t in
-    (omega arith, (omega arith, draw-more x.m x.stream.now l.t c.read_u64.result l.chosen c.choose.new.chosen (omega arith) c.read_u64.ensures l.invariant.1.1 c.choose.ensures))
+    draw-more x.m x.stream.now l.t c.read_u64.result l.chosen c.choose.new.chosen (omega arith) c.read_u64.ensures l.invariant c.choose.ensures
 
 pub returns : goal.returns
 returns c =
     let x = c.args in
     let l = c.loop-t in
-    draw-all x.m x.stream.now l.t l.chosen (omega arith) (omega arith) l.invariant.1.1 ∙ ap (λ (k : ℕ). instances x.m k x.stream.now) l.invariant.0
+    draw-all x.m x.stream.now l.t l.chosen (omega arith) (omega arith) l.invariant ∙ ap (λ (k : ℕ). instances x.m k x.stream.now) l.auto.chosen

@@ -1,7 +1,6 @@
 -- `choice::write_chosen` meets its contract: the loop's invariant is that the first k instances are written.
 -- Assumes nothing.
 use native.Mathlib.Omega.{arith}
-use Prim.Native.Nat.{◌-◌}
 use Rattle.choice.proofs.Choosing.{written_none, written-more, written_all}
 use Rattle.choice.proofs.write_chosen.Goals as goal
 

@@ -1,12 +1,7 @@
 -- `choice::write_chosen` meets its contract: the loop's invariant is that the first k instances are written.
 -- Assumes nothing.
-use Prim.Native.Nat.{◌-◌}
-use lib.ListN.{length}
 use Rattle.choice.proofs.Choosing.{Written}
 use Rattle.choice.proofs.write_chosen.Given as goal
 
 abbrev pub invariant-loop-k : goal.invariant-loop-k
 invariant-loop-k l = Written l.chosen l.n l.bytes l.out l.k
-
-abbrev pub decreases-loop-k : goal.decreases-loop-k
-decreases-loop-k l = length l.chosen - l.k

@@ -1,15 +1,10 @@
 -- `correcting_gate::correct` meets its contract.
 -- Assumes nothing.
-use native.Mathlib.Omega.{arith}
 use mathlib.Core.Path.{ap}
 use Prim.Native.Nat.{ℕ, ◌*◌, ◌/◌, ◌%◌}
 use lib.Bits.{bit_xor, bit_and}
-use Rattle.words.specs.Words.{parity}
-use Rattle.correcting_gate.proofs.Words.{bit-low, word-done}
+use Rattle.correcting_gate.proofs.Words.{word-done}
 use Rattle.correcting_gate.proofs.correct.Goals as goal
-
-pub overflow_mul-result : goal.overflow_mul-result
-overflow_mul-result c = omega (arith, bit-low _ (parity 64 c.args.o) c.parity-mask.ensures)
 
 pub returns : goal.returns
 returns c =

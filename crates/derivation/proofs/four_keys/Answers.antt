@@ -18,7 +18,7 @@ within c = omega (arith, row_fits 4 c.args.step c.loop-k.k c.loop-k-test.true, c
 
 pub loop-k-init : goal.loop-k-init
 unfolding stored
-loop-k-init c = (omega arith, (refl, refl))
+loop-k-init c = (refl, refl)
 
 pub overflow_mul-from : goal.overflow_mul-from
 overflow_mul-from c = omega (arith, within c)
@@ -26,14 +26,14 @@ overflow_mul-from c = omega (arith, within c)
 pub overflow_add-from : goal.overflow_add-from
 overflow_add-from c = omega (arith, within c)
 
-pub overflow_add-end : goal.overflow_add-end
-overflow_add-end c = omega (arith, within c)
+pub overflow_add-from-in-loop-k : goal.overflow_add-from-in-loop-k
+overflow_add-from-in-loop-k c = omega (arith, within c)
 
 pub slice_bounds-copy-end : goal.slice_bounds-copy-end
 slice_bounds-copy-end c = omega (arith, within c)
 
 pub slice_bounds-keys-end : goal.slice_bounds-keys-end
-slice_bounds-keys-end c = omega (arith, c.loop-k.invariant.1.0, c.loop-k-test.true)
+slice_bounds-keys-end c = omega (arith, c.loop-k.invariant.0, c.loop-k-test.true)
 
 pub loop-k-preserved : goal.loop-k-preserved
 loop-k-preserved c =
@@ -44,15 +44,12 @@ loop-k-preserved c =
     let from = x.at + l.k * x.step in
     let n : from + 16 - from ≡ 16 = omega arith in
     let e : z ≡ f l.k = c.copy.ensures ∙ ap (λ (m : ℕ). take m (drop from x.memory.now)) n in
-    let inside : l.k * 16 + 16 ≤ length l.keys = omega (arith, l.invariant.1.0, c.loop-k-test.true) in
+    let inside : l.k * 16 + 16 ≤ length l.keys = omega (arith, l.invariant.0, c.loop-k-test.true) in
     let size : length z ≡ 16 = ap length e ∙ key-size x.memory.now x.at x.step c.requires l.k c.loop-k-test.true in
     let q = put-part (l.k * 16) 16 l.keys z inside size in
     let at : l.k * 16 ≡ l.k * 16 + 0 = omega arith in (
-      omega (arith, c.loop-k-test.true),
-      (
-        ap length q ∙ length-sets l.keys (l.k * 16) z ∙ l.invariant.1.0,
-        q ∙ ap (λ (n : ℕ). sets l.keys n z) at ∙ stored-turn f 0 16 l.k _ l.keys z l.invariant.1.1 e,
-      ),
+      ap length q ∙ length-sets l.keys (l.k * 16) z ∙ l.invariant.0,
+      q ∙ ap (λ (n : ℕ). sets l.keys n z) at ∙ stored-turn f 0 16 l.k _ l.keys z l.invariant.1 e,
     )
 
 pub returns : goal.returns
@@ -61,6 +58,6 @@ returns c =
     let l = c.loop-k in
     let e : l.k ≡ 4 = omega arith in
     let f = key_at x.memory.now x.at x.step c.requires in
-    l.invariant.1.1 ∙ ap (λ (n : ℕ). stored f 0 16 n (replicate 64 0)) e
+    l.invariant.1 ∙ ap (λ (n : ℕ). stored f 0 16 n (replicate 64 0)) e
     ∙ stored-whole f 16 (replicate 64 0) refl (λ k. omega (arith, length-take 16 (drop (x.at + k * x.step) x.memory.now)))
     (key-size x.memory.now x.at x.step c.requires)

@@ -1,7 +1,6 @@
 -- `derivation::seed_at` meets its contract.
 -- Assumes nothing.
 use mathlib.Core.Path.{◌≡◌, ap, ◌∙◌}
-use Prim.Native.Nat.{◌-◌}
 use lib.ListN.{length}
 use lib.Seq.{sets}
 use Rattle.four_sponges.proofs.Rows.{part-size, put-part}

@@ -1,45 +1,20 @@
 -- `entry::enter` meets its contract.
 -- Assumes nothing.
-use mathlib.Core.Path.{ap, ◌∙◌}
-use mathlib.Core.Option.{some}
+use mathlib.Core.Path.{refl}
 use native.Mathlib.Omega.{arith}
 use Rattle.circuit.proofs.Answered.{fell, held}
 use Rattle.shared.proofs.Slots.{enter-beyond, enter-waiting, enter-outside, enter-short, enter-tested}
 use Rattle.entry.proofs.enter.Goals as goal
 
-pub number-requires : goal.number-requires
-number-requires c = tt
-
-pub refused-requires : goal.refused-requires
-refused-requires c = tt
-
-pub number-requires-then-flags-i : goal.number-requires-then-flags-i
-number-requires-then-flags-i c = tt
-
-pub refused-requires-then-flags-i : goal.refused-requires-then-flags-i
-refused-requires-then-flags-i c = tt
-
-pub number-requires-then-not-all_inside : goal.number-requires-then-not-all_inside
-number-requires-then-not-all_inside c = tt
-
-pub refused-requires-then-not-all_inside : goal.refused-requires-then-not-all_inside
-refused-requires-then-not-all_inside c = tt
-
-pub number-requires-then-work-lt-SHARED_WORK : goal.number-requires-then-work-lt-SHARED_WORK
-number-requires-then-work-lt-SHARED_WORK c = tt
-
-pub refused-requires-then-work-lt-SHARED_WORK : goal.refused-requires-then-work-lt-SHARED_WORK
-refused-requires-then-work-lt-SHARED_WORK c = tt
-
 pub returns-then-caller-gt15 : goal.returns-then-caller-gt15
 returns-then-caller-gt15 c =
     let x = c.args in
-    enter-beyond x.caller x.places x.buffer.now x.work.now x.s _ _ c.if-caller-gt15.true (c.refused.ensures.0 ∙ ap some c.number.ensures, c.refused.ensures.1)
+    enter-beyond x.caller x.places x.buffer.now x.work.now x.s _ _ c.if-caller-gt15.true (refl, refl)
 
 pub returns-then-flags-i : goal.returns-then-flags-i
 returns-then-flags-i c =
     let x = c.args in
-    enter-waiting x.caller x.places x.buffer.now x.work.now x.s c.if-caller-gt15.false _ _ c.if-flags-i.true (c.refused-then-flags-i.ensures.0 ∙ ap some c.number-then-flags-i.ensures, c.refused-then-flags-i.ensures.1)
+    enter-waiting x.caller x.places x.buffer.now x.work.now x.s c.if-caller-gt15.false _ _ c.if-flags-i.true (refl, refl)
 
 pub all_inside-requires : goal.all_inside-requires
 all_inside-requires c = tt
@@ -47,12 +22,12 @@ all_inside-requires c = tt
 pub returns-then-not-all_inside : goal.returns-then-not-all_inside
 returns-then-not-all_inside c =
     let x = c.args in
-    enter-outside x.caller x.places x.buffer.now x.work.now x.s c.if-caller-gt15.false c.if-flags-i.false _ _ (fell _ _ c.all_inside.ensures c.if-not-all_inside.true-raw) (c.refused-then-not-all_inside.ensures.0 ∙ ap some c.number-then-not-all_inside.ensures, c.refused-then-not-all_inside.ensures.1)
+    enter-outside x.caller x.places x.buffer.now x.work.now x.s c.if-caller-gt15.false c.if-flags-i.false _ _ (fell _ _ c.all_inside.ensures c.if-not-all_inside.true-raw) (refl, refl)
 
 pub returns-then-work-lt-SHARED_WORK : goal.returns-then-work-lt-SHARED_WORK
 returns-then-work-lt-SHARED_WORK c =
     let x = c.args in
-    enter-short x.caller x.places x.buffer.now x.work.now x.s c.if-caller-gt15.false c.if-flags-i.false (held _ _ c.all_inside.ensures c.if-not-all_inside.false-raw) _ _ c.if-work-lt-SHARED_WORK.true (c.refused-then-work-lt-SHARED_WORK.ensures.0 ∙ ap some c.number-then-work-lt-SHARED_WORK.ensures, c.refused-then-work-lt-SHARED_WORK.ensures.1)
+    enter-short x.caller x.places x.buffer.now x.work.now x.s c.if-caller-gt15.false c.if-flags-i.false (held _ _ c.all_inside.ensures c.if-not-all_inside.false-raw) _ _ c.if-work-lt-SHARED_WORK.true (refl, refl)
 
 pub enter_at-requires : goal.enter_at-requires
 enter_at-requires c = (omega (arith, c.if-caller-gt15.false), held _ _ c.all_inside.ensures c.if-not-all_inside.false-raw)

@@ -2,11 +2,10 @@
 -- Assumes nothing.
 use mathlib.Core.Bool.{Bool, false}
 use mathlib.Core.Path.{◌≡◌, refl, ◌∙◌}
-use Prim.Native.Nat.{ℕ, ◌+◌, ◌-◌, ◌*◌}
+use Prim.Native.Nat.{ℕ, ◌+◌, ◌*◌}
 use native.Mathlib.Numerals.{add-one}
 use native.Mathlib.Nat.{pow-suc, mod-eq_of_lt}
 use native.Mathlib.Omega.{arith}
-use lib.Pow.{pow_mono}
 use lib.ListN.{get_or}
 use Rattle.bits.specs.Bits.{from_bits}
 use Rattle.bits.proofs.Numbers.{from_bits-lt}
@@ -16,30 +15,17 @@ use Rattle.evaluation.proofs.output_byte.Goals as goal
 
 pub loop-t-init : goal.loop-t-init
 unfolding from_bits
-loop-t-init c = (omega arith, (refl, refl))
-
-pub output_bit-b-requires : goal.output_bit-b-requires
-output_bit-b-requires c = c.requires.1
-
-pub overflow_mul-sum : goal.overflow_mul-sum
-overflow_mul-sum c =
-    let l = c.loop-t in
-    omega (arith, byte-room _ _ _ _ _ c.loop-t-test.true l.invariant.1.1 l.invariant.1.0 c.output_bit-b.ensures)
+loop-t-init c = (refl, refl)
 
 pub overflow_add-sum : goal.overflow_add-sum
 overflow_add-sum c =
     let l = c.loop-t in
-    omega (arith, byte-room _ _ _ _ _ c.loop-t-test.true l.invariant.1.1 l.invariant.1.0 c.output_bit-b.ensures)
-
-pub overflow_mul-weight : goal.overflow_mul-weight
-overflow_mul-weight c =
-    let l = c.loop-t in
-    omega (arith, pow_mono {i = l.t} {j = 8} (omega arith))
+    omega (arith, byte-room _ _ _ _ _ c.loop-t-test.true l.invariant.1 l.invariant.0 c.output_bit-b.ensures)
 
 pub loop-t-preserved : goal.loop-t-preserved
 loop-t-preserved c =
     let l = c.loop-t in
-    (omega arith, (rw (add-one, pow-suc, l.invariant.1.0), byte-turn _ _ _ _ _ l.invariant.1.1 l.invariant.1.0 c.output_bit-b.ensures))
+    (rw (add-one, pow-suc, l.invariant.0), byte-turn _ _ _ _ _ l.invariant.1 l.invariant.0 c.output_bit-b.ensures)
 
 pub returns : goal.returns
 unfolding out_byte
@@ -48,5 +34,5 @@ returns c =
     let e : l.t ≡ 8 = omega arith in
     let x = c.args in
     let f : ℕ → Bool = λ k. get_or (out_bits x.s.now x.values.now x.outputs) (8 * x.j + k) false in
-    let q : l.sum ≡ from_bits 8 f = rw e at l.invariant.1.1 in
+    let q : l.sum ≡ from_bits 8 f = rw e at l.invariant.1 in
     mod-eq_of_lt (omega (arith, from_bits-lt 8 f)) ∙ q

@@ -2,7 +2,7 @@
 -- Assumes nothing.
 use mathlib.Core.Bool.{false}
 use mathlib.Core.Path.{◌≡◌}
-use Prim.Native.Nat.{◌^◌, ◌+◌, ◌-◌, ◌*◌, ◌≤◌}
+use Prim.Native.Nat.{◌^◌, ◌+◌, ◌*◌}
 use lib.ListN.{get_or}
 use Rattle.bits.specs.Bits.{from_bits}
 use Rattle.circuit.specs.Steps.{out_bits}
@@ -10,7 +10,4 @@ use Rattle.evaluation.proofs.output_byte.Given as goal
 
 abbrev pub invariant-loop-t : goal.invariant-loop-t
 invariant-loop-t l =
-    (l.t ≤ 8) × ((l.weight ≡ 2 ^ l.t) × (l.sum ≡ from_bits l.t (λ k. get_or (out_bits l.s l.values l.outputs) (8 * l.j + k) false)))
-
-abbrev pub decreases-loop-t : goal.decreases-loop-t
-decreases-loop-t l = 8 - l.t
+    (l.weight ≡ 2 ^ l.t) × (l.sum ≡ from_bits l.t (λ k. get_or (out_bits l.s l.values l.outputs) (8 * l.j + k) false))

@@ -1,13 +1,9 @@
 -- `four::permute4` meets its contract. The invariant: the states are those after ir rounds.
 -- Assumes nothing.
 use mathlib.Core.Path.{◌≡◌}
-use Prim.Native.Nat.{◌-◌, ◌≤◌}
 use Rattle.permutation.specs.Permutation.{rounds, lanes, lane_array}
 use Rattle.four.specs.Steps.{each}
 use Rattle.four.proofs.permute4.Given as goal
 
 abbrev pub invariant-loop-ir : goal.invariant-loop-ir
-invariant-loop-ir l = (l.ir ≤ 24) × (l.s ≡ each (λ a. lanes (rounds l.ir (lane_array a))) l.initial.s)
-
-abbrev pub decreases-loop-ir : goal.decreases-loop-ir
-decreases-loop-ir l = 24 - l.ir
+invariant-loop-ir l = l.s ≡ each (λ a. lanes (rounds l.ir (lane_array a))) l.initial.s

@@ -2,7 +2,7 @@
 -- Assumes nothing.
 use mathlib.Core.Path.{◌≡◌}
 use mathlib.Core.List.{List}
-use Prim.Native.Nat.{ℕ, ◌-◌, ◌≤◌}
+use Prim.Native.Nat.{ℕ}
 use Rattle.permutation.specs.Permutation.{Rnd, lanes, lane_array}
 use Rattle.four.proofs.States.{each_below}
 use Rattle.four.proofs.round4.Given as goal
@@ -12,7 +12,4 @@ abbrev pub rnd : ℕ → List ℕ → List ℕ
 rnd ir a = lanes (Rnd (lane_array a) ir)
 
 abbrev pub invariant-loop-k : goal.invariant-loop-k
-invariant-loop-k l = (l.k ≤ 4) × (l.s ≡ each_below (rnd l.ir) l.k l.initial.s)
-
-abbrev pub decreases-loop-k : goal.decreases-loop-k
-decreases-loop-k l = 4 - l.k
+invariant-loop-k l = l.s ≡ each_below (rnd l.ir) l.k l.initial.s

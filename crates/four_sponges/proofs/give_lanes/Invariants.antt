@@ -1,6 +1,6 @@
 -- `four_sponges::give_lanes` meets its contract. The loop's invariant: the bytes of the first i lanes are in the slice.
 -- Assumes nothing.
-use Prim.Native.Nat.{◌-◌, ◌*◌}
+use Prim.Native.Nat.{◌*◌}
 use lib.ListN.{length}
 use Rattle.keccak.specs.Steps.{byte_at}
 use Rattle.four.specs.Steps.{state_of}
@@ -9,6 +9,3 @@ use Rattle.four_sponges.proofs.give_lanes.Given as goal
 
 abbrev pub invariant-loop-i : goal.invariant-loop-i
 invariant-loop-i l = Filled (length l.initial.out) (byte_at (state_of l.k l.s)) (8 * l.i) l.out
-
-abbrev pub decreases-loop-i : goal.decreases-loop-i
-decreases-loop-i l = l.n - l.i

@@ -2,7 +2,7 @@
 -- Assumes nothing.
 use native.Mathlib.Omega.{arith}
 use mathlib.Core.Path.{◌≡◌, refl, sym, ap, ◌∙◌}
-use Prim.Native.Nat.{ℕ, ◌+◌, ◌-◌, ◌*◌, ◌≤◌}
+use Prim.Native.Nat.{ℕ, ◌+◌, ◌*◌, ◌≤◌}
 use lib.ListN.{length}
 use lib.Seq.{length-sets}
 use Rattle.bits.proofs.Rows.{row_fits}
@@ -19,23 +19,11 @@ use Rattle.four_sponges.proofs.store.Goals.{In-loop-k}
 -- the part of row k is in the rows
 within : (c : In-loop-k)
     → c.loop-k.k * c.args.len + c.args.at + c.args.m ≤ length c.loop-k.rows
-within c = omega (arith, row_fits 4 c.args.len c.loop-k.k c.loop-k-test.true, c.requires, c.loop-k.invariant.1.0)
+within c = omega (arith, row_fits 4 c.args.len c.loop-k.k c.loop-k-test.true, c.requires, c.loop-k.invariant.0)
 
 pub loop-k-init : goal.loop-k-init
 unfolding stored
-loop-k-init c = (omega arith, (c.requires.1.1.1, refl))
-
-pub overflow_mul-a : goal.overflow_mul-a
-overflow_mul-a c = omega (arith, within c)
-
-pub overflow_add-a : goal.overflow_add-a
-overflow_add-a c = omega (arith, within c)
-
-pub overflow_add-end : goal.overflow_add-end
-overflow_add-end c = omega (arith, within c)
-
-pub slice_bounds-give-end : goal.slice_bounds-give-end
-slice_bounds-give-end c = omega (arith, within c)
+loop-k-init c = (c.requires.1.1.1, refl)
 
 pub loop-k-preserved : goal.loop-k-preserved
 loop-k-preserved c =
@@ -50,16 +38,6 @@ loop-k-preserved c =
     ∙ sym (squeezes-block x.rate x.m (state_of l.k x.s.now) (omega (arith, c.requires))) in
     let n : length z ≡ x.m = ap length b ∙ squeezes-length x.rate x.m (opened (state_of l.k x.s.now)) in
     let q = put-part a x.m l.rows z inside n in (
-      omega (arith, c.loop-k-test.true),
-      (
-        ap length q ∙ length-sets l.rows a z ∙ l.invariant.1.0,
-        q ∙ stored-turn (λ i. squeezes x.rate x.m (opened (state_of i x.s.now))) x.at x.len l.k x.rows.now l.rows z l.invariant.1.1 b,
-      ),
+      ap length q ∙ length-sets l.rows a z ∙ l.invariant.0,
+      q ∙ stored-turn (λ i. squeezes x.rate x.m (opened (state_of i x.s.now))) x.at x.len l.k x.rows.now l.rows z l.invariant.1 b,
     )
-
-pub returns : goal.returns
-returns c =
-    let x = c.args in
-    let l = c.loop-k in
-    let e : l.k ≡ 4 = omega arith in
-    l.invariant.1.1 ∙ ap (λ (n : ℕ). stored (λ i. squeezes x.rate x.m (opened (state_of i x.s.now))) x.at x.len n x.rows.now) e

@@ -1,7 +1,7 @@
 -- `four_sponges::store` meets its contract. The loop's invariant: the bytes of the first k states are in their rows.
 -- Assumes nothing.
 use mathlib.Core.Path.{◌≡◌}
-use Prim.Native.Nat.{◌-◌, ◌*◌, ◌≤◌}
+use Prim.Native.Nat.{◌*◌}
 use lib.ListN.{length}
 use Rattle.keccak.specs.Steps.{squeezes}
 use Rattle.four.specs.Steps.{state_of}
@@ -10,7 +10,4 @@ use Rattle.four_sponges.proofs.store.Given as goal
 
 abbrev pub invariant-loop-k : goal.invariant-loop-k
 invariant-loop-k l =
-    (l.k ≤ 4) × ((length l.rows ≡ 4 * l.len) × (l.rows ≡ stored (λ i. squeezes l.rate l.m (opened (state_of i l.s))) l.at l.len l.k l.initial.rows))
-
-abbrev pub decreases-loop-k : goal.decreases-loop-k
-decreases-loop-k l = 4 - l.k
+    (length l.rows ≡ 4 * l.len) × (l.rows ≡ stored (λ i. squeezes l.rate l.m (opened (state_of i l.s))) l.at l.len l.k l.initial.rows)

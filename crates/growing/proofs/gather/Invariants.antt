@@ -4,12 +4,8 @@ use Rattle.bits.specs.Bytes.{row_of}
 use Rattle.cover.specs.Steps.{opened_by}
 use Rattle.growing.proofs.Writing.{Written}
 use mathlib.Core.Path.{◌≡◌}
-use Prim.Native.Nat.{◌-◌, ◌≤◌}
 use lib.ListN.{length}
 use Rattle.growing.proofs.gather.Given as goal
 
 abbrev pub invariant-loop-k : goal.invariant-loop-k
-invariant-loop-k l = (l.k ≤ length l.marks) × (length l.out ≡ length l.initial.out) × Written (opened_by l.marks) (row_of l.nodes 16) l.k l.at l.out
-
-abbrev pub decreases-loop-k : goal.decreases-loop-k
-decreases-loop-k l = length l.marks - l.k
+invariant-loop-k l = (length l.out ≡ length l.initial.out) × Written (opened_by l.marks) (row_of l.nodes 16) l.k l.at l.out

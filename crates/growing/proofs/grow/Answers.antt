@@ -8,7 +8,6 @@ use Rattle.cover.proofs.Rebuilding.{length-child}
 use native.Mathlib.Omega.{arith}
 use native.Mathlib.Nat.{pow-succ'}
 use mathlib.Core.Path.{ap, ◌∙◌}
-use Prim.Native.Nat.{◌-◌}
 use lib.Pow.{pow_pos}
 use Rattle.growing.proofs.grow.Goals as goal
 

@@ -2,12 +2,8 @@
 -- Assumes nothing.
 use Rattle.growing.proofs.Marking.{Marked}
 use mathlib.Core.Path.{◌≡◌}
-use Prim.Native.Nat.{◌≤◌}
 use lib.ListN.{length}
 use Rattle.growing.proofs.mark.Given as goal
 
 abbrev pub invariant-loop-k : goal.invariant-loop-k
-invariant-loop-k l = (l.k ≤ length l.marks) × (length l.marks ≡ length l.initial.marks) × Marked l.h l.m l.table l.none l.marks l.k
-
-abbrev pub decreases-loop-k : goal.decreases-loop-k
-decreases-loop-k l = l.k
+invariant-loop-k l = (length l.marks ≡ length l.initial.marks) × Marked l.h l.m l.table l.none l.marks l.k

@@ -9,7 +9,7 @@ use Rattle.tree.specs.Tree.{children}
 use native.Mathlib.Omega.{arith}
 use native.Mathlib.Nat.{pow-succ'}
 use mathlib.Core.Path.{◌≡◌, refl, sym, ap, ◌∙◌}
-use Prim.Native.Nat.{ℕ, ◌+◌, ◌-◌, ◌*◌}
+use Prim.Native.Nat.{ℕ, ◌+◌, ◌*◌}
 use lib.ListN.{length, replicate, length-replicate}
 use lib.Pow.{pow_pos}
 use Rattle.growing.proofs.regrow.Goals as goal

@@ -1,13 +1,9 @@
 -- `join::write_outputs` meets its contract. The loop's invariant: the first j output wires are written.
 -- Assumes nothing.
 use mathlib.Core.Path.{◌≡◌}
-use Prim.Native.Nat.{◌-◌, ◌≤◌}
 use lib.ListN.{length}
 use Rattle.join.specs.Steps.{joined_fields, placed}
 use Rattle.join.proofs.write_outputs.Given as goal
 
 abbrev pub invariant-loop-j : goal.invariant-loop-j
-invariant-loop-j l = (l.j ≤ l.n) × ((length l.out ≡ length l.initial.out) × (l.out ≡ placed (joined_fields l.first l.second) 4 l.j l.initial.out))
-
-abbrev pub decreases-loop-j : goal.decreases-loop-j
-decreases-loop-j l = l.n - l.j
+invariant-loop-j l = (length l.out ≡ length l.initial.out) × (l.out ≡ placed (joined_fields l.first l.second) 4 l.j l.initial.out)

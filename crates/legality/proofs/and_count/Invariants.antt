@@ -2,15 +2,12 @@
 -- Assumes nothing.
 use mathlib.Core.Bool.{true}
 use mathlib.Core.Path.{◌≡◌}
-use Prim.Native.Nat.{◌+◌, ◌≤◌}
+use Prim.Native.Nat.{◌+◌, ◌-◌, ◌≤◌}
 use Rattle.circuit.specs.Circuit.{ands}
 use Rattle.circuit.specs.Fields.{field}
 use Rattle.circuit.specs.FieldSteps.{walks, gates_from}
 use Rattle.legality.proofs.and_count.Given as goal
 
-abbrev pub invariant-loop-left : goal.invariant-loop-left
-invariant-loop-left l =
-    (l.left ≤ l.gates) × ((l.count + l.left ≤ l.gates) × ((walks (field l.bytes l.s) l.left l.slot ≡ true) × (l.count + ands (gates_from (field l.bytes l.s) l.left l.slot) ≡ ands (gates_from (field l.bytes l.s) l.gates l.head))))
-
-abbrev pub decreases-loop-left : goal.decreases-loop-left
-decreases-loop-left l = l.left
+abbrev pub invariant-loop : goal.invariant-loop
+invariant-loop l =
+    (l.count ≤ l.counter) × ((walks (field l.f.width l.s) (l.f.gates - l.counter) l.slot ≡ true) × (l.count + ands (gates_from (field l.f.width l.s) (l.f.gates - l.counter) l.slot) ≡ ands (gates_from (field l.f.width l.s) l.f.gates l.f.head)))

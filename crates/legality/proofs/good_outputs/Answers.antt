@@ -1,30 +1,17 @@
--- `legality::good_outputs` meets its contract. The loop's invariant: what is gathered is the test of the first j output wires.
+-- `legality::good_outputs` meets its contract.
 -- Assumes nothing.
-use mathlib.Core.Path.{◌≡◌, refl, ◌∙◌}
-use Prim.Native.Nat.{◌+◌, ◌-◌, ◌*◌}
-use native.Mathlib.Omega.{arith}
-use Rattle.circuit.specs.Fields.{field, good_outputs, inputs_of, gates_of}
-use Rattle.circuit.proofs.Slots.{fits, outputs-turn}
+use Rattle.std.proofs.Common.{rules, refl, ◌≡◌, ◌+◌, ◌∙◌, arith}
+use Rattle.std.proofs.Math.Dec.{ltb}
+use Rattle.std.proofs.lemmas.Iterator.{YieldsList-from_range}
+use Rattle.std.proofs.lemmas.Iterator.Search.{all_from_yields_List}
+use Rattle.circuit.specs.Fields.{field, good_outputs, output_wire, inputs_of, gates_of}
+use Rattle.legality.proofs.Every.{every}
 use Rattle.legality.proofs.good_outputs.Goals as goal
 
-pub loop-j-init : goal.loop-j-init
-unfolding good_outputs
-loop-j-init c = (omega arith, refl)
-
-pub field-wire-requires : goal.field-wire-requires
-field-wire-requires c =
-    let x = c in
-    let n = 4 + x.args.outputs + 4 * x.args.gates in
-    (x.requires.known, fits x.args.bytes n (4 + c.loop-j.j) _ (omega arith) (omega (arith, x.requires.whole)))
-
-pub loop-j-preserved : goal.loop-j-preserved
-loop-j-preserved c =
-    let l = c.loop-j in
-    let x = c in
-    let e : x.args.inputs + x.args.gates ≡ inputs_of (field x.args.bytes x.args.s.now) + gates_of (field x.args.bytes x.args.s.now) = omega arith in
-    (omega arith, outputs-turn _ _ _ _ _ l.invariant.1 e (c.both-good.ensures ∙ rw c.field-wire.ensures))
-
 pub returns : goal.returns
+unfolding good_outputs
 returns c =
-    let e : c.loop-j.j ≡ c.args.outputs = omega arith in
-    rw (← e) c.loop-j.invariant.1
+    let x = field c.args.f.width c.args.s.now in
+    let wires : c.args.f.inputs + c.args.f.gates ≡ inputs_of x + gates_of x = omega arith in
+    all_from_yields_List (λ k. ltb (output_wire x k) (c.args.f.inputs + c.args.f.gates)) _ _ _ c.all.ensures.ran (YieldsList-from_range 0 c.args.f.outputs c.args.f.outputs refl (omega arith)) (λ k b q w. search rules)
+    ∙ rw wires (every (λ k. ltb (output_wire x k) (inputs_of x + gates_of x)) (good_outputs x) refl (λ _. refl) c.args.f.outputs)

@@ -3,7 +3,8 @@
 use mathlib.Core.Bool.{Bool, true}
 use mathlib.Core.List.{List}
 use mathlib.Core.Path.{◌≡◌, sym, ap, ◌∙◌}
-use Prim.Native.Nat.{ℕ, ◌+◌, ◌-◌}
+use Prim.Native.Nat.{ℕ, ◌+◌, ◌-◌, ◌<◌, ◌≤◌}
+use Rattle.std.proofs.Math.Nat.{sub-zero}
 use native.Mathlib.Omega.{arith}
 use lib.ListN.{length-replicate}
 use Rattle.bits.specs.Bits.{odd}
@@ -14,26 +15,24 @@ use Rattle.circuit.specs.FieldSteps.{gates_from, inputs_first}
 use Rattle.circuit.specs.Steps.{wire_bytes, seen}
 use Rattle.circuit.proofs.Slots.{next-read, reads-turn, reads-fail, inside, here, Here, gates-end, seen_none}
 use Rattle.legality.proofs.good_reads.Goals as goal
-use Rattle.legality.proofs.good_reads.Goals.{In-loop-left}
+use Rattle.legality.proofs.good_reads.Goals.{In-loop}
 
 odd-one : odd 1 ≡ true
 odd-one = odd-bit_val true
 
 -- what the chain says of the slot in hand
-abbrev Ok : (c : In-loop-left) → Type 0
-Ok c = Here (field c.args.bytes c.args.s.now) c.loop-left.left c.loop-left.slot
+abbrev Ok : (c : In-loop) → Type 0
+Ok c = Here (field c.args.f.width c.args.s.now) (c.args.f.gates - c.loop.counter) c.loop.slot
 
-ok : (c : In-loop-left) → Ok c
-ok c = here _ _ _ c.loop-left-test.true c.loop-left.invariant.1.1.0
+ok : (c : In-loop) → Ok c
+ok c = here _ (c.args.f.gates - c.loop.counter) _ (omega arith) c.loop.invariant.1.0
 
-pub loop-left-init : goal.loop-left-init
+pub loop-init : goal.loop-init
 unfolding inputs_first
-loop-left-init c = (
-  omega arith,
-  (
-    length-replicate {A = ℕ} wire_bytes 0,
-    (c.requires.chain, rw (← c.requires.laid.inputs) (ap (λ (f : ℕ → Bool). reads_written f (gates_from (field c.args.bytes c.args.s.now) c.args.gates c.args.head)) (seen_none _ wire_bytes))),
-  ),
+loop-init c = (
+  length-replicate {A = ℕ} wire_bytes 0,
+  rw (sub-zero c.args.f.gates)
+      (c.requires.chain, rw (← c.requires.laid.inputs) (ap (λ (f : ℕ → Bool). reads_written f (gates_from (field c.args.f.width c.args.s.now) c.args.f.gates c.args.f.head)) (seen_none _ wire_bytes))),
 )
 
 pub record_with-r-requires : goal.record_with-r-requires
@@ -43,49 +42,50 @@ record_with-r-requires c =
     inside _ _ _ _ _ _ l k.first (omega arith)
 
 pub slice_bounds-reads_written-end : goal.slice_bounds-reads_written-end
-slice_bounds-reads_written-end c = sym c.loop-left.invariant.1.0
+slice_bounds-reads_written-end c = sym c.loop.invariant.0
 
 pub reads_written-requires : goal.reads_written-requires
-reads_written-requires c = c.loop-left.invariant.1.0
+reads_written-requires c = c.loop.invariant.0
 
 pub returns-then-not-reads_written : goal.returns-then-not-reads_written
 returns-then-not-reads_written c =
-    let l = c.loop-left in
+    let l = c.loop in
     let t = sym c.reads_written.ensures ∙ c.if-not-reads_written.true in
-    sym (reads-fail _ _ _ _ _ _ c.record_with-r.ensures c.loop-left-test.true t) ∙ l.invariant.1.1.1
+    let more : 0 < c.args.f.gates - l.counter = omega arith in
+    sym (reads-fail _ _ _ _ _ _ c.record_with-r.ensures more t) ∙ l.invariant.1.1
 
 pub slice_bounds-put_bit-end : goal.slice_bounds-put_bit-end
-slice_bounds-put_bit-end c = sym c.loop-left.invariant.1.0
+slice_bounds-put_bit-end c = sym c.loop.invariant.0
 
 pub overflow_sub-slot : goal.overflow_sub-slot
-overflow_sub-slot c = (ok (goal.at.overflow_sub-slot c).In-loop-left).first
+overflow_sub-slot c = (ok (goal.at.overflow_sub-slot c).In-loop).first
 
 pub overflow_add-inputs : goal.overflow_add-inputs
-overflow_add-inputs c = omega (arith, ok (goal.at.overflow_add-inputs c).In-loop-left)
+overflow_add-inputs c = omega (arith, ok (goal.at.overflow_add-inputs c).In-loop)
 
 pub put_bit-requires : goal.put_bit-requires
-put_bit-requires c = omega (arith, ok (goal.at.put_bit-requires c).In-loop-left)
+put_bit-requires c = omega (arith, ok (goal.at.put_bit-requires c).In-loop)
 
-pub loop-left-preserved : goal.loop-left-preserved
-loop-left-preserved c =
-    let l = c.loop-left in
+pub loop-preserved : goal.loop-preserved
+loop-preserved c =
+    let l = c.loop in
     let x = c in
-    let k = ok (goal.at.loop-left-preserved c).In-loop-left in
-    let t = sym c.reads_written.ensures ∙ c.if-not-reads_written.false in (
-      omega arith,
-      (
-        c.put_bit.auto.s ∙ l.invariant.1.0,
-        (
-          rw (next-read _ _ _ c.record_with-r.ensures) k.rest,
-          ap (λ (f : List ℕ). reads_written (seen x.args.inputs f) (gates_from (field x.args.bytes x.args.s.now) (l.left - 1) c.record_with-r.result.next)) (c.put_bit.ensures ∙ ap (put_bit l.flags (x.args.inputs + (l.slot - 1))) odd-one)
-              ∙ reads-turn _ _ _ _ _ _ c.record_with-r.ensures c.loop-left-test.true t x.requires.laid.inputs k.first (omega arith)
-              ∙ l.invariant.1.1.1,
-        ),
+    let k = ok (goal.at.loop-preserved c).In-loop in
+    let t = sym c.reads_written.ensures ∙ c.if-not-reads_written.false in
+    let one : x.args.f.gates - (l.counter + 1) ≡ x.args.f.gates - l.counter - 1 = omega arith in
+    let more : 0 < x.args.f.gates - l.counter = omega arith in (
+      c.put_bit.auto.s ∙ l.invariant.0,
+      rw one (
+        rw (next-read _ _ _ c.record_with-r.ensures) k.rest,
+        ap (λ (f : List ℕ). reads_written (seen x.args.f.inputs f) (gates_from (field x.args.f.width x.args.s.now) (x.args.f.gates - l.counter - 1) c.record_with-r.result.next)) (c.put_bit.ensures ∙ ap (put_bit l.flags (x.args.f.inputs + (l.slot - 1))) odd-one)
+            ∙ reads-turn _ _ _ _ _ _ c.record_with-r.ensures more t x.requires.laid.inputs k.first (omega arith)
+            ∙ l.invariant.1.1,
       ),
     )
 
 pub returns : goal.returns
 unfolding reads_written
 returns c =
-    let l = c.loop-left in
-    rw (gates-end _ _ _ c.loop-left-test.false) at l.invariant.1.1.1
+    let l = c.loop in
+    let none : c.args.f.gates - l.counter ≤ 0 = omega arith in
+    rw (gates-end _ _ _ none) at l.invariant.1.1

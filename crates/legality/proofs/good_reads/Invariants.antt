@@ -2,16 +2,13 @@
 -- Assumes nothing.
 use mathlib.Core.Bool.{true}
 use mathlib.Core.Path.{◌≡◌}
-use Prim.Native.Nat.{◌-◌, ◌≤◌}
+use Prim.Native.Nat.{◌-◌}
 use lib.ListN.{length}
 use Rattle.circuit.specs.Fields.{field, reads_written}
 use Rattle.circuit.specs.FieldSteps.{walks, gates_from, inputs_first}
 use Rattle.circuit.specs.Steps.{wire_bytes, seen}
 use Rattle.legality.proofs.good_reads.Given as goal
 
-abbrev pub invariant-loop-left : goal.invariant-loop-left
-invariant-loop-left l =
-    (l.left ≤ l.gates) × ((length l.flags ≡ wire_bytes) × ((walks (field l.bytes l.s) l.left l.slot ≡ true) × (reads_written (seen l.inputs l.flags) (gates_from (field l.bytes l.s) l.left l.slot) ≡ inputs_first (field l.bytes l.s) l.gates l.head)))
-
-abbrev pub decreases-loop-left : goal.decreases-loop-left
-decreases-loop-left l = l.left
+abbrev pub invariant-loop : goal.invariant-loop
+invariant-loop l =
+    (length l.flags ≡ wire_bytes) × ((walks (field l.f.width l.s) (l.f.gates - l.counter) l.slot ≡ true) × (reads_written (seen l.inputs l.flags) (gates_from (field l.f.width l.s) (l.f.gates - l.counter) l.slot) ≡ inputs_first (field l.f.width l.s) l.f.gates l.f.head))

@@ -1,25 +1,15 @@
--- `legality::good_records` meets its contract. The loop's invariant: what is gathered is the test of the first k slots.
+-- `legality::good_records` meets its contract.
 -- Assumes nothing.
-use mathlib.Core.Path.{◌≡◌, refl}
-use Prim.Native.Nat.{◌-◌}
-use native.Mathlib.Omega.{arith}
-use Rattle.circuit.specs.Fields.{good_records}
-use Rattle.circuit.proofs.Slots.{inside, records-turn}
+use Rattle.std.proofs.Common.{rules, refl, ◌+◌, ◌∙◌, add-one, arith}
+use Rattle.std.proofs.lemmas.Iterator.{YieldsList-from_range}
+use Rattle.std.proofs.lemmas.Iterator.Search.{all_from_yields_List}
+use Rattle.circuit.specs.Fields.{field, good_record, good_records}
+use Rattle.legality.proofs.Every.{every}
 use Rattle.legality.proofs.good_records.Goals as goal
 
-pub loop-k-init : goal.loop-k-init
-unfolding good_records
-loop-k-init c = (omega arith, refl)
-
-pub good_record-requires : goal.good_record-requires
-good_record-requires c = inside _ _ _ _ _ _ c.requires (omega arith) (omega arith)
-
-pub loop-k-preserved : goal.loop-k-preserved
-loop-k-preserved c =
-    let l = c.loop-k in
-    (omega arith, records-turn _ _ _ _ _ l.invariant.1 c.good_record.ensures c.both-good.ensures)
-
 pub returns : goal.returns
+unfolding good_records
 returns c =
-    let e : c.loop-k.k ≡ c.args.gates = omega arith in
-    rw (← e) c.loop-k.invariant.1
+    let x = field c.args.f.width c.args.s.now in
+    all_from_yields_List (λ k. good_record x (k + 1)) _ _ _ c.all.ensures.ran (YieldsList-from_range 0 c.args.f.gates c.args.f.gates refl (omega arith)) (λ k b q w. search rules)
+    ∙ every (λ k. good_record x (k + 1)) (good_records x) refl (λ n. rw add-one) c.args.f.gates

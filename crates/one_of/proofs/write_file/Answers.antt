@@ -53,7 +53,7 @@ write_u32-requires c =
     omega (arith, x.requires.room)
 
 pub loop-k-init : goal.loop-k-init
-loop-k-init c = (omega arith, (refl, λ first e. e))
+loop-k-init c = (refl, λ first e. e)
 
 pub overflow_add-k : goal.overflow_add-k
 overflow_add-k c =
@@ -80,19 +80,14 @@ write_four-requires-in-loop-k c =
     let x = c in
     omega (arith, x.requires.room, c.loop-k.invariant)
 
-pub overflow_add-k-in-loop-k-2 : goal.overflow_add-k-in-loop-k-2
-overflow_add-k-in-loop-k-2 c =
-    let x = c in
-    omega (arith, x.requires.given.few, x.requires.all, x.requires.given.laid.few_inputs)
-
 pub loop-k-preserved : goal.loop-k-preserved
 loop-k-preserved c =
     let x = c in
     let i = c.loop-k.invariant in
-    (omega arith, slots-more x.args.s.now x.args.list.now x.args.z x.args.total x.args.out.now x.requires _ _ _ _ _ (omega arith) c.slot_record-r.ensures c.write_four-in-loop-k.ensures i.1)
+    slots-more x.args.s.now x.args.list.now x.args.z x.args.total x.args.out.now x.requires _ _ _ _ _ (omega arith) c.slot_record-r.ensures c.write_four-in-loop-k.ensures i
 
 pub returns : goal.returns
 returns c =
     let x = c in
     let i = c.loop-k.invariant in
-    all-written x.args.s.now x.args.list.now x.args.z x.args.total x.args.out.now x.requires _ _ (omega (arith, i.0)) (i.1.1 x.args.out.now (header-written x.args.s.now x.args.list.now x.args.z x.args.total x.args.out.now x.requires _ _ _ _ (omega arith) (c.relinked-head.ensures ∙ ap (relinked (fields_of x.args.s.now)) c.field.ensures) c.write_four.ensures c.write_u32.ensures))
+    all-written x.args.s.now x.args.list.now x.args.z x.args.total x.args.out.now x.requires _ _ (omega arith) (i.1 x.args.out.now (header-written x.args.s.now x.args.list.now x.args.z x.args.total x.args.out.now x.requires _ _ _ _ (omega arith) (c.relinked-head.ensures ∙ ap (relinked (fields_of x.args.s.now)) c.field.ensures) c.write_four.ensures c.write_u32.ensures))

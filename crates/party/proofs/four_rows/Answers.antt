@@ -2,13 +2,12 @@
 -- Assumes nothing.
 use borrow.Author.Rules.{rules}
 use native.Mathlib.Omega.{arith}
-use mathlib.Core.Path.{◌≡◌, sym, ap, ◌∙◌}
+use mathlib.Core.Path.{◌≡◌, ap, ◌∙◌}
 use mathlib.Core.List.{List}
 use Prim.Native.Nat.{ℕ, ◌/◌}
 use mir.Syntax.{w8}
 use mir.Val.{Fits}
 use lib.ListN.{length, get_or}
-use lib.Seq.{length-take-le}
 use Rattle.keccak.specs.Sponge.{shake128}
 use Rattle.keccak.specs.Steps.{squeezes}
 use Rattle.keccak.proofs.Absorbing.{Bytes}
@@ -16,12 +15,6 @@ use Rattle.four.specs.Steps.{state_of}
 use Rattle.four_sponges.specs.Steps.{full, four_rows}
 use Rattle.party.proofs.Derived.{four-keys}
 use Rattle.party.proofs.four_rows.Goals as goal
-
-pub slice_bounds-close_key-end : goal.slice_bounds-close_key-end
-slice_bounds-close_key-end c = sym (length-take-le 16 c.args.keys.now (omega arith))
-
-pub close_key-a-requires : goal.close_key-a-requires
-close_key-a-requires c = length-take-le 16 c.args.keys.now (omega arith)
 
 pub returns : goal.returns
 unfolding shake128

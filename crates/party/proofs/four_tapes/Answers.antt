@@ -4,7 +4,7 @@
 use native.Mathlib.Omega.{arith}
 use mathlib.Core.Path.{◌≡◌, refl, sym, ap, ◌∙◌}
 use mathlib.Core.List.{List}
-use Prim.Native.Nat.{ℕ, ◌+◌, ◌-◌, ◌*◌, ◌/◌, ◌≤◌}
+use Prim.Native.Nat.{ℕ, ◌+◌, ◌*◌, ◌/◌, ◌≤◌}
 use lib.ListN.{length, take, drop}
 use lib.Seq.{sets, length-sets}
 use Rattle.bits.proofs.Rows.{row_fits}
@@ -22,20 +22,11 @@ use Rattle.party.proofs.four_tapes.Goals.{In-loop-k}
 -- row k is in the rows
 within : (c : In-loop-k)
     → c.loop-k.k * (length c.four_rows.new.rows / 4) + length c.four_rows.new.rows / 4 ≤ length c.loop-k.rows
-within c = omega (arith, row_fits 4 (length c.four_rows.new.rows / 4) c.loop-k.k c.loop-k-test.true, c.loop-k.invariant.1.0)
+within c = omega (arith, row_fits 4 (length c.four_rows.new.rows / 4) c.loop-k.k c.loop-k-test.true, c.loop-k.invariant.0)
 
 pub loop-k-init : goal.loop-k-init
 unfolding stored
-loop-k-init c = (omega arith, (omega (arith, c.four_rows.auto.rows, c.requires.1), refl))
-
-pub overflow_mul-at : goal.overflow_mul-at
-overflow_mul-at c = omega (arith, within c)
-
-pub overflow_add-end : goal.overflow_add-end
-overflow_add-end c = omega (arith, within c)
-
-pub slice_bounds-clear_from-end : goal.slice_bounds-clear_from-end
-slice_bounds-clear_from-end c = omega (arith, within c)
+loop-k-init c = (omega (arith, c.four_rows.auto.rows, c.requires.1), refl)
 
 pub loop-k-preserved : goal.loop-k-preserved
 loop-k-preserved c =
@@ -45,15 +36,12 @@ loop-k-preserved c =
     let len = length R / 4 in
     let z = c.clear_from.new.s in
     let inside = within (goal.at.loop-k-preserved c).In-loop-k in
-    let e = clear-turn len R x.used l.k l.rows z l.invariant.1.1 c.clear_from.ensures in
+    let e = clear-turn len R x.used l.k l.rows z l.invariant.1 c.clear_from.ensures in
     let n : length z ≡ len = c.clear_from.auto.s ∙ part-size (l.k * len) len l.rows inside in
     let q = put-part (l.k * len) len l.rows z inside n in
     let at : l.k * len ≡ l.k * len + 0 = omega arith in (
-      omega (arith, c.loop-k-test.true),
-      (
-        ap length q ∙ length-sets l.rows (l.k * len) z ∙ l.invariant.1.0,
-        q ∙ ap (λ (n : ℕ). sets l.rows n z) at ∙ stored-turn (cleared_row len R x.used) 0 len l.k R l.rows z l.invariant.1.1 e,
-      ),
+      ap length q ∙ length-sets l.rows (l.k * len) z ∙ l.invariant.0,
+      q ∙ ap (λ (n : ℕ). sets l.rows n z) at ∙ stored-turn (cleared_row len R x.used) 0 len l.k R l.rows z l.invariant.1 e,
     )
 
 pub returns : goal.returns
@@ -67,5 +55,5 @@ returns c =
     let g : ℕ → List ℕ = λ k. shake128 (key_input 4 x.j (x.i + k) (take 16 (drop (16 * k) x.seeds))) d in
     let e : l.k ≡ 4 = omega arith in
     let same : d ≡ len = ap (λ (n : ℕ). n / 4) (sym c.four_rows.auto.rows) in
-    l.invariant.1.1 ∙ ap (λ (n : ℕ). stored (cleared_row len R x.used) 0 len n R) e
+    l.invariant.1 ∙ ap (λ (n : ℕ). stored (cleared_row len R x.used) 0 len n R) e
     ∙ clear-four len R x.used g c.four_rows.ensures (λ k h. length-shake128 (key_input 4 x.j (x.i + k) (take 16 (drop (16 * k) x.seeds))) d ∙ same)

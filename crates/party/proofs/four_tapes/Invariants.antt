@@ -2,7 +2,7 @@
 -- The loop's invariant: the first k rows are cleared.
 -- Assumes nothing.
 use mathlib.Core.Path.{◌≡◌}
-use Prim.Native.Nat.{◌-◌, ◌*◌, ◌≤◌}
+use Prim.Native.Nat.{◌*◌}
 use lib.ListN.{length}
 use Rattle.four_sponges.specs.Steps.{stored}
 use Rattle.party.proofs.Cleared.{cleared_row}
@@ -10,7 +10,4 @@ use Rattle.party.proofs.four_tapes.Given as goal
 
 abbrev pub invariant-loop-k : goal.invariant-loop-k
 invariant-loop-k l =
-    (l.k ≤ 4) × ((length l.rows ≡ 4 * l.len) × (l.rows ≡ stored (cleared_row l.len l.initial.rows l.used) 0 l.len l.k l.initial.rows))
-
-abbrev pub decreases-loop-k : goal.decreases-loop-k
-decreases-loop-k l = 4 - l.k
+    (length l.rows ≡ 4 * l.len) × (l.rows ≡ stored (cleared_row l.len l.initial.rows l.used) 0 l.len l.k l.initial.rows)

@@ -12,14 +12,16 @@ good_reads-requires c =
 pub returns-then-not-good_reads : goal.returns-then-not-good_reads
 returns-then-not-good_reads c =
     let p = c.requires in
-    refuse-reads _ _ _ _ _ _ p.framed p.records p.chain (fell _ _ c.good_reads.ensures c.if-not-good_reads.true-raw)
+    rw c.into.ensures (refuse-reads _ _ _ _ _ _ p.framed p.records p.chain (fell _ _ c.good_reads.ensures c.if-not-good_reads.true-raw))
 
 pub returns-then-not-good_outputs : goal.returns-then-not-good_outputs
 returns-then-not-good_outputs c =
     let p = c.requires in
+    rw c.into-then-not-good_outputs.ensures (
     refuse-outputs _ _ _ _ _ _ p.framed p.records p.chain
     (held _ _ c.good_reads.ensures c.if-not-good_reads.false-raw)
     (fell _ _ c.good_outputs.ensures c.if-not-good_outputs.true-raw)
+    )
 
 pub and_count-ands-requires : goal.and_count-ands-requires
 and_count-ands-requires c =

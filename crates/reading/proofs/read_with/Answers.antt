@@ -12,7 +12,7 @@ pub overflow_mul-bytes : goal.overflow_mul-bytes
 overflow_mul-bytes c = omega (arith, times-few _ 4 c.requires.0)
 
 pub returns-then-s-bytes : goal.returns-then-s-bytes
-returns-then-s-bytes c = sym (read_short _ _ _ c.if-s-bytes.true)
+returns-then-s-bytes c = rw c.into.ensures (sym (read_short _ _ _ c.if-s-bytes.true))
 
 pub field-inputs-requires : goal.field-inputs-requires
 field-inputs-requires c = (c.requires.0, fits _ 4 0 _ (omega arith) c.if-s-bytes.false)
@@ -32,7 +32,7 @@ overflow_mul-sized-2 c = omega (arith, times-few _ (4 + c.field-outputs.result +
 pub returns-then-not-limited : goal.returns-then-not-limited
 returns-then-not-limited c =
     let e = header _ _ _ _ _ _ c.field-inputs.ensures c.field-outputs.ensures c.field-gates.ensures c.within_limits-limited.ensures in
-    sym (read-limits _ _ _ c.if-s-bytes.false (fell _ _ e c.if-not-limited.true-raw))
+    rw c.into-then-not-limited.ensures (sym (read-limits _ _ _ c.if-s-bytes.false (fell _ _ e c.if-not-limited.true-raw)))
 
 pub read_body-requires : goal.read_body-requires
 read_body-requires c =
@@ -55,4 +55,4 @@ pub returns-else-sized : goal.returns-else-sized
 returns-else-sized c =
     let e = header _ _ _ _ _ _ c.field-inputs.ensures c.field-outputs.ensures c.field-gates.ensures c.within_limits-limited.ensures in
     let d = length-other _ _ _ _ c.field-outputs.ensures c.field-gates.ensures c.if-sized.false in
-    sym (read_length _ _ _ c.if-s-bytes.false (held _ _ e c.if-not-limited.false-raw) d)
+    rw c.into-else-sized.ensures (sym (read_length _ _ _ c.if-s-bytes.false (held _ _ e c.if-not-limited.false-raw) d))

@@ -2,7 +2,7 @@
 -- Assumes nothing.
 use mathlib.Core.Path.{◌≡◌}
 use mathlib.Core.List.{flatten}
-use Prim.Native.Nat.{◌-◌, ◌*◌, ◌≤◌}
+use Prim.Native.Nat.{◌*◌}
 use lib.ListN.{length, take}
 use Rattle.bits.specs.Bits.{tabulate}
 use Rattle.circuit.specs.File.{circuit_of}
@@ -12,9 +12,6 @@ use Rattle.proof.specs.Steps.{master_in}
 use Rattle.rounds.proofs.Firsts.{commitments_at, online_at}
 use Rattle.rounds.proofs.first.Given as goal
 
-abbrev pub invariant-loop-j : goal.invariant-loop-j
-invariant-loop-j l =
-    (l.j ≤ l.m) × ((length l.onlines ≡ length l.initial.onlines) × ((length l.memory ≡ length l.initial.memory) × ((l.all ≡ taken (all_commitments_input (flatten (tabulate l.j (commitments_at (circuit_of l.s) l.n l.salt l.witness (master_in l.nodes)))))) × (take (l.j * 32) l.onlines ≡ flatten (tabulate l.j (online_at (circuit_of l.s) l.n l.salt l.witness (master_in l.nodes)))))))
-
-abbrev pub decreases-loop-j : goal.decreases-loop-j
-decreases-loop-j l = l.m - l.j
+abbrev pub invariant-loop-i : goal.invariant-loop-i
+invariant-loop-i l =
+    (length l.onlines ≡ length l.initial.onlines) × ((length l.memory ≡ length l.initial.memory) × ((l.all ≡ taken (all_commitments_input (flatten (tabulate l.i (commitments_at (circuit_of l.s) l.n l.salt l.witness (master_in l.nodes)))))) × (take (l.i * 32) l.onlines ≡ flatten (tabulate l.i (online_at (circuit_of l.s) l.n l.salt l.witness (master_in l.nodes))))))

@@ -3,7 +3,6 @@
 -- Assumes nothing.
 use mathlib.Core.Path.{◌≡◌}
 use mathlib.Core.List.{◌++◌}
-use Prim.Native.Nat.{◌+◌, ◌-◌, ◌≤◌}
 use lib.ListN.{length, take, drop}
 use Rattle.circuit.specs.File.{circuit_of}
 use Rattle.proof.specs.Steps.{asks_in, master_in}
@@ -12,7 +11,4 @@ use Rattle.rounds.proofs.respond.Given as goal
 
 abbrev pub invariant-loop-j : goal.invariant-loop-j
 invariant-loop-j l =
-    (l.j ≤ l.m) × ((length l.part ≡ length l.initial.part) × ((length l.memory ≡ length l.initial.memory) × ((l.end ≡ length (sent (circuit_of l.s) l.n l.salt l.witness (master_in l.nodes) (asks_in l.n l.table) (take l.opened l.initial.part) l.j)) × (l.part ≡ take l.end l.initial.part ++ drop l.end (sent (circuit_of l.s) l.n l.salt l.witness (master_in l.nodes) (asks_in l.n l.table) (take l.opened l.initial.part) l.m)))))
-
-abbrev pub decreases-loop-j : goal.decreases-loop-j
-decreases-loop-j l = l.j
+    (length l.part ≡ length l.initial.part) × ((length l.memory ≡ length l.initial.memory) × ((l.end ≡ length (sent (circuit_of l.s) l.n l.salt l.witness (master_in l.nodes) (asks_in l.n l.table) (take l.opened l.initial.part) l.j)) × (l.part ≡ take l.end l.initial.part ++ drop l.end (sent (circuit_of l.s) l.n l.salt l.witness (master_in l.nodes) (asks_in l.n l.table) (take l.opened l.initial.part) l.m))))

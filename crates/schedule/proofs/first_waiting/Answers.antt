@@ -1,12 +1,8 @@
 -- `first_waiting`: what the search finds from here on is what it finds from the start.
 -- Assumes nothing.
 use Rattle.schedule.proofs.Flags.{first-here, first_on, first-none}
-use mathlib.Core.Path.{refl, sym, ◌∙◌}
-use Prim.Native.Nat.{◌-◌}
+use mathlib.Core.Path.{sym, ◌∙◌}
 use Rattle.schedule.proofs.first_waiting.Goals as goal
-
-pub loop-i-init : goal.loop-i-init
-loop-i-init c = refl
 
 pub returns-then-waiting-i : goal.returns-then-waiting-i
 returns-then-waiting-i c =

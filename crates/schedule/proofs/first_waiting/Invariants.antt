@@ -2,11 +2,7 @@
 -- Assumes nothing.
 use Rattle.schedule.specs.Steps.{first_waiting}
 use mathlib.Core.Path.{◌≡◌}
-use Prim.Native.Nat.{◌-◌}
 use Rattle.schedule.proofs.first_waiting.Given as goal
 
 abbrev pub invariant-loop-i : goal.invariant-loop-i
 invariant-loop-i l = first_waiting l.waiting l.i l.to ≡ first_waiting l.waiting l.from l.to
-
-abbrev pub decreases-loop-i : goal.decreases-loop-i
-decreases-loop-i l = l.to - l.i

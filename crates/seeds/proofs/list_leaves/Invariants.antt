@@ -2,12 +2,8 @@
 -- Assumes nothing.
 use Rattle.seeds.proofs.Leaves.{Listed}
 use mathlib.Core.Path.{◌≡◌}
-use Prim.Native.Nat.{◌-◌, ◌≤◌}
 use lib.ListN.{length}
 use Rattle.seeds.proofs.list_leaves.Given as goal
 
 abbrev pub invariant-loop-k : goal.invariant-loop-k
-invariant-loop-k l = (l.k ≤ l.n) × (length l.table ≡ length l.initial.table) × Listed l.list l.k l.table
-
-abbrev pub decreases-loop-k : goal.decreases-loop-k
-decreases-loop-k l = l.n - l.k
+invariant-loop-k l = (length l.table ≡ length l.initial.table) × Listed l.list l.k l.table

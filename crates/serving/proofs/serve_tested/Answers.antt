@@ -9,16 +9,10 @@ use Rattle.proof_tests.proofs.Checks.{tested-opened}
 use Rattle.shared.proofs.Services.{more-fits, next-beyond, next-output, next-taken}
 use Rattle.serving.proofs.serve_tested.Goals as goal
 
-pub finished-requires : goal.finished-requires
-finished-requires c = tt
-
-pub finished-requires-then-not-r : goal.finished-requires-then-not-r
-finished-requires-then-not-r c = tt
-
 pub returns-then-j-m : goal.returns-then-j-m
 returns-then-j-m c =
     let x = c.args in
-    c.finished.ensures ∙ next-beyond (circuit_of x.s.now) x.f.counts.instances x.f.counts.parties (asks_in x.f.counts.parties x.table.now) x.y.now x.proof.now x.job c.if-j-m.true
+    c.refused.ensures ∙ next-beyond (circuit_of x.s.now) x.f.counts.instances x.f.counts.parties (asks_in x.f.counts.parties x.table.now) x.y.now x.proof.now x.job c.if-j-m.true
 
 pub check_one-r-requires : goal.check_one-r-requires
 check_one-r-requires c = (c.requires.0, (c.requires.1.0, omega (arith, c.if-j-m.false)))
@@ -26,7 +20,7 @@ check_one-r-requires c = (c.requires.0, (c.requires.1.0, omega (arith, c.if-j-m.
 pub returns-then-not-r : goal.returns-then-not-r
 returns-then-not-r c =
     let x = c.args in
-    c.finished-then-not-r.ensures ∙ next-output (circuit_of x.s.now) x.f.counts.instances x.f.counts.parties (asks_in x.f.counts.parties x.table.now) x.y.now x.proof.now x.job (omega (arith, c.if-j-m.false)) (fell _ _ c.check_one-r.ensures.0 c.if-not-r.true)
+    c.refused-then-not-r.ensures ∙ next-output (circuit_of x.s.now) x.f.counts.instances x.f.counts.parties (asks_in x.f.counts.parties x.table.now) x.y.now x.proof.now x.job (omega (arith, c.if-j-m.false)) (fell _ _ c.check_one-r.ensures.0 c.if-not-r.true)
 
 pub settled_both-d-requires : goal.settled_both-d-requires
 settled_both-d-requires c = tt

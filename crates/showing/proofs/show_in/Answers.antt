@@ -15,9 +15,6 @@ overflow_mul-z c = omega (arith, ands-low _ _ _ _ _ c.requires.0, c.requires.0.l
 pub overflow_add-z : goal.overflow_add-z
 overflow_add-z c = omega (arith, ands-low _ _ _ _ _ c.requires.0, c.requires.0.legal.laid.few_inputs, c.requires.0.legal.laid.few_gates)
 
-pub oct-len-requires : goal.oct-len-requires
-oct-len-requires c = tt
-
 pub prepare_held-requires : goal.prepare_held-requires
 prepare_held-requires c =
     let p = c.requires in

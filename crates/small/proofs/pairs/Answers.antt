@@ -1,7 +1,7 @@
 -- `small::pairs` meets its contract.
 -- Assumes nothing.
 use mathlib.Core.Path.{◌≡◌, ap₂}
-use Prim.Native.Nat.{◌*◌, ◌-◌}
+use Prim.Native.Nat.{◌*◌}
 use native.Mathlib.Omega.{arith}
 use Rattle.small.proofs.Bounds.{pairs-low}
 use Rattle.small.specs.Steps.{pairs}

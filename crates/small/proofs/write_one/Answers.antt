@@ -1,6 +1,5 @@
 -- `small::write_one` meets its contract.
 -- Assumes nothing.
-use Prim.Native.Nat.{◌-◌}
 use native.Mathlib.Omega.{arith}
 use Rattle.small.proofs.Files.{gates-some}
 use Rattle.small.proofs.Writes.{one_written}

@@ -1,6 +1,6 @@
 -- `small::write_pair` meets its contract: by the head.
 -- Assumes nothing.
-use Prim.Native.Nat.{◌+◌, ◌-◌}
+use Prim.Native.Nat.{◌+◌}
 use native.Mathlib.Omega.{arith}
 use Rattle.small.proofs.Files.{gates-some}
 use Rattle.small.proofs.Writes.{pair-down, pair-up}

@@ -1,6 +1,5 @@
 -- `small::write_two` meets its contract.
 -- Assumes nothing.
-use Prim.Native.Nat.{◌-◌}
 use native.Mathlib.Omega.{arith}
 use native.Mathlib.Nat.{div-lt_iff_lt-mul}
 use Rattle.small.proofs.Bounds.{head-some}

@@ -1,7 +1,7 @@
 -- `stepping::stretch_start` meets its contract: the loop's invariant is that `at` is where the stretch of instance i starts.
 -- Assumes nothing.
 use mathlib.Core.Path.{ap, ◌∙◌}
-use Prim.Native.Nat.{ℕ, ◌-◌}
+use Prim.Native.Nat.{ℕ}
 use native.Mathlib.Omega.{arith}
 use Rattle.circuit.specs.File.{circuit_of}
 use Rattle.instance.specs.Stretch.{stretch_bytes}
@@ -22,7 +22,7 @@ loop-i-init c =
     let x = c.args in
     let t = c.requires.0 in
     let w = opened-few x.f.counts.instances t.sized.few (hides (asks_in x.f.counts.parties x.table.now)) in
-    (omega arith, (omega (arith, t.cover), start_none (circuit_of x.s.now) x.f.counts.instances x.f.counts.parties (asks_in x.f.counts.parties x.table.now) x.f.opened t.cover))
+    (omega (arith, t.cover), start_none (circuit_of x.s.now) x.f.counts.instances x.f.counts.parties (asks_in x.f.counts.parties x.table.now) x.f.opened t.cover)
 
 pub asked-p-requires : goal.asked-p-requires
 asked-p-requires c = tt
@@ -37,7 +37,7 @@ overflow_add-at-in-loop-i c =
     let x = c.args in
     let t = c.requires.0 in
     let w = stretch-few x.s.now x.f.sizes.inputs x.f.sizes.outputs x.f.sizes.gates x.f.sizes.ands t.known x.f.counts.parties (ask_of x.f.counts.parties c.asked-p.result) in
-    omega (arith, c.stretch_bytes-at.ensures, t.sized.few, c.requires.1, c.loop-i-test.true, c.loop-i.invariant)
+    omega (arith, c.stretch_bytes-at.ensures, t.sized.few, c.requires.1, c.loop-i.invariant)
 
 pub loop-i-preserved : goal.loop-i-preserved
 loop-i-preserved c =
@@ -45,16 +45,13 @@ loop-i-preserved c =
     let t = c.requires.0 in
     let l = c.loop-i in
     let w = stretch-few x.s.now x.f.sizes.inputs x.f.sizes.outputs x.f.sizes.gates x.f.sizes.ands t.known x.f.counts.parties (ask_of x.f.counts.parties c.asked-p.result) in (
-      omega arith,
-      (
-        omega (arith, c.stretch_bytes-at.ensures, l.invariant),
-        start-more (circuit_of x.s.now) x.f.counts.instances x.f.counts.parties (asks_in x.f.counts.parties x.table.now) l.i l.at c.stretch_bytes-at.result l.invariant.1.1
-            (c.stretch_bytes-at.ensures ∙ ap (λ (p : ℕ). stretch_bytes (circuit_of x.s.now) x.f.counts.parties (ask_of x.f.counts.parties p)) c.asked-p.ensures),
-      ),
+      omega (arith, c.stretch_bytes-at.ensures, l.invariant),
+      start-more (circuit_of x.s.now) x.f.counts.instances x.f.counts.parties (asks_in x.f.counts.parties x.table.now) l.i l.at c.stretch_bytes-at.result l.invariant.1
+          (c.stretch_bytes-at.ensures ∙ ap (λ (p : ℕ). stretch_bytes (circuit_of x.s.now) x.f.counts.parties (ask_of x.f.counts.parties p)) c.asked-p.ensures),
     )
 
 pub returns : goal.returns
 returns c =
     let x = c.args in
     let l = c.loop-i in
-    start-end (circuit_of x.s.now) x.f.counts.instances x.f.counts.parties (asks_in x.f.counts.parties x.table.now) l.i x.j l.at l.invariant.0 (omega (arith, c.loop-i-test.false)) l.invariant.1.1
+    start-end (circuit_of x.s.now) x.f.counts.instances x.f.counts.parties (asks_in x.f.counts.parties x.table.now) l.i x.j l.at (omega arith) (omega arith) l.invariant.1

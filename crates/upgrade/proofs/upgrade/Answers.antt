@@ -3,24 +3,26 @@
 use mathlib.Core.Path.{refl, sym, ◌∙◌}
 use mathlib.Core.Logic.{inl}
 use native.Mathlib.Omega.{arith}
+use Rattle.std.proofs.lemmas.Result.{err_from_is_err_and}
 use Rattle.upgrade.proofs.Same.{answered-legal, answered-damaged}
 use Rattle.upgrade.proofs.upgrade.Goals as goal
 
-pub read_with-answer-requires : goal.read_with-answer-requires
-read_with-answer-requires c = (inl refl, omega arith)
+pub read_with-requires : goal.read_with-requires
+read_with-requires c = (inl refl, omega arith)
 
 pub upgrade_legal-requires : goal.upgrade_legal-requires
 upgrade_legal-requires c =
     let x = c.args in
-    (answered-legal x.old.now x.out.now _ c.read_with-answer.ensures _ c.in-Legal.is).0
+    (answered-legal x.old.now x.out.now _ c.read_with.ensures _ c.in_ok-read_with.was).0
 
-pub returns-in-Refused : goal.returns-in-Refused
-returns-in-Refused c =
+pub returns-in_err-read_with : goal.returns-in_err-read_with
+returns-in_err-read_with c =
     let x = c.args in
-    answered-damaged x.old.now x.out.now _ c.read_with-answer.ensures _ _ c.in-Refused.is
+    let p = err_from_is_err_and c.from_residual.result c.from_residual.ensures.1 in
+    rw (p.1, p.2) (answered-damaged x.old.now x.out.now _ c.read_with.ensures _ c.in_err-read_with.was)
 
-pub returns-in-Legal : goal.returns-in-Legal
-returns-in-Legal c =
+pub returns : goal.returns
+returns c =
     let x = c.args in
     c.upgrade_legal.ensures
-    ∙ sym (answered-legal x.old.now x.out.now _ c.read_with-answer.ensures _ c.in-Legal.is).1
+    ∙ sym (answered-legal x.old.now x.out.now _ c.read_with.ensures _ c.in_ok-read_with.was).1

@@ -8,7 +8,7 @@ use Rattle.upgrade.proofs.upgrade_legal.Goals as goal
 pub returns-then-out-size : goal.returns-then-out-size
 returns-then-out-size c =
     let x = c in
-    short-output x.args.old.now x.args.out.now x.requires _ refl (omega arith)
+    rw c.into.ensures (short-output x.args.old.now x.args.out.now x.requires _ refl (omega arith))
 
 pub returns : goal.returns
 returns c =

@@ -14,7 +14,7 @@ use Rattle.upgrade.proofs.write_fields.Goals as goal
 pub loop-k-init : goal.loop-k-init
 loop-k-init c =
     let x = c.args in
-    (omega arith, (refl, bytes-none (old_fields x.old.now) x.out.now))
+    (refl, bytes-none (old_fields x.old.now) x.out.now)
 
 pub field-x-requires : goal.field-x-requires
 field-x-requires c = (inl refl, omega arith)
@@ -23,12 +23,12 @@ pub loop-k-preserved : goal.loop-k-preserved
 loop-k-preserved c =
     let x = c.args in
     let i = c.loop-k.invariant in
-    let e = bytes-more (old_fields x.old.now) x.out.now _ _ _ _ i.1.1 c.field-x.ensures c.write_u32.ensures in
-    (omega arith, (ap length e ∙ length-sets x.out.now 0 (bytes_of (old_fields x.old.now) _), e))
+    let e = bytes-more (old_fields x.old.now) x.out.now _ _ _ _ i.1 c.field-x.ensures c.write_u32.ensures in
+    (ap length e ∙ length-sets x.out.now 0 (bytes_of (old_fields x.old.now) _), e)
 
 pub returns : goal.returns
 returns c =
     let x = c.args in
     let i = c.loop-k.invariant in
-    let e : c.loop-k.k ≡ x.n = omega (arith, i.0) in
-    i.1.1 ∙ ap (λ (k : ℕ). sets x.out.now 0 (bytes_of (old_fields x.old.now) k)) e
+    let e : c.loop-k.k ≡ x.n = omega arith in
+    i.1 ∙ ap (λ (k : ℕ). sets x.out.now 0 (bytes_of (old_fields x.old.now) k)) e

@@ -1,7 +1,6 @@
 -- `upgrade::write_fields` meets its contract. The loop's invariant: the first k fields are written.
 -- Assumes nothing.
 use mathlib.Core.Path.{◌≡◌}
-use Prim.Native.Nat.{◌-◌, ◌≤◌}
 use lib.ListN.{length}
 use lib.Seq.{sets}
 use Rattle.building.specs.Files.{bytes_of}
@@ -9,7 +8,4 @@ use Rattle.upgrade.specs.Upgrade.{old_fields}
 use Rattle.upgrade.proofs.write_fields.Given as goal
 
 abbrev pub invariant-loop-k : goal.invariant-loop-k
-invariant-loop-k l = (l.k ≤ l.n) × ((length l.out ≡ length l.initial.out) × (l.out ≡ sets l.initial.out 0 (bytes_of (old_fields l.old) l.k)))
-
-abbrev pub decreases-loop-k : goal.decreases-loop-k
-decreases-loop-k l = l.n - l.k
+invariant-loop-k l = (length l.out ≡ length l.initial.out) × (l.out ≡ sets l.initial.out 0 (bytes_of (old_fields l.old) l.k))

@@ -2,7 +2,6 @@
 -- tested, and their digests taken in.
 -- Assumes nothing.
 use mathlib.Core.Path.{◌≡◌, refl, ap, ◌∙◌}
-use Prim.Native.Nat.{◌-◌}
 use native.Mathlib.Omega.{arith}
 use lib.ListN.{length}
 use Rattle.circuit.specs.File.{circuit_of}
@@ -14,12 +13,6 @@ use Rattle.proof.proofs.Inside.{stretches-after}
 use Rattle.proof_tests.specs.Steps.{output_at, commitments_at, online_at}
 use Rattle.proof_tests.proofs.Verified.{every-none, every-turn, every-end, turn_inside, turn-place, turn-size, turn-unused, turn-output, turn-online, turn-commitments, sponge-room, digest-length, commitments-none, commitments-turn, online-none, online-turn, hstar-made}
 use Rattle.verifying.proofs.recompute.Goals as goal
-
-pub start_all_commitments-all-requires : goal.start_all_commitments-all-requires
-start_all_commitments-all-requires c = tt
-
-pub start_all_online-online-requires : goal.start_all_online-online-requires
-start_all_online-online-requires c = tt
 
 pub overflow_add-at : goal.overflow_add-at
 overflow_add-at c =
@@ -34,10 +27,7 @@ loop-j-init c =
     let m = x.k.instances in
     let n = x.k.parties in
     let ask = asks_in n x.table.now in
-    (omega arith, (start_none k m n ask x.opened c.requires.1.1.1.0, (refl, (every-none (output_at k m n ask x.proof.now x.y.now), (commitments-none (commitments_at k m n ask x.proof.now) c.start_all_commitments-all.result c.start_all_commitments-all.ensures, online-none (online_at k m n ask x.proof.now) c.start_all_online-online.result c.start_all_online-online.ensures)))))
-
-pub asked-p-requires : goal.asked-p-requires
-asked-p-requires c = tt
+    (start_none k m n ask x.opened c.requires.1.1.1.0, (refl, (every-none (output_at k m n ask x.proof.now x.y.now), (commitments-none (commitments_at k m n ask x.proof.now) c.start_all_commitments-all.result c.start_all_commitments-all.ensures, online-none (online_at k m n ask x.proof.now) c.start_all_online-online.result c.start_all_online-online.ensures))))
 
 pub stretch_bytes-requires : goal.stretch_bytes-requires
 stretch_bytes-requires c =
@@ -49,7 +39,7 @@ overflow_add-end c =
     let x = c.args in
     let l = c.loop-j in
     let n = x.k.parties in
-    omega (arith, turn_inside (circuit_of x.s.now) n x.k.instances (asks_in n x.table.now) x.proof.now c.requires.1.0.size l.j l.at c.stretch_bytes.result (ask_of n c.asked-p.result) c.loop-j-test.true l.invariant.1.0 (ap (ask_of n) c.asked-p.ensures) c.stretch_bytes.ensures, c.well_formed.1.1.1.1.1.1.1.0.0)
+    omega (arith, turn_inside (circuit_of x.s.now) n x.k.instances (asks_in n x.table.now) x.proof.now c.requires.1.0.size l.j l.at c.stretch_bytes.result (ask_of n c.asked-p.result) c.loop-j-test.true l.invariant.0 (ap (ask_of n) c.asked-p.ensures) c.stretch_bytes.ensures, c.well_formed.1.1.1.1.1.1.1.0.0)
 
 pub master-seed-requires : goal.master-seed-requires
 master-seed-requires c = omega (arith, c.requires.1.0.few, c.loop-j-test.true)
@@ -59,7 +49,7 @@ slice_bounds-check_instance-end c =
     let x = c.args in
     let l = c.loop-j in
     let n = x.k.parties in
-    turn_inside (circuit_of x.s.now) n x.k.instances (asks_in n x.table.now) x.proof.now c.requires.1.0.size l.j l.at c.stretch_bytes.result (ask_of n c.asked-p.result) c.loop-j-test.true l.invariant.1.0 (ap (ask_of n) c.asked-p.ensures) c.stretch_bytes.ensures
+    turn_inside (circuit_of x.s.now) n x.k.instances (asks_in n x.table.now) x.proof.now c.requires.1.0.size l.j l.at c.stretch_bytes.result (ask_of n c.asked-p.result) c.loop-j-test.true l.invariant.0 (ap (ask_of n) c.asked-p.ensures) c.stretch_bytes.ensures
 
 pub check_instance-r-requires : goal.check_instance-r-requires
 check_instance-r-requires c =
@@ -74,34 +64,25 @@ check_instance-r-requires c =
       record {
         known = q.0.known;
         tree = q.0.tree;
-        room = omega (arith, l.invariant.1.1.0, q.0.room);
+        room = omega (arith, l.invariant.1.0, q.0.room);
       },
       (
         omega (arith, c.asked-p.ensures, q.1.0.asking.parties l.j),
         (
           ap length c.master-seed.ensures ∙ length-master_in m x.nodes.now q.1.1.1.1.rows l.j low,
           (
-            turn-size k n m ask x.proof.now q.1.0.size l.j l.at c.stretch_bytes.result (ask_of n c.asked-p.result) low l.invariant.1.0 (ap (ask_of n) c.asked-p.ensures) c.stretch_bytes.ensures,
-            turn-unused k n m ask x.proof.now q.1.0.size l.j l.at c.stretch_bytes.result (ask_of n c.asked-p.result) low l.invariant.1.0 (ap (ask_of n) c.asked-p.ensures) c.stretch_bytes.ensures q.1.1.0,
+            turn-size k n m ask x.proof.now q.1.0.size l.j l.at c.stretch_bytes.result (ask_of n c.asked-p.result) low l.invariant.0 (ap (ask_of n) c.asked-p.ensures) c.stretch_bytes.ensures,
+            turn-unused k n m ask x.proof.now q.1.0.size l.j l.at c.stretch_bytes.result (ask_of n c.asked-p.result) low l.invariant.0 (ap (ask_of n) c.asked-p.ensures) c.stretch_bytes.ensures q.1.1.0,
           ),
         ),
       ),
     )
 
-pub both-agrees-requires : goal.both-agrees-requires
-both-agrees-requires c = tt
-
 pub absorb-all-requires : goal.absorb-all-requires
-absorb-all-requires c = (omega arith, (refl, sponge-room _ c.loop-j.all c.loop-j.invariant.1.1.1.1.0))
+absorb-all-requires c = (omega arith, (refl, sponge-room _ c.loop-j.all c.loop-j.invariant.1.1.1.0))
 
 pub absorb-online-requires : goal.absorb-online-requires
-absorb-online-requires c = (omega arith, (refl, sponge-room _ c.loop-j.online c.loop-j.invariant.1.1.1.1.1))
-
-pub overflow_add-j : goal.overflow_add-j
-overflow_add-j c = omega (arith, c.requires.1.0.few, c.loop-j-test.true)
-
-pub loop-j-smaller : goal.loop-j-smaller
-loop-j-smaller c = omega (arith, c.loop-j-test.true)
+absorb-online-requires c = (omega arith, (refl, sponge-room _ c.loop-j.online c.loop-j.invariant.1.1.1.1))
 
 pub loop-j-preserved : goal.loop-j-preserved
 loop-j-preserved c =
@@ -113,44 +94,38 @@ loop-j-preserved c =
     let ask = asks_in n x.table.now in
     let q = c.requires in
     let low = c.loop-j-test.true in
-    let i = l.invariant.1.1 in
+    let i = l.invariant.1 in
     let r = c.check_instance-r.result in (
-      omega (arith, low),
+      turn-place k n m ask x.proof.now q.1.0.size l.j l.at c.stretch_bytes.result (ask_of n c.asked-p.result) low l.invariant.0 (ap (ask_of n) c.asked-p.ensures) c.stretch_bytes.ensures,
       (
-        turn-place k n m ask x.proof.now q.1.0.size l.j l.at c.stretch_bytes.result (ask_of n c.asked-p.result) low l.invariant.1.0 (ap (ask_of n) c.asked-p.ensures) c.stretch_bytes.ensures,
+        c.check_instance-r.auto.memory ∙ i.0,
         (
-          c.check_instance-r.auto.memory ∙ i.0,
+          every-turn (output_at k m n ask x.proof.now x.y.now) l.j l.agrees r.agrees _ i.1.0
+              (turn-output k n m ask x.proof.now q.1.0.size l.j l.at c.stretch_bytes.result (ask_of n c.asked-p.result) low l.invariant.0 (ap (ask_of n) c.asked-p.ensures) c.stretch_bytes.ensures c.header_salt-salt.result c.header_salt-salt.ensures x.y.now r.agrees c.check_instance-r.ensures.0)
+              refl,
           (
-            every-turn (output_at k m n ask x.proof.now x.y.now) l.j l.agrees r.agrees c.both-agrees.result i.1.0
-                (turn-output k n m ask x.proof.now q.1.0.size l.j l.at c.stretch_bytes.result (ask_of n c.asked-p.result) low l.invariant.1.0 (ap (ask_of n) c.asked-p.ensures) c.stretch_bytes.ensures c.header_salt-salt.result c.header_salt-salt.ensures x.y.now r.agrees c.check_instance-r.ensures.0)
-                c.both-agrees.ensures,
-            (
-              commitments-turn (commitments_at k m n ask x.proof.now) l.j l.all c.absorb-all.result r.commitments i.1.1.0
-                  (turn-commitments k n m ask x.proof.now q.1.0.size l.j l.at c.stretch_bytes.result (ask_of n c.asked-p.result) low l.invariant.1.0 (ap (ask_of n) c.asked-p.ensures) c.stretch_bytes.ensures c.header_salt-salt.result c.header_salt-salt.ensures x.nodes.now _ r.commitments q.1.1.1.1.masters c.master-seed.ensures c.check_instance-r.ensures.1.0)
-                  c.absorb-all.ensures,
-              online-turn (online_at k m n ask x.proof.now) l.j l.online c.absorb-online.result r.online i.1.1.1
-                  (turn-online k n m ask x.proof.now q.1.0.size l.j l.at c.stretch_bytes.result (ask_of n c.asked-p.result) low l.invariant.1.0 (ap (ask_of n) c.asked-p.ensures) c.stretch_bytes.ensures c.header_salt-salt.result c.header_salt-salt.ensures r.online c.check_instance-r.ensures.1.1)
-                  c.absorb-online.ensures,
-            ),
+            commitments-turn (commitments_at k m n ask x.proof.now) l.j l.all c.absorb-all.result r.commitments i.1.1.0
+                (turn-commitments k n m ask x.proof.now q.1.0.size l.j l.at c.stretch_bytes.result (ask_of n c.asked-p.result) low l.invariant.0 (ap (ask_of n) c.asked-p.ensures) c.stretch_bytes.ensures c.header_salt-salt.result c.header_salt-salt.ensures x.nodes.now _ r.commitments q.1.1.1.1.masters c.master-seed.ensures c.check_instance-r.ensures.1.0)
+                c.absorb-all.ensures,
+            online-turn (online_at k m n ask x.proof.now) l.j l.online c.absorb-online.result r.online i.1.1.1
+                (turn-online k n m ask x.proof.now q.1.0.size l.j l.at c.stretch_bytes.result (ask_of n c.asked-p.result) low l.invariant.0 (ap (ask_of n) c.asked-p.ensures) c.stretch_bytes.ensures c.header_salt-salt.result c.header_salt-salt.ensures r.online c.check_instance-r.ensures.1.1)
+                c.absorb-online.ensures,
           ),
         ),
       ),
     )
 
 pub finish-requires : goal.finish-requires
-finish-requires c = sponge-room _ c.loop-j.all c.loop-j.invariant.1.1.1.1.0
+finish-requires c = sponge-room _ c.loop-j.all c.loop-j.invariant.1.1.1.0
 
 pub slice_bounds-transcript-end : goal.slice_bounds-transcript-end
 slice_bounds-transcript-end c = digest-length _ c.finish.result c.finish.ensures
 
 pub finish-requires-2 : goal.finish-requires-2
-finish-requires-2 c = sponge-room _ c.loop-j.online c.loop-j.invariant.1.1.1.1.1
+finish-requires-2 c = sponge-room _ c.loop-j.online c.loop-j.invariant.1.1.1.1
 
 pub slice_bounds-transcript-end-2 : goal.slice_bounds-transcript-end-2
 slice_bounds-transcript-end-2 c = digest-length _ c.finish-2.result c.finish-2.ensures
-
-pub transcript-hstar-requires : goal.transcript-hstar-requires
-transcript-hstar-requires c = tt
 
 pub returns : goal.returns
 returns c =
@@ -159,9 +134,9 @@ returns c =
     let k = circuit_of x.s.now in
     let m = x.k.instances in
     let n = x.k.parties in
-    let i = l.invariant.1.1.1 in
+    let i = l.invariant.1.1 in
     let ask = asks_in n x.table.now in
-    let q : l.j ≡ m = omega (arith, l.invariant.0, c.loop-j-test.false) in (
+    let q : l.j ≡ m = omega arith in (
       every-end (output_at k m n ask x.proof.now x.y.now) l.j m l.agrees q i.0,
       hstar-made k m n ask x.proof.now (λ a. (c.shared_slice_known-5-1.given a).fits) l.j m l.all l.online c.finish.result
           c.finish-2.result c.transcript-hstar.result q i.1.0 i.1.1 c.finish.ensures c.finish-2.ensures c.transcript-hstar.ensures,

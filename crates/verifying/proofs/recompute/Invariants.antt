@@ -3,7 +3,6 @@
 -- Assumes nothing.
 use mathlib.Core.Path.{◌≡◌}
 use mathlib.Core.List.{flatten}
-use Prim.Native.Nat.{◌-◌, ◌≤◌}
 use lib.ListN.{length}
 use Rattle.bits.specs.Bits.{tabulate}
 use Rattle.circuit.specs.File.{circuit_of}
@@ -17,13 +16,8 @@ use Rattle.verifying.proofs.recompute.Given as goal
 
 abbrev pub invariant-loop-j : goal.invariant-loop-j
 invariant-loop-j l =
-    (l.j ≤ l.m)
-    × ((l.at ≡ stretch_start (circuit_of l.s) l.m l.n (asks_in l.n l.table) l.j)
+    (l.at ≡ stretch_start (circuit_of l.s) l.m l.n (asks_in l.n l.table) l.j)
     × ((length l.memory ≡ length l.initial.memory)
     × ((l.agrees ≡ every l.j (output_at (circuit_of l.s) l.m l.n (asks_in l.n l.table) l.proof l.y))
     × ((l.all ≡ taken (all_commitments_input (flatten (tabulate l.j (commitments_at (circuit_of l.s) l.m l.n (asks_in l.n l.table) l.proof)))))
-    × (l.online ≡ taken (all_online_input (flatten (tabulate l.j (online_at (circuit_of l.s) l.m l.n (asks_in l.n l.table) l.proof)))))))))
-
-abbrev pub decreases-loop-j : goal.decreases-loop-j
-decreases-loop-j l =
-    l.m - l.j
+    × (l.online ≡ taken (all_online_input (flatten (tabulate l.j (online_at (circuit_of l.s) l.m l.n (asks_in l.n l.table) l.proof))))))))

@@ -1,10 +1,7 @@
 -- `wivulameno::wv_challenge` meets its contract.
 -- Assumes nothing.
-use Rattle.wivulameno.proofs.Statuses.{seeds-done, seeds-refused}
+use Rattle.wivulameno.proofs.Statuses.{said}
 use Rattle.wivulameno.proofs.wv_challenge.Goals as goal
 
-pub returns-in-Done : goal.returns-in-Done
-returns-in-Done c = seeds-done _ _ _ c.in-Done.is c.challenge-a.ensures
-
-pub returns-in-Refused : goal.returns-in-Refused
-returns-in-Refused c = seeds-refused _ _ _ _ _ c.in-Refused.is c.challenge-a.ensures c.number.ensures
+pub returns : goal.returns
+returns c = said _ _ _ _ c.challenge.ensures c.status.ensures

@@ -1,10 +1,7 @@
 -- `wivulameno::wv_open` meets its contract.
 -- Assumes nothing.
-use Rattle.wivulameno.proofs.Statuses.{seeds-done, seeds-refused}
+use Rattle.wivulameno.proofs.Statuses.{said}
 use Rattle.wivulameno.proofs.wv_open.Goals as goal
 
-pub returns-in-Done : goal.returns-in-Done
-returns-in-Done c = seeds-done _ _ _ c.in-Done.is c.open-a.ensures
-
-pub returns-in-Refused : goal.returns-in-Refused
-returns-in-Refused c = seeds-refused _ _ _ _ _ c.in-Refused.is c.open-a.ensures c.number.ensures
+pub returns : goal.returns
+returns c = said _ _ _ _ c.open.ensures c.status.ensures

@@ -4,10 +4,10 @@ use Rattle.wivulameno.proofs.Statuses.{upgrade-slotless, upgrade_slot, upgrade-s
 use Rattle.wivulameno.proofs.wv_upgrade_slot.Goals as goal
 
 pub overflow_cast-result : goal.overflow_cast-result
-overflow_cast-result c = record { fits = upgrade-small _ _ _ _ _ c.in-Refused.is c.upgrade-a.ensures }
+overflow_cast-result c = record { fits = upgrade-small _ _ _ _ _ c.in-Err.is c.upgrade.ensures }
 
-pub returns-in-Written : goal.returns-in-Written
-returns-in-Written c = upgrade-slotless _ _ _ c.in-Written.is c.upgrade-a.ensures
+pub returns-in-Ok : goal.returns-in-Ok
+returns-in-Ok c = upgrade-slotless _ _ _ c.in-Ok.is c.upgrade.ensures
 
-pub returns-in-Refused : goal.returns-in-Refused
-returns-in-Refused c = upgrade_slot _ _ _ _ c.in-Refused.is c.upgrade-a.ensures
+pub returns-in-Err : goal.returns-in-Err
+returns-in-Err c = upgrade_slot _ _ _ _ c.in-Err.is c.upgrade.ensures

@@ -1,26 +1,25 @@
 -- `bristol::conversion::convert` meets its contract: by the header.
 -- Assumes nothing.
 use mathlib.Core.Path.{sym, ap, ◌∙◌}
+use Rattle.std.proofs.lemmas.Result.{err_from_is_err_and}
 use Rattle.bristol_lines.specs.Rules.{Reading, gates_below, read_text}
 use Rattle.bristol_lines.specs.Steps.{gates_at}
 use Rattle.bristol.specs.Operations.{conversion, convert_op}
-use Rattle.bristol.proofs.Writes.{header_refused, header-good}
 use Rattle.bristol.proofs.conversion.convert.Goals as goal
 
 pub convert_gates-requires : goal.convert_gates-requires
 convert_gates-requires c =
-    let x = c in
-    (header-good x.args.text.now _ _ _ _ c.in-Good.is c.read_header-h.ensures).few
+    c.in_ok-z.ensures.few
 
-pub returns-in-Refused : goal.returns-in-Refused
+pub returns-in_err-z : goal.returns-in_err-z
 unfolding convert_op conversion read_text
-returns-in-Refused c =
-    let x = c in
-    sym (ap (λ (r : Reading). conversion r x.args.out.now) (header_refused x.args.text.now _ _ _ c.in-Refused.is c.read_header-h.ensures gates_below))
+returns-in_err-z c =
+    let p = err_from_is_err_and c.from_residual.result c.from_residual.ensures.1 in
+    rw (p.1, p.2)
+    (sym (ap (λ (r : Reading). conversion r c.args.out.now) (c.in_err-z.ensures gates_below)))
 
-pub returns-in-Good : goal.returns-in-Good
+pub returns : goal.returns
 unfolding convert_op read_text gates_at
-returns-in-Good c =
-    let x = c in
+returns c =
     c.convert_gates.ensures
-    ∙ sym (ap (λ (r : Reading). conversion r x.args.out.now) ((header-good x.args.text.now _ _ _ _ c.in-Good.is c.read_header-h.ensures).same gates_below))
+    ∙ sym (ap (λ (r : Reading). conversion r c.args.out.now) (c.in_ok-z.ensures.same gates_below))

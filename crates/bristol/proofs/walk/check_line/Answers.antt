@@ -1,6 +1,7 @@
 -- `bristol::walk::check_line` meets its contract: by cases of the gate line.
 -- Assumes nothing.
 use mathlib.Core.Path.{sym, ap, ◌∙◌}
+use Rattle.std.proofs.lemmas.Result.{err_from_is_err_and}
 use Rattle.bristol_lines.specs.Steps.{line_refusal}
 use Rattle.bristol.proofs.walk.check_line.Goals as goal
 
@@ -9,31 +10,26 @@ fits-requires c =
     let p = c.requires in
     (p.0, (p.1.few_inputs, p.1.few_gates))
 
-pub returns-in-Unknown : goal.returns-in-Unknown
+pub returns-in_err-gate : goal.returns-in_err-gate
 unfolding line_refusal
-returns-in-Unknown c =
+returns-in_err-gate c =
     let x = c.args in
-    ap (line_refusal x.z.inputs x.z.gates x.flags.now) (sym c.next_gate-line.ensures.read ∙ c.in-Unknown.is)
+    let p = err_from_is_err_and c.from_residual.result c.from_residual.ensures.1 in
+    rw (p.1, p.2) (ap (line_refusal x.z.inputs x.z.gates x.flags.now) c.in_err-gate.ensures)
 
-pub returns-in-Malformed : goal.returns-in-Malformed
+pub returns-then-not-fits : goal.returns-then-not-fits
 unfolding line_refusal
-returns-in-Malformed c =
+returns-then-not-fits c =
     let x = c.args in
-    ap (line_refusal x.z.inputs x.z.gates x.flags.now) (sym c.next_gate-line.ensures.read ∙ c.in-Malformed.is)
+    ap (line_refusal x.z.inputs x.z.gates x.flags.now) c.in_ok-gate.ensures.read
+    ∙ rw (sym c.fits.ensures ∙ c.if-not-fits.true)
 
-pub returns-then-fits : goal.returns-then-fits
-returns-then-fits c =
+pub returns : goal.returns
+returns c =
     record {
       gate = _;
-      read = sym c.next_gate-line.ensures.read ∙ c.in-Read.is;
-      fits = sym c.fits.ensures ∙ c.if-fits.true;
+      read = c.in_ok-gate.ensures.read;
+      fits = sym c.fits.ensures ∙ c.if-not-fits.false;
       wire = c.output_wire.ensures;
-      rest = c.next_gate-line.ensures.rest;
+      rest = c.in_ok-gate.ensures.rest;
     }
-
-pub returns-else-fits : goal.returns-else-fits
-unfolding line_refusal
-returns-else-fits c =
-    let x = c.args in
-    ap (line_refusal x.z.inputs x.z.gates x.flags.now) (sym c.next_gate-line.ensures.read ∙ c.in-Read.is)
-    ∙ rw (sym c.fits.ensures ∙ c.if-fits.false)

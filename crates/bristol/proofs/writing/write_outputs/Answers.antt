@@ -1,7 +1,6 @@
 -- `bristol::writing::write_outputs` meets its contract. The loop's invariant: the numbers of the first wires are written.
 -- Assumes nothing.
 use native.Mathlib.Omega.{arith}
-use Prim.Native.Nat.{◌-◌}
 use Rattle.bristol.proofs.Stores.{outputs-start, outputs-more, outputs-all}
 use Rattle.bristol.proofs.writing.write_outputs.Goals as goal
 

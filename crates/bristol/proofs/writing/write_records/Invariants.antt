@@ -8,8 +8,5 @@ use Rattle.bristol_lines.specs.Steps.{line_of, gates_from, stored}
 use Rattle.bristol.proofs.Writes.{Held}
 use Rattle.bristol.proofs.writing.write_records.Given as goal
 
-abbrev pub invariant-loop-left : goal.invariant-loop-left
-invariant-loop-left l = Held l.s l.z l.initial.out (stored l.z.inputs l.z.outputs (line_of l.initial.g ∷ gates_from (lines (drop l.initial.at l.s))) l.initial.out) l.out l.g l.left l.at
-
-abbrev pub decreases-loop-left : goal.decreases-loop-left
-decreases-loop-left l = l.left
+abbrev pub invariant-loop : goal.invariant-loop
+invariant-loop l = Held l.s l.z l.initial.out (stored l.z.inputs l.z.outputs (line_of l.initial.g ∷ gates_from (lines (drop l.initial.at l.s))) l.initial.out) l.out l.g (l.z.gates - l.counter) l.at

@@ -1,32 +1,25 @@
--- `bristol_lines::gates::line_gate` meets its contract: by what is found first.
+-- `bristol_lines::gates::line_gate` meets its contract: by the kind, then by the form.
 -- Assumes nothing.
-use mathlib.Core.Path.{◌≡◌, ap, ap₂, ◌∙◌}
-use mathlib.Core.Bool.{◌&&◌, and_comm}
-use Rattle.bristol_lines.specs.Steps.{form_finding, first_of}
-use Rattle.bristol_lines.proofs.Lined.{gate-unknown, gate-malformed, gate-good}
+use mathlib.Core.Path.{sym, ap, ◌∙◌}
+use Rattle.bristol_lines.specs.Rules.{is_known}
+use Rattle.bristol_lines.specs.Steps.{gate_from}
+use Rattle.bristol_lines.specs.declared.Kind.{Kind}
+use Rattle.bristol_lines.proofs.Lined.{known_kind, gate-unknown, gate-unfielded, gate-unended, gate-good}
 use Rattle.bristol_lines.proofs.gates.line_gate.Goals as goal
 
-pub returns-in-Good : goal.returns-in-Good
-returns-in-Good c =
-    let m = c in
-    let x = m.args in
-    let whole : m.both-whole.result ≡ x.ended && m.read_fields-f.result.good = m.both-whole.ensures ∙ and_comm m.read_fields-f.result.good x.ended in
+pub returns-in-Other : goal.returns-in-Other
+returns-in-Other c = gate-unknown _ (sym c.line_kind-kind.ensures ∙ c.in-Other.is)
+
+pub returns-in_default-read_fields : goal.returns-in_default-read_fields
+returns-in_default-read_fields c =
+    gate-unfielded _ (sym (ap is_known c.line_kind-kind.ensures) ∙ known_kind _ c.in_default.not-Other) c.in_default-read_fields.ensures
+
+pub returns-then-not-ended : goal.returns-then-not-ended
+returns-then-not-ended c =
+    gate-unended _ (sym (ap is_known c.line_kind-kind.ensures) ∙ known_kind _ c.in_default.not-Other) c.if-not-ended.true
+
+pub returns : goal.returns
+returns c =
     c.gate_of.ensures
-    ∙ gate-good _ _ _ _ m.read_fields-f.ensures _ m.line_kind-kind.ensures _
-    (m.first_of-found.ensures ∙ ap₂ first_of m.kind_finding-of_kind.ensures (m.form_finding-of_form.ensures ∙ ap form_finding whole)) c.in-Good.is
-
-pub returns-in-Unknown : goal.returns-in-Unknown
-returns-in-Unknown c =
-    let m = c in
-    let x = m.args in
-    let whole : m.both-whole.result ≡ x.ended && m.read_fields-f.result.good = m.both-whole.ensures ∙ and_comm m.read_fields-f.result.good x.ended in
-    gate-unknown _ _ _ _ m.read_fields-f.ensures _ m.line_kind-kind.ensures _
-    (m.first_of-found.ensures ∙ ap₂ first_of m.kind_finding-of_kind.ensures (m.form_finding-of_form.ensures ∙ ap form_finding whole)) c.in-Unknown.is
-
-pub returns-in-Malformed : goal.returns-in-Malformed
-returns-in-Malformed c =
-    let m = c in
-    let x = m.args in
-    let whole : m.both-whole.result ≡ x.ended && m.read_fields-f.result.good = m.both-whole.ensures ∙ and_comm m.read_fields-f.result.good x.ended in
-    gate-malformed _ _ _ _ m.read_fields-f.ensures _ m.line_kind-kind.ensures _
-    (m.first_of-found.ensures ∙ ap₂ first_of m.kind_finding-of_kind.ensures (m.form_finding-of_form.ensures ∙ ap form_finding whole)) c.in-Malformed.is
+    ∙ ap (λ (k : Kind). gate_from k c.in-Some.f.count c.in-Some.f.numbers) c.line_kind-kind.ensures
+    ∙ gate-good _ (sym (ap is_known c.line_kind-kind.ensures) ∙ known_kind _ c.in_default.not-Other) _ c.in-Some.ensures c.if-not-ended.false

@@ -1,13 +1,8 @@
 -- `correcting::loading::load_masks` meets its contract. The loop's invariant: w wires are loaded.
 -- Assumes nothing.
 use mathlib.Core.Path.{◌≡◌}
-use Prim.Native.Nat.{◌-◌, ◌≤◌}
-use lib.ListN.{length}
 use Rattle.correcting.specs.Steps.{masks_loaded}
 use Rattle.correcting.proofs.loading.load_masks.Given as goal
 
 abbrev pub invariant-loop-w : goal.invariant-loop-w
-invariant-loop-w l = (l.w ≤ l.count) × ((length l.memory ≡ length l.initial.memory) × (l.memory ≡ masks_loaded l.l l.w l.values l.initial.memory))
-
-abbrev pub decreases-loop-w : goal.decreases-loop-w
-decreases-loop-w l = l.count - l.w
+invariant-loop-w l = l.memory ≡ masks_loaded l.l l.w l.values l.initial.memory

@@ -1,21 +1,17 @@
 -- `correcting::running::walk` meets its contract. The loop's invariant: the gates that are left, from the memory so far, give what all of them give.
 -- Assumes nothing.
 use mathlib.Core.Path.{◌≡◌}
-use Prim.Native.Nat.{◌+◌, ◌-◌, ◌≤◌}
-use lib.ListN.{length}
 use mathlib.Core.Bool.{true}
+use Prim.Native.Nat.{◌+◌, ◌-◌}
 use Rattle.circuit.specs.Circuit.{ands}
 use Rattle.circuit.specs.Steps.{walks, wired, gates_from}
 use Rattle.correcting.specs.Steps.{walked}
 use Rattle.correcting.proofs.running.walk.Given as goal
 
-abbrev pub invariant-loop-left : goal.invariant-loop-left
-invariant-loop-left l =
-    (length l.memory ≡ length l.initial.memory)
-    × ((l.t + ands (gates_from l.s l.left l.slot) ≡ l.l.ands)
-    × ((walks l.s l.left l.slot ≡ true)
-    × (wired l.s l.l.wires l.left l.slot
-    × ((l.left ≤ l.initial.left) × (walked l.l l.last l.s l.left l.slot l.t l.memory ≡ walked l.l l.last l.s l.initial.left l.head 0 l.initial.memory)))))
-
-abbrev pub decreases-loop-left : goal.decreases-loop-left
-decreases-loop-left l = l.left
+abbrev pub invariant-loop : goal.invariant-loop
+invariant-loop l = record {
+  count : l.t + ands (gates_from l.s (l.end - l.counter) l.slot) ≡ l.l.ands;
+  chain : walks l.s (l.end - l.counter) l.slot ≡ true;
+  reads : wired l.s l.l.wires (l.end - l.counter) l.slot;
+  same : walked l.l l.last l.s (l.end - l.counter) l.slot l.t l.memory ≡ walked l.l l.last l.s l.end l.head 0 l.initial.memory;
+}

@@ -1,7 +1,7 @@
 -- `instance::checking::reopen_parties` meets its contract.
 -- Assumes nothing.
 use mathlib.Core.Path.{refl, sym, ◌∙◌}
-use Prim.Native.Nat.{◌-◌, ◌*◌}
+use Prim.Native.Nat.{◌*◌}
 use native.Mathlib.Omega.{arith}
 use lib.Seq.{length-take-le}
 use Rattle.mpc.proofs.Opened.{ands-low}
@@ -50,12 +50,6 @@ slice_bounds-clear-start c = (corrections-inside _ c.args.inst.parties _ c.layou
 
 pub slice_bounds-clear-end : goal.slice_bounds-clear-end
 slice_bounds-clear-end c = (corrections-inside _ c.args.inst.parties _ c.layout-l.ensures c.hold_opened.new.memory (lent-end _ _ _ _ _ (lent-kept _ _ _ _ _ c.requires.0 c.hold_opened.new.memory c.hold_opened.auto.memory)) _ _ c.corrections_at-at.ensures c.rows_at-rows.ensures).1
-
-pub clear-requires : goal.clear-requires
-clear-requires c = tt
-
-pub oct-requires : goal.oct-requires
-oct-requires c = tt
 
 pub overflow_add-second : goal.overflow_add-second
 overflow_add-second c =

@@ -52,16 +52,10 @@ overflow_add-third c =
     let p = c.requires in
     omega (arith, tree-low _ _ p.0.tree, sent-small _ _ _ _ _ p.0.known _ _ _ p.0.tree c.args.part.now p.1.1.0 _ c.sent_bytes-sent.ensures, ands-low _ _ _ _ _ p.0.known, p.0.known.legal.laid.few_gates)
 
-pub oct-requires : goal.oct-requires
-oct-requires c = tt
-
 pub overflow_add-fourth : goal.overflow_add-fourth
 overflow_add-fourth c =
     let p = c.requires in
     omega (arith, tree-low _ _ p.0.tree, sent-small _ _ _ _ _ p.0.known _ _ _ p.0.tree c.args.part.now p.1.1.0 _ c.sent_bytes-sent.ensures, ands-low _ _ _ _ _ p.0.known, p.0.known.legal.laid.few_gates, c.oct.ensures, p.0.known.legal.laid.few_inputs)
-
-pub oct-o-requires : goal.oct-o-requires
-oct-o-requires c = tt
 
 pub reopen_parties-requires : goal.reopen_parties-requires
 reopen_parties-requires c =
@@ -144,9 +138,6 @@ slice_bounds-out-end-2 c = front-inside 32 c.oct-o.result c.replay_held.new.y (f
 
 pub slice_bounds-same-end : goal.slice_bounds-same-end
 slice_bounds-same-end c = front-taken 32 c.oct-o.result c.replay_held.new.y (few-output _ _ _ c.requires.0.known c.oct-o.ensures) c.replay_held.auto.y
-
-pub same-agrees-requires : goal.same-agrees-requires
-same-agrees-requires c = tt
 
 pub shape_of-memory : goal.shape_of-memory
 shape_of-memory c = c.online-online.auto.memory ∙ (c.replay_held.auto.memory ∙ c.reopen_parties.auto.memory)

@@ -7,9 +7,6 @@ use Rattle.instance.proofs.checking.sent_bytes.Goals as goal
 pub overflow_add-p : goal.overflow_add-p
 overflow_add-p c = omega (arith, c.requires.1, c.ranges.n.fits)
 
-pub oct-requires : goal.oct-requires
-oct-requires c = tt
-
 pub returns-then-p-n : goal.returns-then-p-n
 returns-then-p-n c = sent-none _ _ _ c.if-p-n.true
 

@@ -3,7 +3,7 @@
 -- Assumes nothing.
 use mathlib.Core.Path.{◌≡◌}
 use mathlib.Core.List.{flatten}
-use Prim.Native.Nat.{ℕ, ◌+◌, ◌-◌, ◌*◌, ◌≤◌, ◌<◌}
+use Prim.Native.Nat.{ℕ, ◌-◌, ◌*◌, ◌<◌}
 use lib.ListN.{length, get_or}
 use Rattle.bits.specs.Bits.{tabulate}
 use Rattle.hashing.specs.Inputs.{online_input}
@@ -13,10 +13,6 @@ use Rattle.instance.proofs.committing.online.Given as goal
 
 abbrev pub invariant-loop-g : goal.invariant-loop-g
 invariant-loop-g l =
-    (8 * l.g ≤ l.n + 7)
-    × ((length l.memory ≡ length l.initial.memory)
+    (length l.memory ≡ length l.initial.memory)
     × (((k : ℕ) → get_or l.memory k 0 < 256)
-    × (Same l.l l.len l.initial.memory l.memory × (l.s ≡ taken (online_input l.j l.masked (flatten (tabulate (l.n - (l.n - 8 * l.g)) (sent_row l.l l.len l.initial.memory))))))))
-
-abbrev pub decreases-loop-g : goal.decreases-loop-g
-decreases-loop-g l = l.n - 8 * l.g
+    × (Same l.l l.len l.initial.memory l.memory × (l.s ≡ taken (online_input l.j l.masked (flatten (tabulate (l.n - (l.n - 8 * l.g)) (sent_row l.l l.len l.initial.memory)))))))

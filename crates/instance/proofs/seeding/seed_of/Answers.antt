@@ -29,9 +29,6 @@ slice_bounds-row-start c = (seeds-inside _ _ _ c.layout-l.ensures c.args.memory.
 pub slice_bounds-row-end : goal.slice_bounds-row-end
 slice_bounds-row-end c = (seeds-inside _ _ _ c.layout-l.ensures c.args.memory.now c.requires.1.0 _ _ c.seeds_at-seeds.ensures c.seeds_end-end.ensures).1
 
-pub row-requires : goal.row-requires
-row-requires c = tt
-
 pub copy-requires : goal.copy-requires
 copy-requires c =
     let x = c.args in

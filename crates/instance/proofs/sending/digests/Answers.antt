@@ -10,9 +10,6 @@ use Rattle.instance.proofs.Committed.{first-room}
 use Rattle.instance.proofs.Sent.{clean, masked-made, ran-made, commitments-made, online-made, few-masked, front-inside, front-back, front-taken}
 use Rattle.instance.proofs.sending.digests.Goals as goal
 
-pub oct-m-requires : goal.oct-m-requires
-oct-m-requires c = tt
-
 pub hold_parties-requires : goal.hold_parties-requires
 hold_parties-requires c = (c.requires.0, c.requires.1.1)
 

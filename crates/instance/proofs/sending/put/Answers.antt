@@ -2,7 +2,6 @@
 -- Assumes nothing.
 use mathlib.Core.Path.{refl}
 use native.Mathlib.Omega.{arith}
-use Prim.Native.Nat.{◌-◌}
 use Rattle.instance.proofs.Laid.{put-part, put-made}
 use Rattle.instance.proofs.sending.put.Goals as goal
 

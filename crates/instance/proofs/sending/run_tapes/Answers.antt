@@ -12,9 +12,6 @@ use Rattle.instance.proofs.sending.run_tapes.Goals as goal
 pub overflow_cast-k : goal.overflow_cast-k
 overflow_cast-k c = omega (arith, few-parties _ _ _ _ _ c.requires.0)
 
-pub oct-o-requires : goal.oct-o-requires
-oct-o-requires c = tt
-
 pub slice_bounds-y-end : goal.slice_bounds-y-end
 slice_bounds-y-end c = omega (arith, length-replicate {A = ℕ} 32 0, few-output _ _ _ c.requires.0.known c.oct-o.ensures)
 

@@ -13,9 +13,6 @@ use Rattle.instance.proofs.Sent.{clean, masked-made, ran-made, few-masked, front
 use Rattle.instance.proofs.Laid.{stretch-size, stretch-made}
 use Rattle.instance.proofs.sending.send.Goals as goal
 
-pub oct-m-requires : goal.oct-m-requires
-oct-m-requires c = tt
-
 pub hold_parties-requires : goal.hold_parties-requires
 hold_parties-requires c = (c.requires.0, c.requires.1.1.0)
 

@@ -6,12 +6,9 @@ use lib.ListN.{take, length-take, length-drop, length}
 use Rattle.keccak.specs.Steps.{sponge_of}
 use Rattle.keccak.proofs.Steps.{absorbs-room, absorbs-aligned, absorbs-parts}
 use native.Mathlib.Omega.{arith}
-use mathlib.Core.Path.{◌≡◌, sym, ap}
+use mathlib.Core.Path.{◌≡◌, ap}
 use Rattle.keccak.specs.declared.sponge.Sponge.{Sponge}
 use Rattle.keccak.proofs.sponge.absorb_in.Goals as goal
-
-pub slice_bounds-absorb_bytes-end : goal.slice_bounds-absorb_bytes-end
-slice_bounds-absorb_bytes-end c = sym (length-take-le _ _ (omega arith))
 
 pub absorb_lanes-b-requires : goal.absorb_lanes-b-requires
 absorb_lanes-b-requires c =

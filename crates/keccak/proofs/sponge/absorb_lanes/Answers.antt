@@ -1,32 +1,19 @@
 -- `keccak::sponge::absorb_lanes` meets its contract: the loop's invariant is that of the bytes, at a lane's start.
 -- Assumes nothing.
-use lib.ListN.{drop_of_length-le, length-take, length-drop, length}
+use lib.ListN.{drop_of_length-le, length}
 use Rattle.keccak.proofs.Steps.{absorbs-segment, joined-full, joined-part}
-use Prim.Native.Nat.{◌+◌, ◌-◌, ◌≤◌}
+use Prim.Native.Nat.{◌+◌, ◌≤◌}
 use Rattle.keccak.specs.Steps.{absorbs}
 use native.Mathlib.Omega.{arith}
 use mathlib.Core.Path.{refl, sym, ap, ◌∙◌}
 use Rattle.keccak.proofs.sponge.absorb_lanes.Goals as goal
-
-pub loop-i-init : goal.loop-i-init
-loop-i-init c = (omega arith, (omega arith, (omega arith, (omega arith, refl))))
-
-pub least-m-requires : goal.least-m-requires
-least-m-requires c = tt
-
-pub xor_lanes-requires : goal.xor_lanes-requires
-xor_lanes-requires c =
-    (omega arith, (simp (length-take, length-drop) (omega arith), simp (length-take, length-drop) (omega arith)))
-
-pub permute-requires : goal.permute-requires
-permute-requires c = tt
 
 pub loop-i-preserved-then-at-rate : goal.loop-i-preserved-then-at-rate
 loop-i-preserved-then-at-rate c =
     let b = c in
     let x = b.args in
     let l = c.loop-i in
-    let w : l.i + c.least-m.result ≤ length x.«data».now = omega arith in (
+    let w : l.i + c.min-m.result ≤ length x.«data».now = omega arith in (
       w,
       (
         omega arith,
@@ -34,7 +21,7 @@ loop-i-preserved-then-at-rate c =
           omega arith,
           (
             omega arith,
-            absorbs-segment x.rate x.«data».now l.i c.least-m.result l.l _ l.at _ l.invariant.1.1.1.0 (omega arith) w
+            absorbs-segment x.rate x.«data».now l.i c.min-m.result l.l _ l.at _ l.invariant.1.1.1.0 (omega arith) w
                 c.xor_lanes.ensures
                 (joined-full _ _ _ _ _ c.if-at-rate.true c.permute.ensures refl)
                 ∙ l.invariant.1.1.1.1,
@@ -48,7 +35,7 @@ loop-i-preserved c =
     let b = c in
     let x = b.args in
     let l = c.loop-i in
-    let w : l.i + c.least-m.result ≤ length x.«data».now = omega arith in (
+    let w : l.i + c.min-m.result ≤ length x.«data».now = omega arith in (
       w,
       (
         omega arith,
@@ -56,7 +43,7 @@ loop-i-preserved c =
           omega arith,
           (
             omega arith,
-            absorbs-segment x.rate x.«data».now l.i c.least-m.result l.l _ l.at _ l.invariant.1.1.1.0 (omega arith) w
+            absorbs-segment x.rate x.«data».now l.i c.min-m.result l.l _ l.at _ l.invariant.1.1.1.0 (omega arith) w
                 c.xor_lanes.ensures
                 (joined-part _ _ _ _ _ c.if-at-rate.false refl refl)
                 ∙ l.invariant.1.1.1.1,

@@ -1,8 +1,6 @@
 -- `masks::chain::load_inputs` meets its contract. The loop's invariant: k masks are loaded.
 -- Assumes nothing.
 use mathlib.Core.Path.{◌≡◌}
-use Prim.Native.Nat.{◌-◌, ◌≤◌}
-use lib.ListN.{length}
 use Rattle.bits.specs.Bits.{bit_val, bit_at}
 use Rattle.words.specs.Steps.{fill}
 use Rattle.masks.specs.Steps.{tape_bit}
@@ -10,8 +8,4 @@ use Rattle.masks.proofs.chain.load_inputs.Given as goal
 
 abbrev pub invariant-loop-k : goal.invariant-loop-k
 invariant-loop-k l =
-    (l.k ≤ l.inputs)
-    × ((length l.memory ≡ length l.initial.memory) × (l.memory ≡ fill (λ j. j) (λ j. bit_val (bit_at l.initial.memory (tape_bit l.wires j))) l.k l.initial.memory))
-
-abbrev pub decreases-loop-k : goal.decreases-loop-k
-decreases-loop-k l = l.inputs - l.k
+    l.memory ≡ fill (λ j. j) (λ j. bit_val (bit_at l.initial.memory (tape_bit l.wires j))) l.k l.initial.memory

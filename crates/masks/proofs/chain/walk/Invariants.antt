@@ -4,7 +4,6 @@
 use mathlib.Core.Path.{◌≡◌}
 use mathlib.Core.Bool.{true}
 use Prim.Native.Nat.{◌+◌, ◌-◌, ◌≤◌}
-use lib.ListN.{length}
 use Rattle.bits.specs.Bits.{oct}
 use Rattle.circuit.specs.Circuit.{ands}
 use Rattle.circuit.specs.Steps.{gates_from, walks, wired}
@@ -12,14 +11,12 @@ use Rattle.masks.proofs.Begun.{Begun}
 use Rattle.masks.proofs.Turns.{joint}
 use Rattle.masks.proofs.chain.walk.Given as goal
 
-abbrev pub invariant-loop-left : goal.invariant-loop-left
-invariant-loop-left l =
-    (length l.memory ≡ length l.initial.memory)
-    × ((l.t + l.left ≤ l.initial.left)
-    × ((l.masks + (l.t + ands (gates_from l.s l.left l.slot)) ≡ l.products)
-    × ((walks l.s l.left l.slot ≡ true)
-    × (wired l.s l.wires l.left l.slot
-    × (Begun l.at (oct (l.products - l.masks)) l.t l.byte l.memory × (joint l.s l.masks l.products l.at l.left l.slot l.t l.memory ≡ joint l.s l.masks l.products l.at l.initial.left l.head 0 l.initial.memory))))))
-
-abbrev pub decreases-loop-left : goal.decreases-loop-left
-decreases-loop-left l = l.left
+abbrev pub invariant-loop : goal.invariant-loop
+invariant-loop l = record {
+  low : l.t ≤ l.counter;
+  count : l.masks + (l.t + ands (gates_from l.s (l.end - l.counter) l.slot)) ≡ l.products;
+  chain : walks l.s (l.end - l.counter) l.slot ≡ true;
+  reads : wired l.s l.wires (l.end - l.counter) l.slot;
+  begun : Begun l.at (oct (l.products - l.masks)) l.t l.byte l.memory;
+  same : joint l.s l.masks l.products l.at (l.end - l.counter) l.slot l.t l.memory ≡ joint l.s l.masks l.products l.at l.end l.head 0 l.initial.memory;
+}

@@ -7,10 +7,5 @@ use Rattle.masks.proofs.rows.add_word.Goals as goal
 
 pub returns : goal.returns
 returns c =
-    let write = c in
-    let second = write in
-    let first = second in
-    let known = first in
-    write.write_u64.ensures
-    ∙ word-added known.args.memory.now _ _ _ _ (λ i. (known.slice_known-1.given i).fits) (omega arith) (omega arith) first.read_u64.ensures
-    second.read_u64-2.ensures
+    c.write_u64.ensures
+    ∙ word-added c.args.memory.now _ _ _ _ (λ i. (c.slice_known-1.given i).fits) (omega arith) (omega arith) c.read_u64.ensures c.read_u64-2.ensures

@@ -1,13 +1,10 @@
 -- `masks::rows::add_words` meets its contract. The loop's invariant: k words are added.
 -- Assumes nothing.
 use mathlib.Core.Path.{◌≡◌}
-use Prim.Native.Nat.{◌-◌, ◌*◌, ◌≤◌}
-use lib.ListN.{length, drop}
+use Prim.Native.Nat.{◌*◌}
+use lib.ListN.{drop}
 use Rattle.masks.specs.Steps.{added}
 use Rattle.masks.proofs.rows.add_words.Given as goal
 
 abbrev pub invariant-loop-k : goal.invariant-loop-k
-invariant-loop-k l = (l.k ≤ l.words) × ((length l.memory ≡ length l.initial.memory) × (l.memory ≡ added (drop l.a l.initial.memory) l.to (8 * l.k) l.initial.memory))
-
-abbrev pub decreases-loop-k : goal.decreases-loop-k
-decreases-loop-k l = l.words - l.k
+invariant-loop-k l = l.memory ≡ added (drop l.a l.initial.memory) l.to (8 * l.k) l.initial.memory

@@ -1,25 +1,29 @@
 -- `mpc::preparing::prepare` meets its contract.
 -- Assumes nothing.
-use mathlib.Core.Path.{refl}
+use mathlib.Core.Path.{ap, ◌∙◌}
+use Prim.Native.Nat.{ℕ}
+use lib.ListN.{replicate}
+use Rattle.std.proofs.lemmas.Result.{err_from_is_err_and}
 use Rattle.mpc.proofs.Opened.{opened}
 use Rattle.mpc.proofs.Lent.{known-few, work-long}
 use Rattle.mpc.proofs.Prepared.{prepare-refused, prepare-short, prepare-left}
 use Rattle.mpc.proofs.preparing.prepare.Goals as goal
 
-pub read-answer-requires : goal.read-answer-requires
-read-answer-requires c = tt
-
 pub work_bytes-need-requires : goal.work_bytes-need-requires
-work_bytes-need-requires c = known-few _ _ (opened _ _ _ c.in-Legal.is c.read-answer.ensures)
+work_bytes-need-requires c = known-few _ _ (opened _ _ _ c.in_ok-z.was c.read.ensures)
 
-pub returns-then-all-need : goal.returns-then-all-need
-returns-then-all-need c = prepare-short _ _ _ _ _ _ c.read-answer.ensures _ c.in-Legal.is _ c.work_bytes-need.ensures c.if-all-need.true
+pub returns-then-work-need : goal.returns-then-work-need
+returns-then-work-need c = prepare-short _ _ _ _ _ _ c.read.ensures _ c.in_ok-z.was _ c.work_bytes-need.ensures c.if-work-need.true
 
 pub prepare_lent-ended-requires : goal.prepare_lent-ended-requires
-prepare_lent-ended-requires c = (opened _ _ _ c.in-Legal.is c.read-answer.ensures, work-long _ _ _ c.work_bytes-need.ensures c.if-all-need.false)
+prepare_lent-ended-requires c = (opened _ _ _ c.in_ok-z.was c.read.ensures, work-long _ _ _ c.work_bytes-need.ensures c.if-work-need.false)
 
-pub returns-in-Refused : goal.returns-in-Refused
-returns-in-Refused c = prepare-refused _ _ _ _ _ _ c.read-answer.ensures _ c.in-Refused.is
+pub returns-in_err-z : goal.returns-in_err-z
+returns-in_err-z c =
+    let p = err_from_is_err_and c.from_residual.result c.from_residual.ensures.1 in
+    rw (p.1, p.2) (prepare-refused _ _ _ _ _ _ c.read.ensures _ c.in_err-z.was)
 
-pub returns-else-all-need : goal.returns-else-all-need
-returns-else-all-need c = prepare-left _ _ _ _ _ _ c.read-answer.ensures _ c.in-Legal.is _ c.work_bytes-need.ensures c.if-all-need.false c.prepare_lent-ended.result _ c.prepare_lent-ended.ensures _ _ _ c.clear_after.ensures refl c.prepare_lent-ended.auto.memory
+pub returns : goal.returns
+returns c =
+    prepare-left _ _ _ _ _ _ c.read.ensures _ c.in_ok-z.was _ c.work_bytes-need.ensures c.if-work-need.false c.prepare_lent-ended.result _ c.prepare_lent-ended.ensures _
+    (c.clear.ensures ∙ ap (λ (k : ℕ). replicate k 0) c.prepare_lent-ended.auto.memory)

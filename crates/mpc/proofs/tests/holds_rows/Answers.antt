@@ -8,9 +8,6 @@ use lib.Dec.{eqb}
 use lib.ListN.{length}
 use Rattle.mpc.proofs.tests.holds_rows.Goals as goal
 
-pub oct-requires : goal.oct-requires
-oct-requires c = tt
-
 pub overflow_mul-result : goal.overflow_mul-result
 overflow_mul-result c =
     let x = c.args in

@@ -16,7 +16,7 @@ pub store_rows-requires : goal.store_rows-requires
 store_rows-requires c =
     let p = c.requires in (
       layout-room _ _ c.layout-l.ensures _ p.0,
-      (p.1.0, (omega (arith, c.row_bytes-len.ensures, layout-inputs _ _ c.layout-l.ensures, layout-ands _ _ c.layout-l.ensures, layout-outputs _ _ c.layout-l.ensures), rows-room _ _ _ _ c.row_bytes-len.ensures p.1.1)),
+      (omega (arith, p.1.0), (omega (arith, c.row_bytes-len.ensures, layout-inputs _ _ c.layout-l.ensures, layout-ands _ _ c.layout-l.ensures, layout-outputs _ _ c.layout-l.ensures), rows-room _ _ _ _ c.row_bytes-len.ensures p.1.1)),
     )
 
 pub returns : goal.returns

@@ -1,7 +1,7 @@
 -- `packed::running::pack_row` meets its contract. The loop's invariant: the first t bits are put.
 -- Assumes nothing.
 use mathlib.Core.Path.{◌≡◌}
-use Prim.Native.Nat.{◌-◌, ◌*◌, ◌≤◌}
+use Prim.Native.Nat.{◌*◌}
 use lib.ListN.{length}
 use Rattle.bits.specs.Bits.{pack}
 use Rattle.walk.proofs.Turns.{firsts}
@@ -9,7 +9,4 @@ use Rattle.packed.specs.Steps.{sent_bit}
 use Rattle.packed.proofs.running.pack_row.Given as goal
 
 abbrev pub invariant-loop-t : goal.invariant-loop-t
-invariant-loop-t l = (l.t ≤ l.count) × ((length l.out ≡ length l.initial.out) × (l.out ≡ pack (firsts (8 * length l.initial.out) (sent_bit l.l l.memory l.i) l.t)))
-
-abbrev pub decreases-loop-t : goal.decreases-loop-t
-decreases-loop-t l = l.count - l.t
+invariant-loop-t l = l.out ≡ pack (firsts (8 * length l.initial.out) (sent_bit l.l l.memory l.i) l.t)

@@ -6,6 +6,3 @@ use Rattle.planes.proofs.places.corrections_at.Goals as goal
 
 pub overflow_add-result : goal.overflow_add-result
 overflow_add-result c = omega (arith, c.planes_end.ensures, c.spare.ensures, spare-small c.args.l)
-
-pub returns : goal.returns
-returns c = omega (arith, c.planes_end.ensures, c.spare.ensures)

@@ -7,4 +7,4 @@ use Rattle.planes.proofs.places.masked.Goals as goal
 
 pub returns : goal.returns
 unfolding masked
-returns c = ap (at c.args.memory.now) c.masked_at-k.ensures
+returns c = ap (at c.args.memory.now) c.masked_at.ensures

@@ -10,4 +10,4 @@ pub returns : goal.returns
 unfolding put_masked
 returns c =
     let x = c.args in
-    ap (λ (k : ℕ). set x.memory.now k x.x) c.masked_at-k.ensures
+    ap (λ (k : ℕ). set x.memory.now k x.x) c.masked_at.ensures

@@ -11,4 +11,4 @@ pub returns : goal.returns
 unfolding put_tape
 returns c =
     let x = c.args in
-    c.write_u64.ensures ∙ ap (λ (k : ℕ). sets x.memory.now k (le_bytes 8 x.x)) c.tape_at-k.ensures
+    c.write_u64.ensures ∙ ap (λ (k : ℕ). sets x.memory.now k (le_bytes 8 x.x)) c.tape_at.ensures

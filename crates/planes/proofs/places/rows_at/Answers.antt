@@ -4,8 +4,5 @@ use native.Mathlib.Omega.{arith}
 use Rattle.planes.proofs.Fits.{spare-small}
 use Rattle.planes.proofs.places.rows_at.Goals as goal
 
-pub oct-requires : goal.oct-requires
-oct-requires c = tt
-
 pub overflow_add-result : goal.overflow_add-result
 overflow_add-result c = omega (arith, spare-small c.args.l)

@@ -1,14 +1,8 @@
 -- `planes::rows::store_groups` meets its contract. The invariant: g groups of rows are stored.
 -- Assumes nothing.
 use mathlib.Core.Path.{◌≡◌}
-use Prim.Native.Nat.{◌+◌, ◌-◌, ◌*◌, ◌≤◌}
-use lib.ListN.{length}
 use Rattle.planes.specs.Steps.{stored_groups}
 use Rattle.planes.proofs.rows.store_groups.Given as goal
 
 abbrev pub invariant-loop-g : goal.invariant-loop-g
-invariant-loop-g l =
-    (8 * l.g ≤ l.n + 7) × ((length l.rows ≡ length l.initial.rows) × (l.rows ≡ stored_groups l.n l.memory l.from l.len l.g l.initial.rows))
-
-abbrev pub decreases-loop-g : goal.decreases-loop-g
-decreases-loop-g l = l.n + 8 - 8 * l.g
+invariant-loop-g l = l.rows ≡ stored_groups l.n l.memory l.from l.len l.g l.initial.rows

@@ -1,14 +1,12 @@
--- `planes::rows::store_within` meets its contract. The invariant: k bytes of each row are stored.
+-- `planes::rows::store_within` meets its contract. The loops' invariants: 8 g bytes, and then k bytes, of each row are stored.
 -- Assumes nothing.
 use mathlib.Core.Path.{◌≡◌}
-use Prim.Native.Nat.{◌-◌, ◌≤◌}
-use lib.ListN.{length}
+use Prim.Native.Nat.{◌*◌}
 use Rattle.planes.specs.Steps.{stored_words}
 use Rattle.planes.proofs.rows.store_within.Given as goal
 
-abbrev pub invariant-loop-k : goal.invariant-loop-k
-invariant-loop-k l =
-    (l.k ≤ l.len) × ((length l.memory ≡ length l.initial.memory) × (l.memory ≡ stored_words l.n l.initial.memory l.from l.k l.a l.len l.initial.memory))
+abbrev pub invariant-loop-g : goal.invariant-loop-g
+invariant-loop-g l = l.memory ≡ stored_words l.n l.fn.memory l.from (8 * l.g) l.a l.len l.fn.memory
 
-abbrev pub decreases-loop-k : goal.decreases-loop-k
-decreases-loop-k l = l.len - l.k
+abbrev pub invariant-loop-k : goal.invariant-loop-k
+invariant-loop-k l = l.memory ≡ stored_words l.n l.fn.memory l.from l.k l.a l.len l.fn.memory

@@ -1,33 +1,19 @@
--- `planes::rows::store_words` meets its contract. The invariant: k bytes of each row are stored.
+-- `planes::rows::store_words` meets its contract. The loops' invariants: 8 g bytes, and then k bytes, of each row are stored.
 -- Assumes nothing.
 use native.Mathlib.Omega.{arith}
-use mathlib.Core.Path.{◌≡◌, refl, ap, ◌∙◌}
-use Prim.Native.Nat.{ℕ, ◌-◌}
-use Rattle.planes.specs.Steps.{stored_words}
+use mathlib.Core.Path.{◌≡◌, ◌∙◌}
+use Prim.Native.Nat.{◌+◌, ◌*◌}
 use Rattle.planes.proofs.Turning.{store-more, store-none, store-turn}
 use Rattle.planes.proofs.rows.store_words.Goals as goal
 
-pub loop-k-init : goal.loop-k-init
-loop-k-init c = (omega arith, (refl, store-none _ _ _ _ _ _))
+pub loop-g-init : goal.loop-g-init
+loop-g-init c = store-none _ _ _ _ _ _
 
-pub store_eight-requires : goal.store_eight-requires
-store_eight-requires c = (omega arith, (omega arith, (omega arith, omega arith)))
-
-pub loop-k-preserved-then-len-k-ge8 : goal.loop-k-preserved-then-len-k-ge8
-loop-k-preserved-then-len-k-ge8 c =
-    let l = c.loop-k in
-    (omega arith, (c.store_eight.auto.rows ∙ l.invariant.1.0, c.store_eight.ensures ∙ store-more _ _ _ _ _ _ _ _ 8 l.invariant.1.1))
-
-pub turn-requires : goal.turn-requires
-turn-requires c = ((omega arith, omega arith), (omega arith, omega arith))
+pub loop-g-preserved : goal.loop-g-preserved
+loop-g-preserved c =
+    let g = c.loop-g.g in
+    let e : 8 * (g + 1) ≡ 8 * g + 8 = omega arith in
+    rw e (c.store_eight.ensures ∙ store-more _ _ _ _ _ _ _ _ 8 c.loop-g.invariant)
 
 pub loop-k-preserved : goal.loop-k-preserved
-loop-k-preserved c =
-    let l = c.loop-k in
-    (omega arith, (c.turn.auto.memory ∙ l.invariant.1.0, store-turn _ _ _ _ _ _ _ _ _ l.invariant.1.1 c.turn.ensures))
-
-pub returns : goal.returns
-returns c =
-    let x = c.args in
-    let e : c.loop-k.k ≡ x.len = omega arith in
-    c.loop-k.invariant.1.1 ∙ ap (λ (i : ℕ). stored_words x.n x.memory.now x.from i x.a x.len x.rows.now) e
+loop-k-preserved c = store-turn _ _ _ _ _ _ _ _ _ c.loop-k.invariant c.turn.ensures

@@ -1,14 +1,12 @@
--- `planes::rows::store_words` meets its contract. The invariant: k bytes of each row are stored.
+-- `planes::rows::store_words` meets its contract. The loops' invariants: 8 g bytes, and then k bytes, of each row are stored.
 -- Assumes nothing.
 use mathlib.Core.Path.{◌≡◌}
-use Prim.Native.Nat.{◌-◌, ◌≤◌}
-use lib.ListN.{length}
+use Prim.Native.Nat.{◌*◌}
 use Rattle.planes.specs.Steps.{stored_words}
 use Rattle.planes.proofs.rows.store_words.Given as goal
 
-abbrev pub invariant-loop-k : goal.invariant-loop-k
-invariant-loop-k l =
-    (l.k ≤ l.len) × ((length l.rows ≡ length l.initial.rows) × (l.rows ≡ stored_words l.n l.memory l.from l.k l.a l.len l.initial.rows))
+abbrev pub invariant-loop-g : goal.invariant-loop-g
+invariant-loop-g l = l.rows ≡ stored_words l.n l.memory l.from (8 * l.g) l.a l.len l.fn.rows
 
-abbrev pub decreases-loop-k : goal.decreases-loop-k
-decreases-loop-k l = l.len - l.k
+abbrev pub invariant-loop-k : goal.invariant-loop-k
+invariant-loop-k l = l.rows ≡ stored_words l.n l.memory l.from l.k l.a l.len l.fn.rows

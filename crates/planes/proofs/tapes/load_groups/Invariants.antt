@@ -1,14 +1,9 @@
 -- `planes::tapes::load_groups` meets its contract. The invariant: g groups of rows are loaded.
 -- Assumes nothing.
 use mathlib.Core.Path.{◌≡◌}
-use Prim.Native.Nat.{◌+◌, ◌-◌, ◌*◌, ◌≤◌}
-use lib.ListN.{length, drop}
+use lib.ListN.{drop}
 use Rattle.planes.specs.Steps.{loaded_groups}
 use Rattle.planes.proofs.tapes.load_groups.Given as goal
 
 abbrev pub invariant-loop-g : goal.invariant-loop-g
-invariant-loop-g l =
-    (8 * l.g ≤ l.n + 7) × ((length l.memory ≡ length l.initial.memory) × (l.memory ≡ loaded_groups l.n (drop l.a l.initial.memory) l.len l.g l.to l.initial.memory))
-
-abbrev pub decreases-loop-g : goal.decreases-loop-g
-decreases-loop-g l = l.n + 8 - 8 * l.g
+invariant-loop-g l = l.memory ≡ loaded_groups l.n (drop l.a l.initial.memory) l.len l.g l.to l.initial.memory

@@ -1,34 +1,20 @@
--- `planes::tapes::load_words` meets its contract. The invariant: k bytes of each row are loaded.
+-- `planes::tapes::load_words` meets its contract. The loops' invariants: 8 g bytes, and then k bytes, of each row are in the words.
 -- Assumes nothing.
 use native.Mathlib.Omega.{arith}
-use mathlib.Core.Path.{◌≡◌, refl, ap, ◌∙◌}
-use Prim.Native.Nat.{ℕ, ◌-◌}
-use Rattle.planes.specs.Steps.{loaded_words}
+use mathlib.Core.Path.{◌≡◌}
+use Prim.Native.Nat.{◌+◌, ◌*◌}
 use Rattle.planes.proofs.Turning.{load-none}
 use Rattle.planes.proofs.Within.{load-block-turn, load-within-turn}
 use Rattle.planes.proofs.tapes.load_words.Goals as goal
 
-pub loop-k-init : goal.loop-k-init
-loop-k-init c = (omega arith, (refl, load-none _ _ _ _ _ _))
+pub loop-g-init : goal.loop-g-init
+loop-g-init c = load-none _ _ _ _ _ _
 
-pub load_block-requires : goal.load_block-requires
-load_block-requires c = (omega arith, (omega arith, (omega arith, omega arith)))
-
-pub loop-k-preserved-then-len-k-ge8 : goal.loop-k-preserved-then-len-k-ge8
-loop-k-preserved-then-len-k-ge8 c =
-    let l = c.loop-k in
-    (omega arith, (c.load_block.auto.memory ∙ l.invariant.1.0, load-block-turn _ _ _ _ _ _ _ _ (omega arith) (omega arith) l.invariant.1.1 c.load_block.ensures))
-
-pub turn_rows-requires : goal.turn_rows-requires
-turn_rows-requires c = (omega arith, (omega arith, (omega arith, omega arith)))
+pub loop-g-preserved : goal.loop-g-preserved
+loop-g-preserved c =
+    let g = c.loop-g.g in
+    let e : 8 * (g + 1) ≡ 8 * g + 8 = omega arith in
+    rw e (load-block-turn _ _ _ _ _ _ _ _ (omega arith) (omega arith) c.loop-g.invariant c.load_block.ensures)
 
 pub loop-k-preserved : goal.loop-k-preserved
-loop-k-preserved c =
-    let l = c.loop-k in
-    (omega arith, (c.turn_rows.auto.memory ∙ l.invariant.1.0, load-within-turn _ _ _ _ _ _ _ _ (omega arith) (omega arith) l.invariant.1.1 c.turn_rows.ensures))
-
-pub returns : goal.returns
-returns c =
-    let x = c.args in
-    let e : c.loop-k.k ≡ x.len = omega arith in
-    c.loop-k.invariant.1.1 ∙ ap (λ (i : ℕ). loaded_words x.n x.memory.now x.a x.len i x.to x.memory.now) e
+loop-k-preserved c = load-within-turn _ _ _ _ _ _ _ _ (omega arith) (omega arith) c.loop-k.invariant c.turn_rows.ensures

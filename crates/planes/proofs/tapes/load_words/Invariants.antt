@@ -1,14 +1,12 @@
--- `planes::tapes::load_words` meets its contract. The invariant: k bytes of each row are loaded.
+-- `planes::tapes::load_words` meets its contract. The loops' invariants: 8 g bytes, and then k bytes, of each row are in the words.
 -- Assumes nothing.
 use mathlib.Core.Path.{◌≡◌}
-use Prim.Native.Nat.{◌-◌, ◌≤◌}
-use lib.ListN.{length}
+use Prim.Native.Nat.{◌*◌}
 use Rattle.planes.specs.Steps.{loaded_words}
 use Rattle.planes.proofs.tapes.load_words.Given as goal
 
-abbrev pub invariant-loop-k : goal.invariant-loop-k
-invariant-loop-k l =
-    (l.k ≤ l.len) × ((length l.memory ≡ length l.initial.memory) × (l.memory ≡ loaded_words l.n l.initial.memory l.a l.len l.k l.to l.initial.memory))
+abbrev pub invariant-loop-g : goal.invariant-loop-g
+invariant-loop-g l = l.memory ≡ loaded_words l.n l.fn.memory l.a l.len (8 * l.g) l.to l.fn.memory
 
-abbrev pub decreases-loop-k : goal.decreases-loop-k
-decreases-loop-k l = l.len - l.k
+abbrev pub invariant-loop-k : goal.invariant-loop-k
+invariant-loop-k l = l.memory ≡ loaded_words l.n l.fn.memory l.a l.len l.k l.to l.fn.memory

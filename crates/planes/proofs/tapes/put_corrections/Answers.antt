@@ -5,18 +5,6 @@ use Rattle.planes.proofs.Fits.{spare-small}
 use Rattle.planes.proofs.Within.{corrections-put}
 use Rattle.planes.proofs.tapes.put_corrections.Goals as goal
 
-pub overflow_add-l : goal.overflow_add-l
-overflow_add-l c = omega (arith, c.requires.0.few_words)
-
-pub tape_at-to-requires : goal.tape_at-to-requires
-tape_at-to-requires c = (c.requires.0.few_wires, omega (arith, c.requires.0.few_words))
-
-pub corrections_at-a-requires : goal.corrections_at-a-requires
-corrections_at-a-requires c = (c.requires.0.few_wires, c.requires.0.few_words)
-
-pub place-requires : goal.place-requires
-place-requires c = tt
-
 pub put_held_bits-requires : goal.put_held_bits-requires
 put_held_bits-requires c =
     let p = c.requires in
@@ -24,6 +12,5 @@ put_held_bits-requires c =
 
 pub returns : goal.returns
 returns c =
-    let t = c in
-    let x = t.args in
-    corrections-put x.l x.p _ _ _ x.memory.now _ t.tape_at-to.ensures c.place.ensures c.corrections_at-a.ensures c.put_held_bits.ensures
+    let x = c.args in
+    corrections-put x.l x.p _ _ _ x.memory.now _ c.tape_at-to.ensures c.place.ensures c.corrections_at-a.ensures c.put_held_bits.ensures

@@ -1,4 +1,5 @@
 use native.Mathlib.Omega.{arith}
+use Rattle.std.proofs.Common.{rules}
 use mathlib.Core.Path.{refl, sym, ap, ◌∙◌}
 use Prim.Native.Nat.{ℕ}
 use lib.ListN.{replicate, length-set}
@@ -6,13 +7,10 @@ use Rattle.proof.specs.Steps.{table_of}
 use Rattle.proof.proofs.Choices.{table_none, turn-entered, turn-beyond, table-whole}
 use Rattle.proof.proofs.asking.enter.Goals as goal
 
-pub fill-requires : goal.fill-requires
-fill-requires c = tt
-
 pub loop-k-init : goal.loop-k-init
 loop-k-init c =
     let x = c.args in
-    (omega arith, (refl, table_none _ x.n x.choices.now _ (c.fill.ensures ∙ ap (λ (i : ℕ). replicate i x.n) (sym c.fill.auto.table))))
+    (omega arith, (refl, table_none _ x.n x.choices.now _ (c.fill.ensures.after (λ y h. search rules) ∙ ap (λ (i : ℕ). replicate i x.n) (sym c.fill.ensures.len))))
 
 pub loop-k-preserved-then-j-table : goal.loop-k-preserved-then-j-table
 loop-k-preserved-then-j-table c =
@@ -30,4 +28,4 @@ pub returns : goal.returns
 returns c =
     let l = c.loop-k in
     let x = c.args in
-    table-whole _ x.n x.choices.now l.table l.k (omega arith) l.invariant.1.1 ∙ ap (λ (i : ℕ). table_of i x.n x.choices.now) c.fill.auto.table
+    table-whole _ x.n x.choices.now l.table l.k (omega arith) l.invariant.1.1 ∙ ap (λ (i : ℕ). table_of i x.n x.choices.now) c.fill.ensures.len

@@ -6,6 +6,3 @@ use Rattle.proof.proofs.asking.enter.Given as goal
 
 abbrev pub invariant-loop-k : goal.invariant-loop-k
 invariant-loop-k l = (3 * l.k ≤ length l.choices) × ((length l.table ≡ length l.initial.table) × (l.table ≡ table_of (length l.initial.table) l.n (drop (3 * l.k) l.choices)))
-
-abbrev pub decreases-loop-k : goal.decreases-loop-k
-decreases-loop-k l = l.k

@@ -2,7 +2,7 @@
 -- Assumes nothing.
 use native.Mathlib.Omega.{arith}
 use mathlib.Core.Path.{ap, ◌∙◌}
-use Prim.Native.Nat.{ℕ, ◌-◌}
+use Prim.Native.Nat.{ℕ}
 use Rattle.circuit.specs.File.{circuit_of}
 use Rattle.instance.specs.Stretch.{stretch_bytes}
 use Rattle.proof.specs.File.{hides}
@@ -22,7 +22,7 @@ loop-j-init c =
     let x = c.args in
     let p = c.requires in
     let w = opened-few x.k.instances p.1.1.0 (hides (asks_in x.k.parties x.table.now)) in
-    (omega arith, (omega (arith, p.1.1.1.1), start_none (circuit_of x.s.now) x.k.instances x.k.parties (asks_in x.k.parties x.table.now) x.opened p.1.1.1.1))
+    (omega (arith, p.1.1.1.1), start_none (circuit_of x.s.now) x.k.instances x.k.parties (asks_in x.k.parties x.table.now) x.opened p.1.1.1.1)
 
 pub asked-p-requires : goal.asked-p-requires
 asked-p-requires c = tt
@@ -45,16 +45,13 @@ loop-j-preserved c =
     let l = c.loop-j in
     let x = b.args in
     let w = stretch-few x.s.now x.z.inputs x.z.outputs x.z.gates x.z.ands b.requires.0 x.k.parties (ask_of x.k.parties c.asked-p.result) in (
-      omega arith,
-      (
-        omega (arith, c.stretch_bytes-at.ensures, l.invariant),
-        start-more (circuit_of x.s.now) x.k.instances x.k.parties (asks_in x.k.parties x.table.now) l.j l.at c.stretch_bytes-at.result l.invariant.1.1
-            (c.stretch_bytes-at.ensures ∙ ap (λ (p : ℕ). stretch_bytes (circuit_of x.s.now) x.k.parties (ask_of x.k.parties p)) c.asked-p.ensures),
-      ),
+      omega (arith, c.stretch_bytes-at.ensures, l.invariant),
+      start-more (circuit_of x.s.now) x.k.instances x.k.parties (asks_in x.k.parties x.table.now) l.j l.at c.stretch_bytes-at.result l.invariant.1
+          (c.stretch_bytes-at.ensures ∙ ap (λ (p : ℕ). stretch_bytes (circuit_of x.s.now) x.k.parties (ask_of x.k.parties p)) c.asked-p.ensures),
     )
 
 pub returns : goal.returns
 returns c =
     let l = c.loop-j in
     let x = c.args in
-    start-end (circuit_of x.s.now) x.k.instances x.k.parties (asks_in x.k.parties x.table.now) l.j x.k.instances l.at l.invariant.0 (omega arith) l.invariant.1.1
+    start-end (circuit_of x.s.now) x.k.instances x.k.parties (asks_in x.k.parties x.table.now) l.j x.k.instances l.at (omega arith) (omega arith) l.invariant.1

@@ -1,7 +1,7 @@
 -- `proof::asking::proof_bytes` meets its contract: the loop's invariant is that `at` is where the stretch of instance j starts.
 -- Assumes nothing.
 use mathlib.Core.Path.{◌≡◌}
-use Prim.Native.Nat.{◌+◌, ◌-◌, ◌*◌, ◌≤◌}
+use Prim.Native.Nat.{◌+◌, ◌*◌, ◌≤◌}
 use Rattle.circuit.specs.File.{circuit_of}
 use Rattle.proof.specs.File.{stretch_start}
 use Rattle.proof.specs.Steps.{asks_in}
@@ -10,7 +10,4 @@ use Rattle.proof.proofs.asking.proof_bytes.Given as goal
 
 abbrev pub invariant-loop-j : goal.invariant-loop-j
 invariant-loop-j l =
-    (l.j ≤ l.m) × ((l.at ≤ 16454 + max_stretch * l.j) × (l.at ≡ stretch_start (circuit_of l.s) l.m l.n (asks_in l.n l.table) l.j))
-
-abbrev pub decreases-loop-j : goal.decreases-loop-j
-decreases-loop-j l = l.m - l.j
+    (l.at ≤ 16454 + max_stretch * l.j) × (l.at ≡ stretch_start (circuit_of l.s) l.m l.n (asks_in l.n l.table) l.j)

@@ -1,7 +1,6 @@
 -- `proof_tests::unused_bits::all_unused` meets its contract. The loop's invariant: the stretch of instance j is next, and the tests of those before it are made.
 -- Assumes nothing.
-use mathlib.Core.Path.{ap}
-use Prim.Native.Nat.{◌-◌}
+use mathlib.Core.Path.{refl, ap}
 use native.Mathlib.Omega.{arith}
 use Rattle.circuit.specs.File.{circuit_of}
 use Rattle.instance.specs.Opened.{stretch_unused}
@@ -22,10 +21,7 @@ pub loop-j-init : goal.loop-j-init
 loop-j-init c =
     let x = c.args in
     let ask = asks_in x.k.parties x.table.now in
-    (omega arith, (start_none (circuit_of x.s.now) x.k.instances x.k.parties ask x.opened c.requires.1.1.1, every-none (unused_at (circuit_of x.s.now) x.k.instances x.k.parties ask x.proof.now)))
-
-pub asked-p-requires : goal.asked-p-requires
-asked-p-requires c = tt
+    (start_none (circuit_of x.s.now) x.k.instances x.k.parties ask x.opened c.requires.1.1.1, every-none (unused_at (circuit_of x.s.now) x.k.instances x.k.parties ask x.proof.now))
 
 pub stretch_bytes-requires : goal.stretch_bytes-requires
 stretch_bytes-requires c =
@@ -37,28 +33,22 @@ overflow_add-end c =
     let x = c.args in
     let l = c.loop-j in
     let n = x.k.parties in
-    omega (arith, turn_inside (circuit_of x.s.now) n x.k.instances (asks_in n x.table.now) x.proof.now c.requires.1.1.0.size l.j l.at c.stretch_bytes.result (ask_of n c.asked-p.result) c.loop-j-test.true l.invariant.1.0 (ap (ask_of n) c.asked-p.ensures) c.stretch_bytes.ensures)
+    omega (arith, turn_inside (circuit_of x.s.now) n x.k.instances (asks_in n x.table.now) x.proof.now c.requires.1.1.0.size l.j l.at c.stretch_bytes.result (ask_of n c.asked-p.result) c.loop-j-test.true l.invariant.0 (ap (ask_of n) c.asked-p.ensures) c.stretch_bytes.ensures)
 
 pub slice_bounds-stretch_unused-end : goal.slice_bounds-stretch_unused-end
 slice_bounds-stretch_unused-end c =
     let x = c.args in
     let l = c.loop-j in
     let n = x.k.parties in
-    turn_inside (circuit_of x.s.now) n x.k.instances (asks_in n x.table.now) x.proof.now c.requires.1.1.0.size l.j l.at c.stretch_bytes.result (ask_of n c.asked-p.result) c.loop-j-test.true l.invariant.1.0 (ap (ask_of n) c.asked-p.ensures) c.stretch_bytes.ensures
+    turn_inside (circuit_of x.s.now) n x.k.instances (asks_in n x.table.now) x.proof.now c.requires.1.1.0.size l.j l.at c.stretch_bytes.result (ask_of n c.asked-p.result) c.loop-j-test.true l.invariant.0 (ap (ask_of n) c.asked-p.ensures) c.stretch_bytes.ensures
 
-pub stretch_unused-fine-requires : goal.stretch_unused-fine-requires
-stretch_unused-fine-requires c =
+pub stretch_unused-good-requires : goal.stretch_unused-good-requires
+stretch_unused-good-requires c =
     let x = c.args in
     let l = c.loop-j in
     let n = x.k.parties in
     let q = c.requires in
-    (q.0, (q.1.0, (omega (arith, c.asked-p.ensures, q.1.1.0.asking.parties l.j), turn-size (circuit_of x.s.now) n x.k.instances (asks_in n x.table.now) x.proof.now q.1.1.0.size l.j l.at c.stretch_bytes.result (ask_of n c.asked-p.result) c.loop-j-test.true l.invariant.1.0 (ap (ask_of n) c.asked-p.ensures) c.stretch_bytes.ensures)))
-
-pub both-good-requires : goal.both-good-requires
-both-good-requires c = tt
-
-pub overflow_add-j : goal.overflow_add-j
-overflow_add-j c = omega (arith, c.requires.1.1.0.few)
+    (q.0, (q.1.0, (omega (arith, c.asked-p.ensures, q.1.1.0.asking.parties l.j), turn-size (circuit_of x.s.now) n x.k.instances (asks_in n x.table.now) x.proof.now q.1.1.0.size l.j l.at c.stretch_bytes.result (ask_of n c.asked-p.result) c.loop-j-test.true l.invariant.0 (ap (ask_of n) c.asked-p.ensures) c.stretch_bytes.ensures)))
 
 pub loop-j-preserved : goal.loop-j-preserved
 loop-j-preserved c =
@@ -67,17 +57,14 @@ loop-j-preserved c =
     let n = x.k.parties in
     let ask = asks_in n x.table.now in
     let size = c.requires.1.1.0.size in (
-      omega arith,
-      (
-        turn-place (circuit_of x.s.now) n x.k.instances ask x.proof.now size l.j l.at c.stretch_bytes.result (ask_of n c.asked-p.result) c.loop-j-test.true l.invariant.1.0 (ap (ask_of n) c.asked-p.ensures) c.stretch_bytes.ensures,
-        every-turn (unused_at (circuit_of x.s.now) x.k.instances n ask x.proof.now) l.j l.good c.stretch_unused-fine.result c.both-good.result l.invariant.1.1
-            (turn-test (circuit_of x.s.now) n x.k.instances ask x.proof.now size l.j l.at c.stretch_bytes.result (ask_of n c.asked-p.result) c.loop-j-test.true l.invariant.1.0 (ap (ask_of n) c.asked-p.ensures) c.stretch_bytes.ensures (stretch_unused (circuit_of x.s.now) n) c.stretch_unused-fine.result c.stretch_unused-fine.ensures)
-            c.both-good.ensures,
-      ),
+      turn-place (circuit_of x.s.now) n x.k.instances ask x.proof.now size l.j l.at c.stretch_bytes.result (ask_of n c.asked-p.result) c.loop-j-test.true l.invariant.0 (ap (ask_of n) c.asked-p.ensures) c.stretch_bytes.ensures,
+      every-turn (unused_at (circuit_of x.s.now) x.k.instances n ask x.proof.now) l.j l.good c.stretch_unused-good.result _ l.invariant.1
+          (turn-test (circuit_of x.s.now) n x.k.instances ask x.proof.now size l.j l.at c.stretch_bytes.result (ask_of n c.asked-p.result) c.loop-j-test.true l.invariant.0 (ap (ask_of n) c.asked-p.ensures) c.stretch_bytes.ensures (stretch_unused (circuit_of x.s.now) n) c.stretch_unused-good.result c.stretch_unused-good.ensures)
+          refl,
     )
 
 pub returns : goal.returns
 returns c =
     let x = c.args in
     let l = c.loop-j in
-    every-end (unused_at (circuit_of x.s.now) x.k.instances x.k.parties (asks_in x.k.parties x.table.now) x.proof.now) l.j x.k.instances l.good (omega arith) l.invariant.1.1
+    every-end (unused_at (circuit_of x.s.now) x.k.instances x.k.parties (asks_in x.k.parties x.table.now) x.proof.now) l.j x.k.instances l.good (omega arith) l.invariant.1

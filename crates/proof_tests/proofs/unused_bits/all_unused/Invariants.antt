@@ -1,7 +1,6 @@
 -- `proof_tests::unused_bits::all_unused` meets its contract. The loop's invariant: the stretch of instance j is next, and the tests of those before it are made.
 -- Assumes nothing.
 use mathlib.Core.Path.{◌≡◌}
-use Prim.Native.Nat.{◌-◌, ◌≤◌}
 use Rattle.circuit.specs.File.{circuit_of}
 use Rattle.proof.specs.Steps.{asks_in}
 use Rattle.proof.specs.File.{stretch_start}
@@ -11,8 +10,4 @@ use Rattle.proof_tests.proofs.unused_bits.all_unused.Given as goal
 
 abbrev pub invariant-loop-j : goal.invariant-loop-j
 invariant-loop-j l =
-    (l.j ≤ l.m)
-    × ((l.at ≡ stretch_start (circuit_of l.s) l.m l.n (asks_in l.n l.table) l.j) × (l.good ≡ every l.j (unused_at (circuit_of l.s) l.m l.n (asks_in l.n l.table) l.proof)))
-
-abbrev pub decreases-loop-j : goal.decreases-loop-j
-decreases-loop-j l = l.m - l.j
+    (l.at ≡ stretch_start (circuit_of l.s) l.m l.n (asks_in l.n l.table) l.j) × (l.good ≡ every l.j (unused_at (circuit_of l.s) l.m l.n (asks_in l.n l.table) l.proof))

@@ -62,6 +62,3 @@ returns c =
 
 pub salt_in-own-requires : goal.salt_in-own-requires
 salt_in-own-requires c = c.requires.1.0.salt_size
-
-pub masters_tree-requires : goal.masters_tree-requires
-masters_tree-requires c = tt

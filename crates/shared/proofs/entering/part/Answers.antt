@@ -4,8 +4,8 @@ use native.Mathlib.Omega.{arith}
 use Rattle.shared.proofs.Entries.{part-is}
 use Rattle.shared.proofs.entering.part.Goals as goal
 
-pub overflow_add-e : goal.overflow_add-e
-overflow_add-e c = omega (arith, c.requires, c.well_formed.0.0)
+pub overflow_add-result : goal.overflow_add-result
+overflow_add-result c = omega (arith, c.requires, c.well_formed.0.0)
 
 pub slice_bounds-result-end : goal.slice_bounds-result-end
 slice_bounds-result-end c = c.requires

@@ -7,11 +7,8 @@ use Rattle.circuit.specs.Circuit.{ands}
 use Rattle.circuit.specs.Steps.{walks, gates_from}
 use Rattle.shown_parts.proofs.cuts.ands_passed.Given as goal
 
-abbrev pub invariant-loop-left : goal.invariant-loop-left
-invariant-loop-left l =
-    (l.left ≤ l.cut)
-    × ((l.count + l.left ≤ l.cut)
-    × (((k : ℕ) → walks l.s (l.cut + k) l.head ≡ true → walks l.s (l.left + k) l.slot ≡ true) × (l.count + ands (gates_from l.s l.left l.slot) ≡ ands (gates_from l.s l.cut l.head))))
-
-abbrev pub decreases-loop-left : goal.decreases-loop-left
-decreases-loop-left l = l.left
+abbrev pub invariant-loop : goal.invariant-loop
+invariant-loop l =
+    (l.count ≤ l.counter)
+    × (((k : ℕ) → walks l.s (l.cut + k) l.head ≡ true → walks l.s (l.cut - l.counter + k) l.slot ≡ true)
+    × (l.count + ands (gates_from l.s (l.cut - l.counter) l.slot) ≡ ands (gates_from l.s l.cut l.head)))

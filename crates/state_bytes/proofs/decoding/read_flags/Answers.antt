@@ -1,7 +1,6 @@
 -- `state_bytes::decoding::read_flags` meets its contract.
 -- Assumes nothing.
 use mathlib.Core.Path.{refl}
-use Prim.Native.Nat.{◌-◌}
 use Rattle.state_bytes.proofs.Filled.{filled_none, filled_more, filled-end}
 use Rattle.state_bytes.proofs.decoding.read_flags.Goals as goal
 

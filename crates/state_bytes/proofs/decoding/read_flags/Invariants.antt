@@ -1,12 +1,8 @@
 -- `state_bytes::decoding::read_flags` meets its contract.
 -- Assumes nothing.
-use Prim.Native.Nat.{◌-◌}
 use Rattle.state_bytes.proofs.Filled.{Filled}
 use Rattle.state_bytes.specs.Steps.{flag_in}
 use Rattle.state_bytes.proofs.decoding.read_flags.Given as goal
 
 abbrev pub invariant-loop-i : goal.invariant-loop-i
 invariant-loop-i l = Filled 16 (flag_in l.s) l.i l.flags
-
-abbrev pub decreases-loop-i : goal.decreases-loop-i
-decreases-loop-i l = 16 - l.i

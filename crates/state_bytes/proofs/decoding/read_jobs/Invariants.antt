@@ -1,12 +1,8 @@
 -- `state_bytes::decoding::read_jobs` meets its contract.
 -- Assumes nothing.
-use Prim.Native.Nat.{◌-◌}
 use Rattle.state_bytes.proofs.Filled.{Filled}
 use Rattle.state_bytes.specs.Steps.{job_of}
 use Rattle.state_bytes.proofs.decoding.read_jobs.Given as goal
 
 abbrev pub invariant-loop-i : goal.invariant-loop-i
 invariant-loop-i l = Filled 16 (job_of l.s) l.i l.jobs
-
-abbrev pub decreases-loop-i : goal.decreases-loop-i
-decreases-loop-i l = 16 - l.i

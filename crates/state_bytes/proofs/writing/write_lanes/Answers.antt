@@ -1,7 +1,6 @@
 -- `state_bytes::writing::write_lanes` meets its contract.
 -- Assumes nothing.
 use borrow.Author.Rules.{rules}
-use Prim.Native.Nat.{◌-◌}
 use Rattle.state_bytes.proofs.Written.{lanes-none, lanes-more, lanes_end}
 use Rattle.state_bytes.proofs.writing.write_lanes.Goals as goal
 

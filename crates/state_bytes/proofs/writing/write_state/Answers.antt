@@ -1,7 +1,6 @@
 -- `state_bytes::writing::write_state` meets its contract.
 -- Assumes nothing.
 use native.Mathlib.Omega.{arith}
-use Prim.Native.Nat.{◌-◌}
 use Rattle.state_bytes.proofs.Written.{slots-none, slot-more, slots_end, state-written}
 use lib.ListN.{length-set}
 use Rattle.state_bytes.proofs.writing.write_state.Goals as goal

@@ -14,9 +14,9 @@ overflow_cast-x c = omega (arith, c.requires)
 pub children-requires : goal.children-requires
 children-requires c = refl
 
-pub copy-requires : goal.copy-requires
-copy-requires c =
+pub copy_from_slice-requires : goal.copy_from_slice-requires
+copy_from_slice-requires c =
     sym (ap length c.row.ensures ∙ row-length c.children.new.out 16 (c.args.x % 2) (omega (arith, c.children.auto.out)))
 
 pub returns : goal.returns
-returns c = c.copy.ensures ∙ (c.row.ensures ∙ child-row c.args.tree c.args.x _ _ c.children.ensures)
+returns c = c.copy_from_slice.ensures.after ∙ (c.row.ensures ∙ child-row c.args.tree c.args.x _ _ c.children.ensures)

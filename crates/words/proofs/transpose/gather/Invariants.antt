@@ -3,11 +3,8 @@
 use Rattle.words.specs.Steps.{at}
 use Rattle.words.proofs.Turns.{blocks}
 use mathlib.Core.Path.{◌≡◌}
-use Prim.Native.Nat.{◌+◌, ◌-◌, ◌*◌, ◌≤◌}
+use Prim.Native.Nat.{◌+◌, ◌*◌}
 use Rattle.words.proofs.transpose.gather.Given as goal
 
 abbrev pub invariant-loop-i : goal.invariant-loop-i
-invariant-loop-i l = (l.i ≤ l.n) × (l.x ≡ blocks 8 (λ k. at l.s (l.j + k * l.step)) l.i)
-
-abbrev pub decreases-loop-i : goal.decreases-loop-i
-decreases-loop-i l = l.n - l.i
+invariant-loop-i l = l.x ≡ blocks 8 (λ k. at l.s (l.j + k * l.step)) l.i

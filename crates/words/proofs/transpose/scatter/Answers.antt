@@ -3,9 +3,8 @@
 use Rattle.words.specs.Steps.{scattered}
 use Rattle.words.proofs.Turns.{place-within, scatter-none, scatter-turn, times_eight}
 use native.Mathlib.Omega.{arith}
-use mathlib.Core.Path.{◌≡◌, refl, sym, ap, ◌∙◌}
-use Prim.Native.Nat.{ℕ, ◌-◌}
-use lib.ListN.{length-set}
+use mathlib.Core.Path.{◌≡◌, sym, ap, ◌∙◌}
+use Prim.Native.Nat.{ℕ}
 use Rattle.words.proofs.transpose.scatter.Goals as goal
 
 pub scatter8-requires : goal.scatter8-requires
@@ -21,7 +20,7 @@ returns-then-n-eq8 c =
     r.scatter8.ensures ∙ ap (λ (k : ℕ). scattered k x.x x.j x.step x.memory.now) (sym e)
 
 pub loop-i-init : goal.loop-i-init
-loop-i-init c = (omega arith, (refl, scatter-none _ _ _ _))
+loop-i-init c = scatter-none _ _ _ _
 
 pub overflow_mul-memory-in-loop-i : goal.overflow_mul-memory-in-loop-i
 overflow_mul-memory-in-loop-i c =
@@ -40,11 +39,10 @@ bounds-memory-j c =
 
 pub loop-i-preserved : goal.loop-i-preserved
 loop-i-preserved c =
-    let l = c.loop-i in
-    (omega arith, (simp length-set l.invariant.1.0, scatter-turn _ _ _ _ _ _ l.invariant.1.1))
+    scatter-turn _ _ _ _ _ _ c.loop-i.invariant
 
 pub returns : goal.returns
 returns c =
     let x = c.args in
     let e : c.loop-i.i ≡ x.n = omega arith in
-    c.loop-i.invariant.1.1 ∙ ap (λ (k : ℕ). scattered k x.x x.j x.step x.memory.now) e
+    c.loop-i.invariant ∙ ap (λ (k : ℕ). scattered k x.x x.j x.step x.memory.now) e

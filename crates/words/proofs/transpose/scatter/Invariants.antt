@@ -2,13 +2,7 @@
 -- Assumes nothing.
 use Rattle.words.specs.Steps.{scattered}
 use mathlib.Core.Path.{◌≡◌}
-use Prim.Native.Nat.{◌-◌, ◌≤◌}
-use lib.ListN.{length}
 use Rattle.words.proofs.transpose.scatter.Given as goal
 
 abbrev pub invariant-loop-i : goal.invariant-loop-i
-invariant-loop-i l =
-    (l.i ≤ l.n) × ((length l.memory ≡ length l.initial.memory) × (l.memory ≡ scattered l.i l.x l.j l.step l.initial.memory))
-
-abbrev pub decreases-loop-i : goal.decreases-loop-i
-decreases-loop-i l = l.n - l.i
+invariant-loop-i l = l.memory ≡ scattered l.i l.x l.j l.step l.initial.memory

@@ -6,11 +6,8 @@ use lib.ListN.{take, length-take, length-drop, length-append, length}
 use Rattle.keccak.proofs.Steps.{squeezed-room, squeezed-aligned, given-parts}
 use Rattle.keccak.specs.Steps.{squeezed}
 use native.Mathlib.Omega.{arith}
-use mathlib.Core.Path.{◌≡◌, sym, ap, ◌∙◌}
+use mathlib.Core.Path.{◌≡◌, ap, ◌∙◌}
 use Rattle.keccak.proofs.sponge.Sponge.squeeze.Goals as goal
-
-pub slice_bounds-squeeze_bytes-end-2 : goal.slice_bounds-squeeze_bytes-end-2
-slice_bounds-squeeze_bytes-end-2 c = sym (length-take-le _ _ (omega arith))
 
 pub squeeze_lanes-b-requires : goal.squeeze_lanes-b-requires
 squeeze_lanes-b-requires c =

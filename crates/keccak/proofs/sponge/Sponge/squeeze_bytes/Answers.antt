@@ -4,10 +4,10 @@ use mathlib.Core.List.{[], ◌∷◌, ◌++◌}
 use native.Mathlib.Numerals.{add-one}
 use lib.Seq.{take-suc-set}
 use lib.ListN.{take, length-set}
-use Rattle.keccak.proofs.Steps.{halfway-start, halfway-more, halfway-end, turned-room, joined-full, joined-part}
+use Rattle.keccak.proofs.Steps.{halfway-more, halfway-end, joined-full, joined-part}
 use Rattle.keccak.specs.Steps.{byte_at, squeezes, squeezed, squeeze_byte, turned}
 use Rattle.keccak.specs.declared.sponge.Sponge.{Sponge}
-use Prim.Native.Nat.{◌+◌, ◌-◌, ◌<◌}
+use Prim.Native.Nat.{◌+◌}
 use native.Mathlib.Omega.{arith}
 use mathlib.Core.Path.{◌≡◌, ap, ◌∙◌}
 use Rattle.keccak.proofs.sponge.Sponge.squeeze_bytes.Goals as goal
@@ -15,54 +15,30 @@ use Rattle.keccak.proofs.sponge.Sponge.squeeze_bytes.Goals.{Joined-at-rate, then
 
 -- the sponge where the ways of the turn meet
 joined : (c : Joined-at-rate)
-    → ◌≡◌ {A = Sponge} (record { lanes = c.if-at-rate.l; fill = c.if-at-rate.at }) (turned c.args.rate (record { lanes = c.loop-i.l; fill = c.loop-i.at }))
+    → ◌≡◌ {A = Sponge} (record { lanes = c.if-at-rate.l; fill = c.if-at-rate.at }) (turned c.args.rate (record { lanes = c.loop-b.l; fill = c.loop-b.at }))
 joined c =
     elim c.if-at-rate.branch [
       | then-at-rate w ↦ joined-full _ _ _ _ _ w.if-at-rate.true (w.l-is ∙ w.permute.ensures) w.at-is
       | else-at-rate w ↦ joined-part _ _ _ _ _ w.if-at-rate.false w.l-is w.at-is
     ]
 
--- the turned block has room
-fits : (c : Joined-at-rate) → c.if-at-rate.at < c.args.rate
-fits c =
-    let b = c in
-    let l = c.loop-i in
-    rw (ap (λ (t : Sponge). t.fill) (joined c))
-    (turned-room b.args.rate b.requires.0 (record { lanes = l.l; fill = l.at }) l.invariant.room)
-
-pub loop-i-init : goal.loop-i-init
-loop-i-init c = let b = c in halfway-start b.args.rate b.requires.0 b.args.self b.args.out.now b.requires.1.1
-
-pub permute-requires : goal.permute-requires
-permute-requires c = tt
-
-pub byte_at-requires : goal.byte_at-requires
-byte_at-requires c = omega (arith, fits (goal.at.byte_at-requires c).Joined-at-rate)
-
-pub bounds-out-i : goal.bounds-out-i
-bounds-out-i c = let k = c.loop-i.invariant.kept in omega arith
-
-pub overflow_add-at : goal.overflow_add-at
-overflow_add-at c = omega (arith, fits (goal.at.overflow_add-at c).Joined-at-rate)
-
-pub loop-i-preserved : goal.loop-i-preserved
+pub loop-b-preserved : goal.loop-b-preserved
 unfolding squeezed squeezes squeeze_byte
-loop-i-preserved c =
+loop-b-preserved c =
     let b = c in
     let x = b.args in
-    let l = c.loop-i in
-    let j = c in
+    let l = c.loop-b in
     let s : Sponge = record { lanes = l.l; fill = l.at } in
-    let e = joined (goal.at.loop-i-preserved c).Joined-at-rate in
-    halfway-more x.rate b.requires.0 x.self x.out.now l.out s l.i 1 _ _ l.invariant
+    let e = joined (goal.at.loop-b-preserved c).Joined-at-rate in
+    halfway-more x.rate b.requires.0 x.self x.out.now l.out s l.b-index 1 _ _ l.invariant
     (omega arith)
-    (length-set l.out l.i _)
+    (length-set l.out l.b-index _)
     (ap (λ (t : Sponge). record { lanes = t.lanes; fill = t.fill + 1 }) e)
-    (rw (add-one, take-suc-set l.out l.i c.byte_at.result (omega (arith, l.invariant.kept)), c.byte_at.ensures)
-    (ap (λ (t : Sponge). take l.i l.out ++ (byte_at t.lanes t.fill ∷ [])) e))
+    (rw (add-one, take-suc-set l.out l.b-index c.byte_at.result (omega (arith, l.invariant.kept)), c.byte_at.ensures)
+    (ap (λ (t : Sponge). take l.b-index l.out ++ (byte_at t.lanes t.fill ∷ [])) e))
 
 pub returns : goal.returns
 returns c =
     let b = c in
-    let l = c.loop-i in
-    halfway-end b.args.rate b.requires.0 b.args.self b.args.out.now l.out _ l.i l.invariant (omega arith)
+    let l = c.loop-b in
+    halfway-end b.args.rate b.requires.0 b.args.self b.args.out.now l.out _ l.b-index l.invariant (omega arith)

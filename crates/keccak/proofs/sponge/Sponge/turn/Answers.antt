@@ -4,10 +4,10 @@ use borrow.Author.Tests.{eq-eqb, ne_eqb}
 use Rattle.keccak.specs.Steps.{turned}
 use Rattle.keccak.proofs.sponge.Sponge.turn.Goals as goal
 
-pub returns-then-at-rate : goal.returns-then-at-rate
+pub returns-then-self-rate : goal.returns-then-self-rate
 unfolding turned
-returns-then-at-rate c = rw (eq-eqb _ _ c.if-at-rate.true, ← c.permute.ensures)
+returns-then-self-rate c = rw (eq-eqb _ _ c.if-self-rate.true, ← c.permute.ensures)
 
-pub returns-else-at-rate : goal.returns-else-at-rate
+pub returns-else-self-rate : goal.returns-else-self-rate
 unfolding turned
-returns-else-at-rate c = rw (ne_eqb _ _ c.if-at-rate.false)
+returns-else-self-rate c = rw (ne_eqb _ _ c.if-self-rate.false)

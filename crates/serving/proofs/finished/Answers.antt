@@ -1,7 +1,0 @@
--- `serving::finished` meets its contract.
--- Assumes nothing.
-use mathlib.Core.Path.{refl}
-use Rattle.serving.proofs.finished.Goals as goal
-
-pub returns : goal.returns
-returns c = refl
