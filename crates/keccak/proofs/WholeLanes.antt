@@ -149,18 +149,23 @@ take-lane out i x h =
     ap (take (i + 8)) (sets-eq v out i (omega arith)) ∙ take_at (take i out ++ v) (drop (i + length v) out) (i + 8) k
 
 -- one lane more of the bytes XORed in
-pub xor_bytes-turn : (P : List ℕ) (k j : ℕ) (l : List ℕ) (x : ℕ) → ((n : ℕ) → get_or P n 0 < 256) → 8 * j + 8 ≤ length P → k % 8 ≡ 0 → x ≡ le_at 8 P (8 * j)
-    → xor_bytes (set l (k / 8 + j) (bit_xor (get_or l (k / 8 + j) 0) x)) (k + 8 * (j + 1)) (drop (8 * (j + 1)) P) ≡ xor_bytes l (k + 8 * j) (drop (8 * j) P)
-xor_bytes-turn P k j l x small w lane-start e =
-    let i : ℕ = 8 * j in
-    let start : (k + i) % 8 ≡ 0 = omega arith in
-    let place : k / 8 + j ≡ (k + i) / 8 = omega arith in
-    let next : 8 * (j + 1) ≡ i + 8 = omega arith in
-    rw (place, next) (
+pub xor_bytes-turn : (P : List ℕ) (k i : ℕ) (l : List ℕ) (x : ℕ) → ((n : ℕ) → get_or P n 0 < 256) → i + 8 ≤ length P → (k + i) % 8 ≡ 0 → x ≡ le_at 8 P i
+    → xor_bytes (set l ((k + i) / 8) (bit_xor (get_or l ((k + i) / 8) 0) x)) (k + (i + 8)) (drop (i + 8) P) ≡ xor_bytes l (k + i) (drop i P)
+xor_bytes-turn P k i l x small w start e =
     let M : List ℕ = le_bytes 8 (le_at 8 P i) in
     let n : length M ≡ 8 = length-le_bytes 8 (le_at 8 P i) in
     let lane : set l ((k + i) / 8) (bit_xor (get_or l ((k + i) / 8) 0) x) ≡ xor_bytes l (k + i) M =
     ap (λ (y : ℕ). set l ((k + i) / 8) (bit_xor (get_or l ((k + i) / 8) 0) y)) e ∙ sym (xor_bytes-lane (k + i) start l (le_at 8 P i) (le_at-lt 8 P i small)) in
     ap₂ (λ (t : List ℕ) (m : ℕ). xor_bytes t m (drop (i + 8) P)) lane (let z : k + (i + 8) ≡ k + i + length M = omega arith in z)
     ∙ sym (xor_bytes-append M (drop (i + 8) P) l (k + i))
-    ∙ ap (xor_bytes l (k + i)) (next-lane P i small w))
+    ∙ ap (xor_bytes l (k + i)) (next-lane P i small w)
+
+-- the same by the number of the lane
+pub xor_bytes-lane-turn : (P : List ℕ) (k j : ℕ) (l : List ℕ) (x : ℕ) → ((n : ℕ) → get_or P n 0 < 256) → 8 * j + 8 ≤ length P → k % 8 ≡ 0 → x ≡ le_at 8 P (8 * j)
+    → xor_bytes (set l (k / 8 + j) (bit_xor (get_or l (k / 8 + j) 0) x)) (k + 8 * (j + 1)) (drop (8 * (j + 1)) P) ≡ xor_bytes l (k + 8 * j) (drop (8 * j) P)
+xor_bytes-lane-turn P k j l x small w lane-start e =
+    let i : ℕ = 8 * j in
+    let start : (k + i) % 8 ≡ 0 = omega arith in
+    let place : k / 8 + j ≡ (k + i) / 8 = omega arith in
+    let next : 8 * (j + 1) ≡ i + 8 = omega arith in
+    rw (place, next) (xor_bytes-turn P k i l x small w start e)

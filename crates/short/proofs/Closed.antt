@@ -15,7 +15,7 @@ use Rattle.keccak.specs.Steps.{empty, absorbs, closed, xor_byte, xor_bytes}
 use Rattle.keccak.proofs.Absorbing.{Bytes}
 use Rattle.keccak.proofs.Bytes.{bytes-zeros}
 use Rattle.keccak.proofs.Steps.{turned-part, absorbs-block, xor_bytes-append}
-use Rattle.keccak.proofs.WholeLanes.{xor_bytes-turn}
+use Rattle.keccak.proofs.WholeLanes.{xor_bytes-lane-turn}
 
 -- n lanes of a string of bytes, from byte i on
 unfoldable pub lanes_at : ℕ → List ℕ → ℕ → List ℕ
@@ -49,7 +49,7 @@ lanes-in (suc n) w m p bytes l =
     let next' : 0 + 8 * (length p + 1) ≡ 8 * length q = omega arith in
     let after : i + 8 ≡ 8 * length q = omega arith in
     ap₂ (λ (t u : ℕ). xor_bytes (p ++ replicate t 0) u (drop i m)) one start
-    ∙ sym (xor_bytes-turn m 0 (length p) (p ++ 0 ∷ r) x bytes (omega arith) (omega arith) refl)
+    ∙ sym (xor_bytes-lane-turn m 0 (length p) (p ++ 0 ∷ r) x bytes (omega arith) (omega arith) refl)
     ∙ ap₂ (λ (s : List ℕ) (t : ℕ). xor_bytes s (0 + 8 * (length p + 1)) (drop t m)) put next
     ∙ ap (λ (t : ℕ). xor_bytes (q ++ r) t (drop (8 * length q) m)) next'
     ∙ lanes-in n w m q bytes (omega arith)
