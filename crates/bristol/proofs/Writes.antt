@@ -1,10 +1,10 @@
 -- The walk that stores the records of good gate lines, and what a buffer holds after it.
 -- Assumes nothing.
-use mathlib.Core.Path.{◌≡◌, refl, sym, ap, ap₂, subst, ◌∙◌}
+use mathlib.Core.Path.{◌≡◌, refl, sym, ap, ap₂, ◌∙◌}
 use mathlib.Core.Bool.{Bool, true, false, cond, not}
 use mathlib.Core.List.{List, [], ◌∷◌, ◌++◌, flatten}
 use mathlib.Core.Option.{Option, none, some}
-use Rattle.std.specs.Prelude.{Result, Ok, Err, IsOk}
+use Rattle.std.specs.Prelude.{Result, Ok, IsOk}
 use Prim.Native.Nat.{ℕ, suc, ◌+◌, ◌-◌, ◌≤◌, ◌<◌}
 use native.Mathlib.Omega.{arith}
 use lib.ListN.{length, drop}
@@ -19,11 +19,10 @@ use Rattle.circuit.specs.Steps.{output_place, record_place}
 use Rattle.building.specs.Steps.{four_bytes}
 use Rattle.building.proofs.Built.{built, not-built}
 use Rattle.bristol_text.specs.Text.{Line, lines}
-use Rattle.bristol_text.specs.declared.Cursor.{Cursor}
 use Rattle.bristol_lines.specs.Rules.{GateLine, Text, Reading, refused, says, is_known, kind_on, gate_on, writes, fits_below, last_wire, gate_else22, gate_lines}
 use Rattle.bristol_lines.specs.Conversion.{slot_of, first_slot, text_file}
 use Rattle.bristol.specs.Operations.{conversion}
-use Rattle.bristol_lines.specs.Steps.{record_bytes, line_of, gate_of, read_as, gate_read, first_gate, Gated, GateAt, Few, gates_at, refusal_of, gate_before, gates_from, Going, Output, Room, Started, stored, filed}
+use Rattle.bristol_lines.specs.Steps.{record_bytes, line_of, gate_of, read_as, gate_read, first_gate, GateAt, Few, gates_at, refusal_of, gate_before, gates_from, Going, Output, Room, Started, stored, filed}
 use Rattle.bristol_lines.specs.declared.Gate.{Gate}
 use Rattle.bristol_lines.specs.declared.Sizes.{Sizes}
 use Rattle.bristol_lines.proofs.Accepted.{Accepted, More, gates-accepted, below, accepted}
@@ -87,25 +86,23 @@ pub record Next (s : List ℕ) (z : Sizes) (left at next : ℕ) (g : Gate) : Typ
   pub wire : Output z (writes (line_of g))
   pub gates : gates_from (lines (drop at s)) ≡ line_of g ∷ gates_from (lines (drop next s))
 
-read_ok : (s : List ℕ) (at : ℕ) (r : Result (Gate × Cursor) Refusal) → GateAt s at r → (g : Gate) → first_gate (lines (drop at s)) ≡ Ok g → IsOk r
-read_ok s at (Ok p) l g e = refl
-read_ok s at (Err k) l g e = absurd (cc)
-
-module _ (s : List ℕ) (z : Sizes) (left at : ℕ) (go : Going s z left at) (h : 1 ≤ left) (r : Result (Gate × Cursor) Refusal) (l : GateAt s at r) where
+module _ (s : List ℕ) (z : Sizes) (left at : ℕ) (go : Going s z left at) (h : 1 ≤ left) (r : Result Gate Refusal) (next : ℕ) (l : GateAt s at r next) where
   first-line : Passed z.inputs z.outputs z.gates (left - 1) go.above (lines (drop at s))
   first-line =
       let p : left ≡ suc (left - 1) = omega arith in
       going_step z.inputs z.outputs z.gates (left - 1) go.above (lines (drop at s))
       (ap (λ (i : ℕ). refusal_of (gate_lines z.inputs z.outputs z.gates i go.above (lines (drop at s)))) (sym p) ∙ go.good)
 
+  is_read : r ≡ Ok first-line.gate
+  is_read = l.read ∙ first-line.read
+
   -- it has a gate
   pub always-ok : IsOk r
-  always-ok = read_ok s at r l first-line.gate first-line.read
+  always-ok = rw is_read refl
 
-  pub next-line : (g : Gate) (c : Cursor) → r ≡ Ok (g, c) → Next s z left at c.at g
-  next-line g c e =
-      let l : Gated s at g c.at = subst (GateAt s at) e l in
-      let q : first-line.gate ≡ g = cc (l.read, first-line.read) in
+  pub next-line : (g : Gate) → r ≡ Ok g → Next s z left at next g
+  next-line g e =
+      let q : first-line.gate ≡ g = cc is_read in
       let w = fits-writes z.inputs z.gates go.above (line_of first-line.gate) first-line.fits in
       record {
         going = record { above = go.above ++ (line_of first-line.gate ∷ []); good = rw l.rest first-line.good };
@@ -124,12 +121,12 @@ pub record Held (s : List ℕ) (z : Sizes) (out₀ : List ℕ) (x : List ℕ) (o
 module _ (s : List ℕ) (z : Sizes) (out₀ x : List ℕ) where
   module _ (out : List ℕ) (g : Gate) (left at : ℕ) (k : Held s z out₀ x out g left at) where
     -- the record of the gate that is held, with the slot of the next
-    pub held_more : 1 ≤ left → (r : Result (Gate × Cursor) Refusal) → GateAt s at r → (h : Gate) (c : Cursor) → r ≡ Ok (h, c) → (slot : ℕ) → slot ≡ writes (line_of h) - z.inputs + 1
+    pub held_more : 1 ≤ left → (r : Result Gate Refusal) (next : ℕ) → GateAt s at r next → (h : Gate) → r ≡ Ok h → (slot : ℕ) → slot ≡ writes (line_of h) - z.inputs + 1
         → (new : List ℕ) → new ≡ sets out (record_place z.outputs (writes (line_of g) - z.inputs)) (record_bytes (line_of g) slot)
-        → Held s z out₀ x new h (left - 1) c.at
+        → Held s z out₀ x new h (left - 1) next
     unfolding stored first_slot slot_of
-    held_more p r l h c e slot f new q =
-        let n = next-line s z left at k.going p r l h c e in
+    held_more p r next l h e slot f new q =
+        let n = next-line s z left at k.going p r next l h e in
         record {
           few = omega (arith, k.few);
           size = ap length q ∙ length-sets out (record_place z.outputs (writes (line_of g) - z.inputs)) (record_bytes (line_of g) slot) ∙ k.size;

@@ -19,7 +19,8 @@ fn check_line(
     requires { (length flags.now ≡ wire_bytes) × Few z }
     ensures { LineTold s.now z c.at flags.now result }
 {
-    let (gate, next) = next_gate(s, c)?;
+    let (gate, next) = next_gate(s, c);
+    let gate = gate?;
     if !fits(flags, z.inputs, z.gates, gate) {
         return Err(Refusal::Text);
     }

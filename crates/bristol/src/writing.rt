@@ -65,7 +65,8 @@ fn write_records(s: &[u8], z: Sizes, c: Cursor, first: Gate, out: &mut [u8])
     let mut g = first;
     let mut at = c.at;
     for _ in 1..z.gates {
-        let (h, next) = next_gate(s, Cursor { at }).unwrap();
+        let (gate, next) = next_gate(s, Cursor { at });
+        let h = gate.unwrap();
         let slot = output_wire(h) - z.inputs + 1;
         write_record(out, z, g, slot);
         g = h;
@@ -84,7 +85,8 @@ pub(crate) fn write_file(s: &[u8], z: Sizes, c: Cursor, out: &mut [u8])
         write_outputs(out, z);
         return;
     }
-    let (g, next) = next_gate(s, c).unwrap();
+    let (gate, next) = next_gate(s, c);
+    let g = gate.unwrap();
     let slot = output_wire(g) - z.inputs + 1;
     write_fields(out, 0, z.inputs, z.outputs, z.gates, slot);
     write_outputs(out, z);

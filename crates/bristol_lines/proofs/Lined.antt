@@ -5,7 +5,7 @@ use mathlib.Core.Bool.{Bool, true, false, cond, not, ◌&&◌, ◌||◌}
 use mathlib.Core.List.{List, [], ◌∷◌, ◌++◌}
 use mathlib.Core.Logic.{⊎_elim}
 use mathlib.Core.Option.{Option, none, some}
-use Rattle.std.specs.Prelude.{Result, Ok, Err}
+use Rattle.std.specs.Prelude.{Ok, Err}
 use Prim.Native.Nat.{ℕ, suc, ◌+◌, ◌-◌, ◌*◌, ◌≤◌, ◌<◌}
 use Rattle.bits.proofs.Numbers.{eq-or-ne, odd-bit_val}
 use native.Mathlib.Omega.{arith}
@@ -20,11 +20,10 @@ use Rattle.circuit.specs.Steps.{wire_bytes}
 use Rattle.bristol_text.specs.Text.{Line, lines}
 use Rattle.bristol_text.specs.Steps.{LineAt, values_before, are_fields, FirstFive}
 use Rattle.bristol_text.specs.declared.Fields.{Fields}
-use Rattle.refusal.specs.declared.Refusal.{Refusal}
 use Rattle.refusal.specs.declared.Refusal.TheVariants as refusal
-use Rattle.bristol_text.proofs.Lines.{no_line, line-here}
+use Rattle.bristol_text.proofs.Lines.{lines_end, line_after, no_line, line-here}
 use Rattle.bristol_lines.specs.Rules.{GateLine, xor, and, inv, Reading, refused, is_known, kind_on, begins, gate_named, gate_on, writes, written, readable, writable, fits_below, gate_else22, gate_lines}
-use Rattle.bristol_lines.specs.Steps.{line_of, gate_of, read_as, gate_read, gate_from, starts_with, first_gate, flagged, may_read, may_write, fits_flags, line_refusal, Writing, Few, gates_at, refusal_of}
+use Rattle.bristol_lines.specs.Steps.{line_of, gate_of, read_as, gate_read, gate_from, starts_with, first_gate, GateAt, flagged, may_read, may_write, fits_flags, line_refusal, Writing, Few, gates_at, refusal_of}
 use Rattle.bristol_lines.specs.declared.Kind.{Kind}
 use Rattle.bristol_lines.specs.declared.Kind.TheVariants.{Xor, And, Inv, Other}
 use Rattle.bristol_lines.specs.declared.Gate.{Gate}
@@ -118,9 +117,9 @@ known_kind Other n = absurd (n refl)
 
 -- a gate line: another kind, then no numbers before it or no LF, then by its numbers
 module _ (l : Line) where
-  pub gate-unknown : kind_on l.bytes ≡ Other → Err refusal.GateKind ≡ gate_read l
+  pub gate_unknown : kind_on l.bytes ≡ Other → gate_read l ≡ Err refusal.GateKind
   unfolding gate_read is_known
-  gate-unknown e = rw e
+  gate_unknown e = rw e
 
   module _ (known : is_known (kind_on l.bytes) ≡ true) where
     malformed : l.ended && are_fields l.bytes ≡ false → Err refusal.Text ≡ gate_read l
@@ -139,17 +138,21 @@ module _ (l : Line) where
 
 -- the next line as a gate line
 module _ (s : List ℕ) (at first last : ℕ) (k : LineAt s at first last) where
-  pub gate-none : length s ≤ first → first_gate (lines (drop at s)) ≡ Err refusal.Text
+  pub gate-none : length s ≤ first → GateAt s at (Err refusal.Text) last
   unfolding first_gate
-  gate-none h = ap first_gate (no_line s at first last k h)
+  gate-none h =
+      let e = no_line s at first last k h in
+      record {
+        read = sym (ap first_gate e);
+        rest = lines_end s last (omega (arith, line_after s at first last k)) ∙ sym (ap (drop 1) e);
+      }
 
-  pub gate-here : (r : Result Gate Refusal) → first < length s → r ≡ gate_read (record { bytes = take (last - first) (drop first s); ended = ltb last (length s) })
-      → first_gate (lines (drop at s)) ≡ r
+  pub read_here : first < length s → first_gate (lines (drop at s)) ≡ gate_read (record { bytes = take (last - first) (drop first s); ended = ltb last (length s) })
   unfolding first_gate
-  gate-here r h e = ap first_gate (line-here s at first last k h) ∙ sym e
+  read_here h = ap first_gate (line-here s at first last k h)
 
-  pub gate-rest : first < length s → lines (drop last s) ≡ drop 1 (lines (drop at s))
-  gate-rest h = sym (ap (drop 1) (line-here s at first last k h))
+  pub rest_here : first < length s → lines (drop last s) ≡ drop 1 (lines (drop at s))
+  rest_here h = sym (ap (drop 1) (line-here s at first last k h))
 
 -- a gate line among the others
 pub line-of-gate : (g : GateLine) → line_of (gate_of g) ≡ g

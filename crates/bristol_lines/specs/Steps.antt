@@ -110,14 +110,10 @@ gate_from And k ns = cond (starts_with 2 k (get_or ns 0 0) (get_or ns 1 0)) (Ok 
 gate_from Inv k ns = cond (starts_with 1 k (get_or ns 0 0) (get_or ns 1 0)) (Ok (gate.Inv (get_or ns 2 0) (get_or ns 3 0))) (Err refusal.Text)
 gate_from Other k ns = Err refusal.GateKind
 
--- what is told of the first of the lines from a place on: the gate on it, and the place after it
-pub record Gated (s : List ℕ) (at : ℕ) (g : Gate) (next : ℕ) : Type 0 where
-  pub read : first_gate (lines (drop at s)) ≡ Ok g
+-- what is told of the first of the lines from a place on as a gate line: how it reads, and the place after it
+pub record GateAt (s : List ℕ) (at : ℕ) (r : Result Gate Refusal) (next : ℕ) : Type 0 where
+  pub read : r ≡ first_gate (lines (drop at s))
   pub rest : lines (drop next s) ≡ drop 1 (lines (drop at s))
-
-abbrev pub GateAt : List ℕ → ℕ → Result (Gate × Cursor) Refusal → Type 0
-GateAt s at (Ok p) = Gated s at p.0 p.1.at
-GateAt s at (Err k) = first_gate (lines (drop at s)) ≡ Err k
 
 -- the tests on a gate line's wires, where the flagged wires are written
 unfoldable pub flagged : List ℕ → ℕ → Bool

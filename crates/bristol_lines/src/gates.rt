@@ -52,6 +52,7 @@ fn gate_of(kind: Kind, count: usize, n: [usize; 5]) -> Result<Gate, Refusal>
 }
 
 // The gate on a line, which an LF ends or not. Its kind is tested first, then its form: an LF, and numbers before the kind.
+#[tactic(auto, using(crate::proofs::Lined::gate_unknown))]
 fn line_gate(l: &[u8], ended: bool) -> Result<Gate, Refusal>
     ensures { result ≡ gate_read (record { bytes = l.now; ended = ended }) }
 {
@@ -69,15 +70,16 @@ fn line_gate(l: &[u8], ended: bool) -> Result<Gate, Refusal>
 }
 
 // The gate on the next line, and the place after it.
-pub fn next_gate(s: &[u8], c: Cursor) -> Result<(Gate, Cursor), Refusal>
-    ensures { GateAt s.now c.at result }
+#[tactic(auto, using(crate::proofs::Lined::read_here, crate::proofs::Lined::rest_here))]
+pub fn next_gate(s: &[u8], c: Cursor) -> (Result<Gate, Refusal>, Cursor)
+    ensures { GateAt s.now c.at result.0 result.1.at }
 {
     let Span { first, last } = next_line(s, c);
     if s.len() <= first {
-        return Err(Refusal::Text);
+        return (Err(Refusal::Text), Cursor { at: last });
     }
-    let gate = line_gate(&s[first..last], last < s.len())?;
-    Ok((gate, Cursor { at: last }))
+    let gate = line_gate(&s[first..last], last < s.len());
+    (gate, Cursor { at: last })
 }
 
 // The wire that a gate writes.

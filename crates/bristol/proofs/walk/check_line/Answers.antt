@@ -15,21 +15,21 @@ unfolding line_refusal
 returns-in_err-gate c =
     let x = c.args in
     let p = err_from_is_err_and c.from_residual.result c.from_residual.ensures.1 in
-    rw (p.1, p.2) (ap (line_refusal x.z.inputs x.z.gates x.flags.now) c.in_err-gate.ensures)
+    rw (p.1, p.2) (ap (line_refusal x.z.inputs x.z.gates x.flags.now) (sym c.next_gate-gate.ensures.read ∙ c.in_err-gate.was))
 
 pub returns-then-not-fits : goal.returns-then-not-fits
 unfolding line_refusal
 returns-then-not-fits c =
     let x = c.args in
-    ap (line_refusal x.z.inputs x.z.gates x.flags.now) c.in_ok-gate.ensures.read
+    ap (line_refusal x.z.inputs x.z.gates x.flags.now) (sym c.next_gate-gate.ensures.read ∙ c.in_ok-gate.was)
     ∙ rw (sym c.fits.ensures ∙ c.if-not-fits.true)
 
 pub returns : goal.returns
 returns c =
     record {
       gate = _;
-      read = c.in_ok-gate.ensures.read;
+      read = sym c.next_gate-gate.ensures.read ∙ c.in_ok-gate.was;
       fits = sym c.fits.ensures ∙ c.if-not-fits.false;
       wire = c.output_wire.ensures;
-      rest = c.in_ok-gate.ensures.rest;
+      rest = c.next_gate-gate.ensures.rest;
     }

@@ -32,18 +32,18 @@ returns-then-z-eq0 c =
 pub unwrap-g-requires : goal.unwrap-g-requires
 unwrap-g-requires c =
     let x = c in
-    always-ok x.args.s.now x.args.z _ _ (going_start x.args.s.now x.args.z x.args.c.at x.requires.0.few x.requires.1) (omega arith) _ c.next_gate.ensures
+    always-ok x.args.s.now x.args.z _ _ (going_start x.args.s.now x.args.z x.args.c.at x.requires.0.few x.requires.1) (omega arith) _ _ c.next_gate-gate.ensures
 
 pub overflow_sub-slot : goal.overflow_sub-slot
 overflow_sub-slot c =
     let x = c in
-    let n = next-line x.args.s.now x.args.z _ _ (going_start x.args.s.now x.args.z x.args.c.at x.requires.0.few x.requires.1) (omega arith) _ c.next_gate.ensures _ _ c.unwrap-g.ensures in
+    let n = next-line x.args.s.now x.args.z _ _ (going_start x.args.s.now x.args.z x.args.c.at x.requires.0.few x.requires.1) (omega arith) _ _ c.next_gate-gate.ensures _ c.unwrap-g.ensures in
     omega (arith, c.output_wire.ensures, n.wire.low)
 
 pub overflow_add-slot : goal.overflow_add-slot
 overflow_add-slot c =
     let x = c in
-    let n = next-line x.args.s.now x.args.z _ _ (going_start x.args.s.now x.args.z x.args.c.at x.requires.0.few x.requires.1) (omega arith) _ c.next_gate.ensures _ _ c.unwrap-g.ensures in
+    let n = next-line x.args.s.now x.args.z _ _ (going_start x.args.s.now x.args.z x.args.c.at x.requires.0.few x.requires.1) (omega arith) _ _ c.next_gate-gate.ensures _ c.unwrap-g.ensures in
     let f = x.requires.0.few in
     omega (arith, c.output_wire.ensures, n.wire.high, f.few_inputs, f.few_gates)
 
@@ -59,7 +59,7 @@ write_outputs-requires-2 c =
 pub write_records-requires : goal.write_records-requires
 write_records-requires c =
     let x = c in
-    let n = next-line x.args.s.now x.args.z _ _ (going_start x.args.s.now x.args.z x.args.c.at x.requires.0.few x.requires.1) (omega arith) _ c.next_gate.ensures _ _ c.unwrap-g.ensures in
+    let n = next-line x.args.s.now x.args.z _ _ (going_start x.args.s.now x.args.z x.args.c.at x.requires.0.few x.requires.1) (omega arith) _ _ c.next_gate-gate.ensures _ c.unwrap-g.ensures in
     let r = room-sets x.args.z x.args.out.now _ x.requires.0 0 (four_bytes x.args.z.inputs x.args.z.outputs x.args.z.gates (c.output_wire.result - x.args.z.inputs + 1)) c.write_fields-2.ensures in
     record {
       room = room-sets x.args.z _ _ r (output_place 0) (flatten (tabulate x.args.z.outputs (λ k. le_bytes width (x.args.z.inputs + x.args.z.gates - x.args.z.outputs + k)))) c.write_outputs-2.ensures;
@@ -71,7 +71,7 @@ write_records-requires c =
 pub returns : goal.returns
 returns c =
     let x = c in
-    let n = next-line x.args.s.now x.args.z _ _ (going_start x.args.s.now x.args.z x.args.c.at x.requires.0.few x.requires.1) (omega arith) _ c.next_gate.ensures _ _ c.unwrap-g.ensures in
+    let n = next-line x.args.s.now x.args.z _ _ (going_start x.args.s.now x.args.z x.args.c.at x.requires.0.few x.requires.1) (omega arith) _ _ c.next_gate-gate.ensures _ c.unwrap-g.ensures in
     let e = c.write_outputs-2.ensures ∙ ap (λ (l : List ℕ). sets l (output_place 0) (flatten (tabulate x.args.z.outputs (λ k. le_bytes width (x.args.z.inputs + x.args.z.gates - x.args.z.outputs + k))))) c.write_fields-2.ensures in
     c.write_records.ensures
     ∙ ap (stored _ _ _) e

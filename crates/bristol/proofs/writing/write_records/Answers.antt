@@ -14,18 +14,18 @@ loop-init c =
 pub unwrap-h-requires : goal.unwrap-h-requires
 unwrap-h-requires c =
     let x = c.args in
-    always-ok x.s.now x.z _ _ c.loop.invariant.going (omega arith) _ c.next_gate.ensures
+    always-ok x.s.now x.z _ _ c.loop.invariant.going (omega arith) _ _ c.next_gate-gate.ensures
 
 pub overflow_sub-slot : goal.overflow_sub-slot
 overflow_sub-slot c =
     let x = c.args in
-    let n = next-line x.s.now x.z _ _ c.loop.invariant.going (omega arith) _ c.next_gate.ensures _ _ c.unwrap-h.ensures in
+    let n = next-line x.s.now x.z _ _ c.loop.invariant.going (omega arith) _ _ c.next_gate-gate.ensures _ c.unwrap-h.ensures in
     omega (arith, c.output_wire.ensures, n.wire.low)
 
 pub overflow_add-slot : goal.overflow_add-slot
 overflow_add-slot c =
     let x = c.args in
-    let n = next-line x.s.now x.z _ _ c.loop.invariant.going (omega arith) _ c.next_gate.ensures _ _ c.unwrap-h.ensures in
+    let n = next-line x.s.now x.z _ _ c.loop.invariant.going (omega arith) _ _ c.next_gate-gate.ensures _ c.unwrap-h.ensures in
     let f = c.requires.room.few in
     omega (arith, c.output_wire.ensures, n.wire.high, f.few_inputs, f.few_gates)
 
@@ -39,7 +39,7 @@ loop-preserved c =
     let x = c.args in
     let e : x.z.gates - (c.loop.counter + 1) ≡ x.z.gates - c.loop.counter - 1 = omega arith in
     rw e
-    (held_more x.s.now x.z x.out.now _ _ _ _ _ c.loop.invariant (omega arith) _ c.next_gate.ensures _ _ c.unwrap-h.ensures _
+    (held_more x.s.now x.z x.out.now _ _ _ _ _ c.loop.invariant (omega arith) _ _ c.next_gate-gate.ensures _ c.unwrap-h.ensures _
     (ap (λ (w : ℕ). w - x.z.inputs + 1) c.output_wire.ensures) _ c.write_record.ensures)
 
 pub write_record-requires-2 : goal.write_record-requires-2

@@ -4,11 +4,8 @@ use mathlib.Core.Path.{sym, ap, ◌∙◌}
 use Rattle.bristol_lines.specs.Rules.{is_known}
 use Rattle.bristol_lines.specs.Steps.{gate_from}
 use Rattle.bristol_lines.specs.declared.Kind.{Kind}
-use Rattle.bristol_lines.proofs.Lined.{known_kind, gate-unknown, gate-unfielded, gate-unended, gate-good}
+use Rattle.bristol_lines.proofs.Lined.{known_kind, gate-unfielded, gate-unended, gate-good}
 use Rattle.bristol_lines.proofs.gates.line_gate.Goals as goal
-
-pub returns-in-Other : goal.returns-in-Other
-returns-in-Other c = gate-unknown _ (sym c.line_kind-kind.ensures ∙ c.in-Other.is)
 
 pub returns-in_default-read_fields : goal.returns-in_default-read_fields
 returns-in_default-read_fields c =
