@@ -1,6 +1,6 @@
 -- A call in the code, by its cases.
 -- Assumes nothing.
-use mathlib.Core.Path.{◌≡◌, sym, ap, ◌∙◌, subst}
+use mathlib.Core.Path.{◌≡◌, refl, sym, ap, ◌∙◌}
 use mathlib.Core.Bool.{Bool, true, false, ◌&&◌}
 use mathlib.Core.List.{List, []}
 use mathlib.Core.Option.{Option, none, some}
@@ -8,7 +8,7 @@ use Prim.Native.Nat.{ℕ, ◌≤◌, ◌<◌}
 use borrow.Author.Tests.{le-leb, lt-leb}
 use lib.Dec.{leb}
 use lib.ListN.{length, replicate}
-use Rattle.std.specs.Prelude.{Result, Ok, Err, IfOk}
+use Rattle.std.specs.Prelude.{Result, Ok, Err}
 use Rattle.refusal.specs.declared.Refusal.{Refusal}
 use Rattle.refusal.specs.declared.Refusal.TheVariants.{BufferLength, Parameter, NoneWaiting}
 use Rattle.refusal.specs.Refusal.{number_of}
@@ -19,9 +19,9 @@ use Rattle.shared.specs.declared.Job.{Job}
 use Rattle.shared.specs.declared.Shared.{Shared}
 use Rattle.shared.specs.Service.{unless_refused, service_at}
 use Rattle.shared.specs.StateSteps.{state_of, refusal_of}
-use Rattle.shared.specs.Operations.{long_work, call_refusal, called, verdicts_of, work_after_call}
+use Rattle.shared.specs.Operations.{long_work, call_refusal, called, noted, verdicts_of, work_after_call}
 use Rattle.calling.specs.declared.Called.{Called}
-use Rattle.calling.specs.Steps.{Replies}
+use Rattle.calling.specs.Steps.{Replies, state_told, count_told, verdicts_told}
 use Rattle.calling.proofs.Turns.{next-is}
 
 module _ (s : Shared) (quota : ℕ) (buffer work : List ℕ) where
@@ -29,13 +29,27 @@ module _ (s : Shared) (quota : ℕ) (buffer work : List ℕ) where
   abbrev Calling : Result Called Refusal → List ℕ → Type 0
   Calling r w =
       (refusal_of r ≡ call_refusal quota work (state_of s))
-      × (IfOk r (λ x. Replies x (called quota buffer work (state_of s)))
-      × (w ≡ work_after_call quota work (state_of s)))
+      × ((state_told s r ≡ (called quota buffer work (state_of s)).1)
+      × ((count_told r ≡ length (called quota buffer work (state_of s)).0)
+      × ((verdicts_told r ≡ verdicts_of (called quota buffer work (state_of s)).0)
+      × (w ≡ work_after_call quota work (state_of s)))))
+
+  -- an answer tells of these services, and of the state that they leave
+  abbrev Tells : Result Called Refusal → List (Service ℕ) × State Job → Type 0
+  Tells r x = (state_told s r ≡ x.1) × ((count_told r ≡ length x.0) × (verdicts_told r ≡ verdicts_of x.0))
+
+  -- with this refusal, these services and this state, and this work buffer
+  calling-is : (r : Result Called Refusal) (w v : List ℕ) (o : Option ℕ) (x : List (Service ℕ) × State Job) → call_refusal quota work (state_of s) ≡ o
+      → called quota buffer work (state_of s) ≡ x → work_after_call quota work (state_of s) ≡ v → refusal_of r ≡ o → Tells r x → w ≡ v → Calling r w
+  calling-is r w v o x eo ex ew q y z =
+      (q ∙ sym eo, (y.0 ∙ sym (ap (λ (i : List (Service ℕ) × State Job). i.1) ex), (y.1.0 ∙ sym (ap (λ (i : List (Service ℕ) × State Job). length i.0) ex), (y.1.1 ∙ sym (ap (λ (i : List (Service ℕ) × State Job). verdicts_of i.0) ex), z ∙ sym ew))))
 
   refused-with : (k : Refusal) → call_refusal quota work (state_of s) ≡ some (number_of k) → Calling (Err k) work
-  unfolding work_after_call
+  unfolding called work_after_call noted
   refused-with k e =
-      (sym e, (tt, sym (ap (λ (o : Option ℕ). unless_refused o (λ (m : ℕ). work) (replicate (length work) 0)) e)))
+      calling-is (Err k) work work (some (number_of k)) ([], state_of s) e
+      (ap (λ (o : Option ℕ). unless_refused o (λ (m : ℕ). ([], state_of s)) (serve 16 (λ c. service_at buffer) quota (state_of s))) e)
+      (ap (λ (o : Option ℕ). unless_refused o (λ (m : ℕ). work) (replicate (length work) 0)) e) refl (refl, (refl, refl)) refl
 
   -- the quota's test
   abbrev Named : Bool
@@ -67,10 +81,7 @@ module _ (s : Shared) (quota : ℕ) (buffer work : List ℕ) where
           → Replies r (serve 16 (λ c. service_at buffer) quota (state_of s)) → w ≡ replicate (length work) 0 → Calling (Ok r) w
       unfolding called work_after_call
       call-made r w l q z =
-          let e = accepted l in (
-            sym e,
-            (
-              subst (Replies r) (sym (ap (λ (o : Option ℕ). unless_refused o (λ (m : ℕ). ([], state_of s)) (serve 16 (λ c. service_at buffer) quota (state_of s))) e)) q,
-              z ∙ sym (ap (λ (o : Option ℕ). unless_refused o (λ (m : ℕ). work) (replicate (length work) 0)) e),
-            ),
-          )
+          let e = accepted l in
+          calling-is (Ok r) w (replicate (length work) 0) none (serve 16 (λ c. service_at buffer) quota (state_of s)) e
+          (ap (λ (o : Option ℕ). unless_refused o (λ (m : ℕ). ([], state_of s)) (serve 16 (λ c. service_at buffer) quota (state_of s))) e)
+          (ap (λ (o : Option ℕ). unless_refused o (λ (m : ℕ). work) (replicate (length work) 0)) e) refl q z

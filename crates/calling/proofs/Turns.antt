@@ -3,7 +3,7 @@
 use mathlib.Core.Path.{◌≡◌, refl, sym, ap, ap₂, ◌∙◌, subst, fun_ext}
 use mathlib.Core.Bool.{Bool, true, false, cond}
 use mathlib.Core.List.{List, [], ◌∷◌}
-use mathlib.Core.Option.{Option, none, some}
+use mathlib.Core.Option.{Option, some}
 use mathlib.Core.Logic.{◌≢◌, ⊎_elim}
 use Prim.Native.Nat.{ℕ, zero, suc, ◌+◌, ◌-◌, ◌≤◌, ◌<◌}
 use native.Mathlib.Numerals.{add-one}
@@ -15,7 +15,7 @@ use Rattle.std.specs.Prelude.{Option as RustOption, Some, None, Result, Ok, Err}
 use Rattle.std.specs.Result.{result_ok}
 use Rattle.refusal.specs.declared.Refusal.{Refusal}
 use Rattle.bits.proofs.Numbers.{eq-or-ne}
-use Rattle.schedule.specs.Schedule.{Slot, idle, waiting, State, waits, next, goes_on, finished, Work, Service, leaves, verdict_of, work_on, verdict_on, put, service_of, after_service, serve}
+use Rattle.schedule.specs.Schedule.{Slot, idle, waiting, State, waits, next, Work, Service, leaves, verdict_of, work_on, verdict_on, put, service_of, after_service, serve}
 use Rattle.schedule.specs.Callers.{last_served}
 use Rattle.schedule.specs.Steps.{flagged}
 use Rattle.schedule.specs.Steps.{next_caller}

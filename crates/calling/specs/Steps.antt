@@ -1,10 +1,11 @@
 -- What only the contracts of steps use: no definition of the paper stands here.
 -- Assumes nothing.
-use Rattle.std.specs.Prelude.{◌≡◌, Bool, true, false, List, ℕ, length, Result, Ok}
+use Rattle.std.specs.Prelude.{◌≡◌, Bool, true, false, List, ℕ, length, replicate, Result, Ok, Err}
 use Rattle.refusal.specs.declared.Refusal.{Refusal}
 use Rattle.schedule.specs.Schedule.{State, Service}
 use Rattle.shared.specs.declared.Places.{Places}
 use Rattle.shared.specs.declared.Job.{Job}
+use Rattle.shared.specs.declared.Shared.{Shared}
 use Rattle.shared.specs.declared.Served.{Served}
 use Rattle.shared.specs.declared.Served.TheVariants.{GoesOn, Finished}
 use Rattle.shared.specs.Service.{entry_at}
@@ -22,6 +23,21 @@ pub record Keeps (k : Result Kept Refusal) (buffer : List ℕ) (p : Places) : Ty
 -- an answer is that of these services, and of the state that they leave
 abbrev pub Replies : Called → List (Service ℕ) × State Job → Type 0
 Replies r x = (state_of r.state ≡ x.1) × ((r.count ≡ length x.0) × (r.verdicts ≡ verdicts_of x.0))
+
+-- the state that a call leaves: a refused one leaves it as it was
+abbrev pub state_told : Shared → Result Called Refusal → State Job
+state_told s (Ok r) = state_of r.state
+state_told s (Err k) = state_of s
+
+-- how many instances a call has checked: a refused one none
+abbrev pub count_told : Result Called Refusal → ℕ
+count_told (Ok r) = r.count
+count_told (Err k) = 0
+
+-- the verdicts of a call: of a refused one 255 sixteen times
+abbrev pub verdicts_told : Result Called Refusal → List ℕ
+verdicts_told (Ok r) = r.verdicts
+verdicts_told (Err k) = replicate 16 255
 
 -- whether a caller waits on after a service
 abbrev pub waits_on : Served → Bool

@@ -1,13 +1,13 @@
 // A call to the shared checker: instances of the waiting proofs, in cyclic order.
 #![tactic(auto)]
 
-ghost use Rattle.std.specs.Prelude.{◌≡◌, ◌≤◌, length, Ok, Some, IfOk};
+ghost use Rattle.std.specs.Prelude.{◌≡◌, ◌≤◌, length, Ok, Some};
 ghost use Rattle.schedule.specs.Schedule.{serve};
 ghost use Rattle.shared.specs.Service.{service_at};
 ghost use Rattle.shared.specs.StateSteps.{state_of, refusal_of};
-ghost use Rattle.shared.specs.Operations.{call_refusal, called, work_after_call};
+ghost use Rattle.shared.specs.Operations.{call_refusal, called, verdicts_of, work_after_call};
 ghost use Rattle.shared.specs.Steps.{outcome_of};
-ghost use Rattle.calling.specs.Steps.{Keeps, Replies, waits_on, job_after, told_after};
+ghost use Rattle.calling.specs.Steps.{Keeps, Replies, state_told, count_told, verdicts_told, waits_on, job_after, told_after};
 
 use bits::clear;
 use proof_tests::Shape;
@@ -156,7 +156,7 @@ fn serve_all(s: Shared, quota: u32, buffer: &[u8], work: &mut [u8]) -> Called
 
 // Checks a quota of instances of the waiting proofs, whose inputs lie in the buffer. The work buffer is left all zero, but for a refusal.
 pub fn call(s: Shared, quota: u32, buffer: &[u8], work: &mut [u8]) -> Result<Called, Refusal>
-    ensures { (refusal_of result ≡ call_refusal quota work.old (state_of s)) × (IfOk result (λ r. Replies r (called quota buffer.now work.old (state_of s))) × (work.new ≡ work_after_call quota work.old (state_of s))) }
+    ensures { (refusal_of result ≡ call_refusal quota work.old (state_of s)) × ((state_told s result ≡ (called quota buffer.now work.old (state_of s)).1) × ((count_told result ≡ length (called quota buffer.now work.old (state_of s)).0) × ((verdicts_told result ≡ verdicts_of (called quota buffer.now work.old (state_of s)).0) × (work.new ≡ work_after_call quota work.old (state_of s))))) }
 {
     let named = 1 <= quota && quota <= 512;
     let served = next_caller(s.begin, s.waiting) <= 15;

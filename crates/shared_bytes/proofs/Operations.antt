@@ -1,6 +1,6 @@
 -- The operations on bytes, by what those on the state answer.
 -- Assumes nothing.
-use mathlib.Core.Path.{◌≡◌, sym, ap, ap₂, ◌∙◌, subst}
+use mathlib.Core.Path.{◌≡◌, sym, ap, ap₂, ◌∙◌}
 use mathlib.Core.List.{List, [], ◌∷◌}
 use mathlib.Core.Option.{Option, none, some}
 use Prim.Native.Nat.{ℕ}
@@ -16,11 +16,11 @@ use Rattle.shared.specs.Operations.{enter_refusal, entered, work_after_entry, ca
 use Rattle.state_bytes.specs.Bytes.{decode_state, encode_state}
 use Rattle.shared_bytes.specs.Operations.{start_op, places_of, enter_op, call_op}
 use Rattle.shared_bytes.specs.Answers.{enter_paper, check_paper}
-use Rattle.std.specs.Prelude.{Result, Ok, Err, IfOk}
+use Rattle.std.specs.Prelude.{Result, Ok, Err}
 use Rattle.refusal.specs.declared.Refusal.{Refusal}
 use Rattle.refusal.specs.Refusal.{number_of}
 use Rattle.calling.specs.declared.Called.{Called}
-use Rattle.calling.specs.Steps.{Replies}
+use Rattle.calling.specs.Steps.{state_told, count_told, verdicts_told}
 
 pub start-done : (x : List ℕ) (s : Shared) → state_of s ≡ empty → x ≡ encode_state (state_of s) → x ∷ [] ≡ start_op.left
 unfolding start_op
@@ -61,12 +61,12 @@ module _ (b : List ℕ) (c : ℕ) (places buffer work : List ℕ) (s : Shared) (
 
 module _ (b : List ℕ) (quota : ℕ) (buffer verdicts work : List ℕ) (s : Shared) (from : state_of s ≡ decode_state b)
     (r : Result Called Refusal) (w : List ℕ)
-    (answer : (refusal_of r ≡ call_refusal quota work (state_of s)) × (IfOk r (λ c. Replies c (called quota buffer work (state_of s))) × (w ≡ work_after_call quota work (state_of s)))) where
+    (answer : (refusal_of r ≡ call_refusal quota work (state_of s)) × ((state_told s r ≡ (called quota buffer work (state_of s)).1) × ((count_told r ≡ length (called quota buffer work (state_of s)).0) × ((verdicts_told r ≡ verdicts_of (called quota buffer work (state_of s)).0) × (w ≡ work_after_call quota work (state_of s)))))) where
   call-is : refusal_of r ≡ call_refusal quota work (decode_state b)
   call-is = answer.0 ∙ ap (call_refusal quota work) from
 
   call-work : w ≡ work_after_call quota work (decode_state b)
-  call-work = answer.1.1 ∙ ap (work_after_call quota work) from
+  call-work = answer.1.1.1.1 ∙ ap (work_after_call quota work) from
 
   abbrev result : List (Service ℕ) × State Job
   result = called quota buffer work (decode_state b)
@@ -91,10 +91,9 @@ module _ (b : List ℕ) (quota : ℕ) (buffer verdicts work : List ℕ) (s : Sha
   unfolding call_op
   call-done x t o q =
       let e : none ≡ call_refusal quota work (decode_state b) = sym (ap refusal_of o) ∙ call-is in
-      let a : Replies t (called quota buffer work (state_of s)) = subst (λ (z : Result Called Refusal). IfOk z (λ c. Replies c (called quota buffer work (state_of s)))) o answer.1.0 in
-      let f : x ≡ encode_state result.1 = q ∙ ap encode_state (a.0 ∙ ap (λ (z : State Job). (called quota buffer work z).1) from) in
-      let g : t.verdicts ≡ verdicts_of result.0 = a.1.1 ∙ ap (λ (z : State Job). verdicts_of (called quota buffer work z).0) from in
-      let h : t.count ≡ length result.0 = a.1.0 ∙ ap (λ (z : State Job). length (called quota buffer work z).0) from in (
+      let f : x ≡ encode_state result.1 = q ∙ ap encode_state (sym (ap (state_told s) o) ∙ answer.1.0 ∙ ap (λ (z : State Job). (called quota buffer work z).1) from) in
+      let g : t.verdicts ≡ verdicts_of result.0 = sym (ap verdicts_told o) ∙ answer.1.1.1.0 ∙ ap (λ (z : State Job). verdicts_of (called quota buffer work z).0) from in
+      let h : t.count ≡ length result.0 = sym (ap count_told o) ∙ answer.1.1.0 ∙ ap (λ (z : State Job). length (called quota buffer work z).0) from in (
         ap (λ (m : ℕ). success (m ∷ [])) h ∙ ap told e,
         ap₂ (λ (x y : List ℕ). x ∷ y ∷ w ∷ []) f g ∙ ap (λ (y : List ℕ). encode_state result.1 ∷ verdicts_of result.0 ∷ y ∷ []) call-work ∙ ap leaves e,
       )

@@ -2,10 +2,9 @@
 -- Assumes nothing.
 use borrow.Author.Rules.{rules}
 use native.Mathlib.Omega.{arith}
-use mathlib.Core.Path.{refl, ap, ◌∙◌}
+use mathlib.Core.Path.{ap, ◌∙◌}
 use Prim.Native.Nat.{ℕ}
 use lib.ListN.{replicate}
-use Rattle.circuit.proofs.Answered.{fell, held}
 use Rattle.calling.proofs.Calls.{quota-beyond, nobody-waits, short-work, call-made}
 use Rattle.calling.proofs.call.Goals as goal
 

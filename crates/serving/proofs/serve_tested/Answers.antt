@@ -1,5 +1,6 @@
 -- `serving::serve_tested` meets its contract.
 -- Assumes nothing.
+use borrow.Author.Rules.{rules}
 use mathlib.Core.Path.{◌∙◌}
 use native.Mathlib.Omega.{arith}
 use Rattle.circuit.specs.File.{circuit_of}
@@ -12,7 +13,7 @@ use Rattle.serving.proofs.serve_tested.Goals as goal
 pub returns-then-j-m : goal.returns-then-j-m
 returns-then-j-m c =
     let x = c.args in
-    c.refused.ensures ∙ next-beyond (circuit_of x.s.now) x.f.counts.instances x.f.counts.parties (asks_in x.f.counts.parties x.table.now) x.y.now x.proof.now x.job c.if-j-m.true
+    search rules ∙ next-beyond (circuit_of x.s.now) x.f.counts.instances x.f.counts.parties (asks_in x.f.counts.parties x.table.now) x.y.now x.proof.now x.job c.if-j-m.true
 
 pub check_one-r-requires : goal.check_one-r-requires
 check_one-r-requires c = (c.requires.0, (c.requires.1.0, omega (arith, c.if-j-m.false)))
@@ -20,7 +21,7 @@ check_one-r-requires c = (c.requires.0, (c.requires.1.0, omega (arith, c.if-j-m.
 pub returns-then-not-r : goal.returns-then-not-r
 returns-then-not-r c =
     let x = c.args in
-    c.refused-then-not-r.ensures ∙ next-output (circuit_of x.s.now) x.f.counts.instances x.f.counts.parties (asks_in x.f.counts.parties x.table.now) x.y.now x.proof.now x.job (omega (arith, c.if-j-m.false)) (fell _ _ c.check_one-r.ensures.0 c.if-not-r.true)
+    search rules ∙ next-output (circuit_of x.s.now) x.f.counts.instances x.f.counts.parties (asks_in x.f.counts.parties x.table.now) x.y.now x.proof.now x.job (omega (arith, c.if-j-m.false)) (fell _ _ c.check_one-r.ensures.0 c.if-not-r.true)
 
 pub settled_both-d-requires : goal.settled_both-d-requires
 settled_both-d-requires c = tt

@@ -1,5 +1,6 @@
 -- `serving::taken_in` meets its contract.
 -- Assumes nothing.
+use borrow.Author.Rules.{rules}
 use mathlib.Core.Path.{refl}
 use native.Mathlib.Omega.{arith}
 use Rattle.shared.proofs.Services.{after_on, after-good, after-bad}
@@ -24,4 +25,4 @@ returns-then-same_hstar c =
 pub returns : goal.returns
 returns c =
     let x = c.args in
-    after-bad x.proof.now x.job x.d x.m c.requires.1.1.0 c.if-next-m.false _ _ c.same_hstar.ensures c.if-same_hstar.false c.refused.ensures
+    after-bad x.proof.now x.job x.d x.m c.requires.1.1.0 c.if-next-m.false _ _ c.same_hstar.ensures c.if-same_hstar.false (search rules)
