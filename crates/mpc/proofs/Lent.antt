@@ -7,7 +7,9 @@ use Prim.Native.Nat.{ℕ, ◌+◌, ◌*◌, ◌≤◌, ◌<◌}
 use native.Mathlib.Omega.{arith}
 use borrow.Author.Tests.{le-leb, lt-leb}
 use lib.Dec.{leb}
-use lib.ListN.{length, replicate}
+use lib.ListN.{length, take, drop, replicate}
+use lib.Seq.{length-take-le}
+use Rattle.bits.proofs.Copies.{fill_end}
 use Rattle.refusal.specs.Refusal.{number_of}
 use Rattle.std.specs.Prelude.{Result, Ok, Err}
 use Rattle.refusal.specs.Outcome.{Outcome, refuses, unless}
@@ -27,6 +29,12 @@ known-few s z k = (k.legal.laid.few_inputs, k.legal.laid.few_gates)
 -- a work buffer that passes the test has the bytes that are needed
 pub work-long : (need bytes size : ℕ) → need ≡ bytes → need ≤ size → bytes ≤ size
 work-long need bytes size e l = omega (arith, e, l)
+
+-- a work buffer m of n bytes whose first k are cleared to z is all zero, where k is n
+pub all-cleared : (m z : List ℕ) (k n : ℕ) → z ≡ replicate (length (take k m)) 0 → length m ≡ n → k ≡ n → z ++ drop k m ≡ replicate n 0
+all-cleared m z k n e l h =
+    ap (λ (x : List ℕ). x ++ drop k m) (e ∙ ap (λ (i : ℕ). replicate i 0) (length-take-le k m (omega (arith, l, h))))
+    ∙ fill_end m k (omega (arith, l, h)) (omega (arith, l, h)) ∙ ap (λ (i : ℕ). replicate i 0) l
 
 module _ (s : List ℕ) (lent : List (List ℕ)) (work : List ℕ) (f : Circuit → Outcome) (r : Result Sizes Fault) (e : read_paper r ≡ read_op s) where
   -- the file is refused

@@ -1,11 +1,9 @@
 -- `replaying::replay` meets its contract.
 -- Assumes nothing.
-use mathlib.Core.Path.{ap, ◌∙◌}
-use Prim.Native.Nat.{ℕ}
-use lib.ListN.{replicate}
+use native.Mathlib.Omega.{arith}
 use Rattle.std.proofs.lemmas.Result.{err_from_is_err_and}
 use Rattle.mpc.proofs.Opened.{opened}
-use Rattle.mpc.proofs.Lent.{known-few, work-long}
+use Rattle.mpc.proofs.Lent.{known-few, work-long, all-cleared}
 use Rattle.replaying.proofs.Replayed.{replay-refused, replay-short, replay-left}
 use Rattle.replaying.proofs.replay.Goals as goal
 
@@ -26,4 +24,4 @@ returns-in_err-z c =
 pub returns : goal.returns
 returns c =
     replay-left _ _ _ _ _ _ _ _ c.read.ensures _ c.in_ok-z.was _ c.work_bytes-need.ensures c.if-work-need.false c.replay_lent-ended.result _ c.replay_lent-ended.ensures _
-    (c.clear.ensures ∙ ap (λ (k : ℕ). replicate k 0) c.replay_lent-ended.auto.memory)
+    (grind (arith, all-cleared, c.clear.ensures, c.replay_lent-ended.auto.memory))

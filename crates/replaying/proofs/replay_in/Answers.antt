@@ -47,7 +47,7 @@ returns-then-same c =
     let e =
     prefix_same c.oct-size.result c.replay_held.new.y (drop c.oct-size.result (replicate 32 0)) (c.replay_held.auto.y ∙ output-size x.s.now x.z p.0 _ c.oct-size.ensures) x.y.now _ _ refl c.same-same.ensures in
     replayed-right x.s.now x.z x.n x.p x.tapes.now x.corrections.now x.masked.now x.row.now x.memory.now p.0 p.1.0 p.1.1.0 f.tapes_fit f.corrections_fit _ _ _ x.y.now _ x.rows.now _
-    c.hold.ensures c.replay_held.ensures.y_after e c.replay_held.ensures.memory_after (given-good _ _ _ c.if-same.true _ (cc))
+    c.hold.ensures c.replay_held.ensures.y_after e c.replay_held.ensures.memory_after (given-good c.same-same.result _ _ (search (c.if-same.true)) _ (cc))
 
 pub returns-else-same : goal.returns-else-same
 returns-else-same c =
@@ -57,4 +57,4 @@ returns-else-same c =
     let e =
     prefix_same c.oct-size.result c.replay_held.new.y (drop c.oct-size.result (replicate 32 0)) (c.replay_held.auto.y ∙ output-size x.s.now x.z p.0 _ c.oct-size.ensures) x.y.now _ _ refl c.same-same.ensures in
     replayed-right x.s.now x.z x.n x.p x.tapes.now x.corrections.now x.masked.now x.row.now x.memory.now p.0 p.1.0 p.1.1.0 f.tapes_fit f.corrections_fit _ _ _ x.y.now _ x.rows.now _
-    c.hold.ensures c.replay_held.ensures.y_after e c.replay_held.ensures.memory_after (given-not _ _ _ c.if-same.false)
+    c.hold.ensures c.replay_held.ensures.y_after e c.replay_held.ensures.memory_after (given-not c.same-same.result _ _ (search (c.if-same.false)))

@@ -1,11 +1,9 @@
 -- `mpc::preparing::prepare` meets its contract.
 -- Assumes nothing.
-use mathlib.Core.Path.{ap, ◌∙◌}
-use Prim.Native.Nat.{ℕ}
-use lib.ListN.{replicate}
+use native.Mathlib.Omega.{arith}
 use Rattle.std.proofs.lemmas.Result.{err_from_is_err_and}
 use Rattle.mpc.proofs.Opened.{opened}
-use Rattle.mpc.proofs.Lent.{known-few, work-long}
+use Rattle.mpc.proofs.Lent.{known-few, work-long, all-cleared}
 use Rattle.mpc.proofs.Prepared.{prepare-refused, prepare-short, prepare-left}
 use Rattle.mpc.proofs.preparing.prepare.Goals as goal
 
@@ -26,4 +24,4 @@ returns-in_err-z c =
 pub returns : goal.returns
 returns c =
     prepare-left _ _ _ _ _ _ c.read.ensures _ c.in_ok-z.was _ c.work_bytes-need.ensures c.if-work-need.false c.prepare_lent-ended.result _ c.prepare_lent-ended.ensures _
-    (c.clear.ensures ∙ ap (λ (k : ℕ). replicate k 0) c.prepare_lent-ended.auto.memory)
+    (grind (arith, all-cleared, c.clear.ensures, c.prepare_lent-ended.auto.memory))
