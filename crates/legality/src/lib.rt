@@ -33,7 +33,12 @@ pub fn good_records(s: &[u8], f: Front) -> bool
     requires { Laid f.width s.now f.inputs f.outputs f.gates }
     ensures { result ≡ good_records (field f.width s.now) f.gates }
 {
-    (0..f.gates).all(|k| good_record(s, f.width, f.outputs, k + 1))
+    let mut good = true;
+    // Not `all`, which branches at each record: a legal file has no bad one.
+    for k in 0..f.gates {
+        good &= good_record(s, f.width, f.outputs, k + 1);
+    }
+    good
 }
 
 // Refusal 5, the outputs: each wire below I + G.

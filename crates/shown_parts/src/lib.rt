@@ -12,6 +12,7 @@ ghost use Rattle.walk.specs.Steps.{layout_of};
 ghost use Rattle.packed.specs.Steps.{broadcast_bytes, corrections_held, sent_bit};
 ghost use Rattle.mpc.specs.Steps.{Known, Placed};
 
+use bits::copy;
 use circuit::Sizes;
 use cuts::shown_bits;
 use mpc::holding::give_corrections;
@@ -23,7 +24,7 @@ pub fn hide_row(tapes: &[u8], len: usize, p: usize, out: &mut [u8])
     requires { (length out.old ≡ length tapes.now) × (p * len + len ≤ length tapes.now) }
     ensures { out.new ≡ take (p * len) tapes.now ++ replicate len 0 ++ drop (p * len + len) tapes.now }
 {
-    out.copy_from_slice(tapes);
+    copy(tapes, out);
     let a = p * len;
     let e = a + len;
     out[a..e].fill(0);

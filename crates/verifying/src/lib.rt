@@ -11,6 +11,7 @@ ghost use Rattle.proof.specs.File.{header_bytes, header_salt, hides};
 ghost use Rattle.proof.specs.Steps.{ask_of, asks_in};
 ghost use Rattle.proof_tests.specs.Steps.{all_unused, all_outputs, recomputed, Sized, Rebuilt};
 
+use bits::copy;
 use circuit::Sizes;
 use cover::masters_tree;
 use hashing::{Context, finish, salt_in, start_all_commitments, start_all_online, transcript};
@@ -62,7 +63,7 @@ pub fn check_instance(
     if p == n {
         let commitments = reopen(s, z, inst, master, memory);
         let mut online = [0u8; 32];
-        online.copy_from_slice(part);
+        copy(part, &mut online);
         return Replayed {
             agrees: true,
             commitments,

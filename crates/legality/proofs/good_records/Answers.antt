@@ -1,15 +1,24 @@
--- `legality::good_records` meets its contract.
+-- `legality::good_records` meets its contract. The loop's invariant: what is gathered is the test of the first k slots.
 -- Assumes nothing.
-use Rattle.std.proofs.Common.{rules, refl, ◌+◌, ◌∙◌, add-one, arith}
-use Rattle.std.proofs.lemmas.Iterator.{YieldsList-from_range}
-use Rattle.std.proofs.lemmas.Iterator.Search.{all_from_yields_List}
-use Rattle.circuit.specs.Fields.{field, good_record, good_records}
-use Rattle.legality.proofs.Every.{every}
+use mathlib.Core.Path.{◌≡◌, refl}
+use native.Mathlib.Omega.{arith}
+use Rattle.circuit.specs.Fields.{good_records}
+use Rattle.circuit.proofs.Slots.{inside, records-turn}
 use Rattle.legality.proofs.good_records.Goals as goal
 
-pub returns : goal.returns
+pub loop-k-init : goal.loop-k-init
 unfolding good_records
+loop-k-init c = refl
+
+pub good_record-good-requires : goal.good_record-good-requires
+good_record-good-requires c = inside _ _ _ _ _ _ c.requires (omega arith) (omega arith)
+
+pub loop-k-preserved : goal.loop-k-preserved
+loop-k-preserved c =
+    let l = c.loop-k in
+    records-turn _ _ _ _ _ l.invariant c.good_record-good.ensures refl
+
+pub returns : goal.returns
 returns c =
-    let x = field c.args.f.width c.args.s.now in
-    all_from_yields_List (λ k. good_record x (k + 1)) _ _ _ c.all.ensures.ran (YieldsList-from_range 0 c.args.f.gates c.args.f.gates refl (omega arith)) (λ k b q w. search rules)
-    ∙ every (λ k. good_record x (k + 1)) (good_records x) refl (λ n. rw add-one) c.args.f.gates
+    let e : c.loop-k.k ≡ c.args.f.gates = omega arith in
+    rw (← e) c.loop-k.invariant

@@ -10,16 +10,16 @@ reopen-commitments-requires c =
     let q = c.requires in
     (q.0, q.1.1.0)
 
-pub copy_from_slice-requires : goal.copy_from_slice-requires
-copy_from_slice-requires c =
+pub copy-requires : goal.copy-requires
+copy-requires c =
     let x = c.args in
     open-online (circuit_of x.s.now) x.inst.parties x.inst.context x.p x.y.now x.master.now x.part.now c.if-p-n.true c.requires.1.1.1.0
 
 pub returns-then-p-n : goal.returns-then-p-n
 returns-then-p-n c =
     let x = c.args in
-    open-answer (circuit_of x.s.now) x.inst.parties x.inst.context x.p x.y.now x.master.now x.part.now c.if-p-n.true c.reopen-commitments.result c.copy_from_slice.new.self
-    c.reopen-commitments.ensures c.copy_from_slice.ensures.after
+    open-answer (circuit_of x.s.now) x.inst.parties x.inst.context x.p x.y.now x.master.now x.part.now c.if-p-n.true c.reopen-commitments.result c.copy.new.to
+    c.reopen-commitments.ensures c.copy.ensures
 
 pub replay-requires : goal.replay-requires
 replay-requires c =
