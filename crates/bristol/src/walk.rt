@@ -1,6 +1,7 @@
 // The walk over the gate lines, which tests them in their order.
 ghost use Rattle.std.specs.Prelude.{◌≡◌, length};
 ghost use Rattle.circuit.specs.Steps.{wire_bytes};
+ghost use Rattle.bristol_text.specs.Steps.{ending, stop};
 ghost use Rattle.bristol_lines.specs.Steps.{Few, LineTold, verdict, refusal_of, gates_at};
 
 use bristol_lines::Sizes;
@@ -27,6 +28,15 @@ fn check_line(
     Ok((output_wire(gate), next))
 }
 
+// Where the next line starts, or the end where none is left. A function of its own in the archive too: within the walk the place of the text would be
+// loaded anew for each blank line.
+#[inline(never)]
+fn next_start(s: &[u8], c: Cursor) -> usize
+    ensures { result ≡ stop ending s.now c.at }
+{
+    next_line(s, c).first
+}
+
 // Tests the gate lines, and that no line follows them.
 pub(crate) fn check_gates(s: &[u8], z: Sizes, c: Cursor) -> Result<(), Refusal>
     requires { Few z }
@@ -39,8 +49,8 @@ pub(crate) fn check_gates(s: &[u8], z: Sizes, c: Cursor) -> Result<(), Refusal>
         bits::put_bit(&mut flags, wire, 1);
         at = next.at;
     }
-    let line = next_line(s, Cursor { at });
-    if line.first < s.len() {
+    let first = next_start(s, Cursor { at });
+    if first < s.len() {
         return Err(Refusal::Text);
     }
     Ok(())

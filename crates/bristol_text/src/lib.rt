@@ -39,9 +39,7 @@ fn stop_at<F: Fn(u8) -> bool>(passes: F, s: &[u8], at: usize) -> usize
     at.max(s.len())
 }
 
-// The first line that is not empty, for a cursor at the start of a line or at its LF. A function of its own in the archive too: within a walk
-// the place of the text would be loaded anew for each byte.
-#[inline(never)]
+// The first line that is not empty, for a cursor at the start of a line or at its LF.
 pub fn next_line(s: &[u8], c: Cursor) -> Span
     ensures { LineAt s.now c.at result.first result.last }
 {

@@ -1,7 +1,7 @@
 -- `bristol::walk::check_gates` meets its contract. The loop's invariant: the lines that are left, below those whose wires are flagged, give what all of them give.
 -- Assumes nothing.
 use native.Mathlib.Omega.{arith}
-use mathlib.Core.Path.{◌≡◌, sym}
+use mathlib.Core.Path.{◌≡◌, refl, sym}
 use Prim.Native.Nat.{ℕ, ◌+◌, ◌-◌}
 use lib.ListN.{length-replicate}
 use Rattle.std.proofs.lemmas.Result.{err_from_is_err_and}
@@ -38,12 +38,12 @@ loop-preserved c =
     let e : x.z.gates - (c.loop.counter + 1) ≡ x.z.gates - c.loop.counter - 1 = omega arith in
     rw e (walked_more x.s.now x.z x.c.at _ _ _ c.loop.invariant c.requires (omega arith) _ _ c.in_ok-wire.ensures _ c.put_bit.ensures)
 
-pub returns-then-line-s : goal.returns-then-line-s
-returns-then-line-s c =
+pub returns-then-first-s : goal.returns-then-first-s
+returns-then-first-s c =
     let x = c.args in
-    walked-over x.s.now x.z x.c.at _ _ _ c.loop.invariant (omega arith) _ _ c.next_line-line.ensures c.if-line-s.true
+    walked-over x.s.now x.z x.c.at _ _ _ c.loop.invariant (omega arith) _ _ (record { starts = c.next_start-first.ensures; ends = refl }) c.if-first-s.true
 
 pub returns : goal.returns
 returns c =
     let x = c.args in
-    walked_all x.s.now x.z x.c.at _ _ _ c.loop.invariant (omega arith) _ _ c.next_line-line.ensures c.if-line-s.false
+    walked_all x.s.now x.z x.c.at _ _ _ c.loop.invariant (omega arith) _ _ (record { starts = c.next_start-first.ensures; ends = refl }) c.if-first-s.false
