@@ -120,7 +120,8 @@ fn read_inputs(s: &[u8], gates: usize, wires: usize, c: Cursor) -> Result<(Sizes
     read_outputs(s, inputs, gates, next)
 }
 
-// The header lines.
+// The header lines. A function of its own in the archive too, as `bristol::walk::next_start` is.
+#[inline(never)]
 pub fn read_header(s: &[u8]) -> Result<(Sizes, Cursor), Refusal>
     ensures { HeaderTold s.now (λ (b : Below). count_line b (lines s.now)) result }
 {
